@@ -1,0 +1,19 @@
+-- Document 01's machine as definitions, a file for each of its sections, to be read from top to bottom. They compute: together they are an
+-- executable machine. Every promise in this repository cites them, and none of them is taken from code.
+pub mod Lists
+pub mod Time
+pub mod Signal
+pub mod Kind
+pub mod Model
+pub mod Table
+pub mod Step
+pub mod Fresh
+pub mod Load
+pub mod Sound
+pub mod Accept
+pub mod Advance
+pub mod Calls
+pub mod WholeList
+pub mod Score
+pub mod Rehearse
+pub mod Played

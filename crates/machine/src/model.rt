@@ -1,0 +1,50 @@
+// A model, what loading and advancing answer, and what one round of an advance comes to.
+use crate::part::Part;
+use crate::time::Point;
+
+// How many parts a model has room for.
+pub const PARTS: usize = 32;
+
+// A model. Of `order` and `parts` the first `count` places are in use; `order` is the part order that
+// loading gave.
+pub struct Model {
+    pub magnitude: u8,
+    pub count: usize,
+    pub order: [u16; PARTS],
+    pub point: Point,
+    pub parts: [Part; PARTS],
+}
+
+// What loading answers: document 01's number (0: accepted), the position, and the model.
+pub struct Loaded {
+    pub number: u64,
+    pub position: usize,
+    pub model: Model,
+}
+
+// What advancing answers: the model, document 01's number (0: committed) and the counts.
+pub struct Answer {
+    pub model: Model,
+    pub number: u64,
+    pub step: u64,
+    pub rounds: u64,
+    pub revisions: u64,
+    pub ceiling: u64,
+}
+
+// What a round at h comes to: a lower h, or where it changed nothing a revision to half of h, the step
+// committed, or a refusal with document 01's number.
+pub enum Turn {
+    Lower(u64),
+    Halve,
+    Commit,
+    Refuse(u64),
+}
+
+// What the score holds at a position: its end, a wanted step with the position after it, or a refusal
+// with document 01's number and position.
+pub enum Score {
+    End,
+    Wanted(u64, usize),
+    Refused(u64, usize),
+}
