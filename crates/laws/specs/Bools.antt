@@ -1,0 +1,53 @@
+-- Laws of tests: a test is a Bool, and what it shows is an equation with true or false. Assumes nothing.
+use mathlib.Core.Path.{_≡_, refl}
+use mathlib.Core.Bool.{Bool, true, false, cond, _&&_, _||_, true≢false, false≢true}
+use mathlib.Core.Logic.{_⊎_, inl, inr}
+
+-- a test is true or false, with the equation
+pub either : (b : Bool) → (b ≡ true) ⊎ (b ≡ false)
+either true = inl refl
+either false = inr refl
+
+-- both tests hold, one by one, and together
+pub and-left : (a b : Bool) → a && b ≡ true → a ≡ true
+and-left true b h = refl
+and-left false b h = h
+
+pub and-right : (a b : Bool) → a && b ≡ true → b ≡ true
+and-right true b h = h
+and-right false b h = absurd (false≢true h)
+
+pub and-intro : (a b : Bool) → a ≡ true → b ≡ true → a && b ≡ true
+and-intro true b ha hb = hb
+and-intro false b ha hb = ha
+
+-- one of two tests holds
+pub or-cases : (a b : Bool) → a || b ≡ true → (a ≡ true) ⊎ (b ≡ true)
+or-cases true b h = inl refl
+or-cases false b h = inr h
+
+pub or-left : (a b : Bool) → a ≡ true → a || b ≡ true
+or-left true b h = refl
+or-left false b h = absurd (false≢true h)
+
+pub or-right : (a b : Bool) → b ≡ true → a || b ≡ true
+or-right true b h = refl
+or-right false b h = h
+
+-- neither of two tests holds
+pub or-false-left : (a b : Bool) → a || b ≡ false → a ≡ false
+or-false-left true b h = h
+or-false-left false b h = refl
+
+pub or-false-right : (a b : Bool) → a || b ≡ false → b ≡ false
+or-false-right true b h = absurd (true≢false h)
+or-false-right false b h = h
+
+-- what is picked, by the test
+pub cond-true {ℓ} : {A : Type ℓ} (b : Bool) (x y : A) → b ≡ true → cond b x y ≡ x
+cond-true true x y h = refl
+cond-true false x y h = absurd (false≢true h)
+
+pub cond-false {ℓ} : {A : Type ℓ} (b : Bool) (x y : A) → b ≡ false → cond b x y ≡ y
+cond-false true x y h = absurd (true≢false h)
+cond-false false x y h = refl
