@@ -51,3 +51,8 @@ cond-true false x y h = absurd (false≢true h)
 pub cond-false {ℓ} : {A : Type ℓ} (b : Bool) (x y : A) → b ≡ false → cond b x y ≡ y
 cond-false true x y h = absurd (true≢false h)
 cond-false false x y h = refl
+
+-- what holds of both things that a test picks from, of each where it is picked, holds of the thing picked
+pub cond-cases {ℓ κ} : {A : Type ℓ} (P : A → Type κ) (b : Bool) (x y : A) → (b ≡ true → P x) → (b ≡ false → P y) → P (cond b x y)
+cond-cases P true x y on-true on-false = on-true refl
+cond-cases P false x y on-true on-false = on-false refl

@@ -1,0 +1,26 @@
+-- What one turn owes for the search to find the longest step, in few rounds: over any `turn`, the steps that are `ok`, and a potential `pot` of
+-- at most `most` that every lower h uses up. Assumes nothing.
+use Prim.Native.Nat.{ℕ, _≤_, _<_}
+use mathlib.Core.Path.{_≡_}
+use Rattle.machine.specs.declared.model.Turn.{Turn}
+use Rattle.machine.specs.declared.model.Turn.the-variants.{Lower, Halve, Commit, Refuse}
+use Rattle.stepsearch.specs.Fuel.{Falls}
+
+pub record Fair (turn : ℕ → Turn) (ok : ℕ → Type 0) (pot : ℕ → ℕ) (most : ℕ) : Type 0 where
+  -- a lower h is lower, loses no step that is ok, and uses up some of the potential
+  pub lower : (h l : ℕ) → turn h ≡ Lower l → l < h
+  pub keeps : (h l : ℕ) → turn h ≡ Lower l → (j : ℕ) → j ≤ h → ok j → j ≤ l
+  pub drops : (h l : ℕ) → turn h ≡ Lower l → pot l < pot h
+  -- an objection needs an h above a P of at least 1
+  pub halve : (h : ℕ) → turn h ≡ Halve → 2 ≤ h
+  -- only a step that is ok is committed
+  pub commit : (h : ℕ) → turn h ≡ Commit → ok h
+  -- a refusal has a number other than 0, and comes at 0 alone
+  pub refuse : (h k : ℕ) → turn h ≡ Refuse k → (h ≡ 0) × (k ≡ 0 → ⊥)
+  -- the potential is bounded, and no smaller at a larger h
+  pub bound : (h : ℕ) → pot h ≤ most
+  pub mono : (j h : ℕ) → j ≤ h → pot j ≤ pot h
+
+-- such turns fall
+pub fair-falls : {turn : ℕ → Turn} {ok : ℕ → Type 0} {pot : ℕ → ℕ} {most : ℕ} → Fair turn ok pot most → Falls turn
+fair-falls fair = record { lower = fair .lower; halve = fair .halve }
