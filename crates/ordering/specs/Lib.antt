@@ -1,0 +1,7 @@
+-- Laws of the order of parts, and of filling a point's outputs in that order.
+pub mod Laws
+pub mod Order
+pub mod Stuck
+pub mod Row
+pub mod Filling
+pub mod Models

@@ -1,0 +1,110 @@
+-- The outputs that a model stores after a step, and a fresh model stores: each is the row of its part's kind, for the outputs that are stored,
+-- the part being as the step moved it, or as it is first. Settling changes no stored output, so this holds before it and after.
+-- Assumes nothing.
+use Prim.Native.Nat.{ℕ, _<_}
+use mathlib.Core.Path.{_≡_, refl, ap, sym, _∙_}
+use mathlib.Core.Bool.{true}
+use mathlib.Core.List.{List, [], map, map-id}
+use lib.ListN.{length, getD, length-map, List·getD-map}
+use Rattle.machine.specs.declared.time.Point.{Point}
+use Rattle.machine.specs.declared.signal.Signal.{Signal}
+use Rattle.machine.specs.declared.signal.Signal.the-variants.{Absent}
+use Rattle.machine.specs.declared.part.Kind.{Kind}
+use Rattle.machine.specs.declared.part.Kind.the-variants.{Constant, Gain, Adder, Square, Pulse, Delay, Integrator, ResetIntegrator, Detector, Hold, Sampler, Drive}
+use Rattle.machine.specs.declared.part.State.{State}
+use Rattle.machine.specs.declared.part.Part.{Part}
+use Rattle.machine.specs.declared.model.Model.{Model}
+use Rattle.machine.specs.Time.{tick, led-to, start}
+use Rattle.machine.specs.Model.{blank-part, part-at, reading0}
+use Rattle.machine.specs.Table.{Table, part-order, ordered}
+use Rattle.machine.specs.Step.{moved, filled, settled-as, settled, all-moved, all-settled, step-made}
+use Rattle.machine.specs.Fresh.{first-part, first-parts, fresh}
+use Rattle.laws.specs.Lists.{map-map, map-cong}
+use Rattle.ordering.specs.Order.{order-complete}
+use Rattle.ordering.specs.Row.{row, stored, row-direct, components}
+use Rattle.ordering.specs.Filling.{Filling, filled-filling}
+
+-- settling changes no stored output, whatever the kind
+settled-as-output : (k : Kind) (x : Signal) (s : State) → settled-as k x s .output ≡ s .output
+unfolding settled-as
+settled-as-output Constant x s = refl
+settled-as-output Gain x s = refl
+settled-as-output Adder x s = refl
+settled-as-output Square x s = refl
+settled-as-output Pulse x s = refl
+settled-as-output Delay x s = refl
+settled-as-output Integrator x s = refl
+settled-as-output ResetIntegrator x s = refl
+settled-as-output Detector x s = refl
+settled-as-output Hold x s = refl
+settled-as-output Sampler x s = refl
+settled-as-output Drive x s = refl
+
+-- the stored outputs, by number
+abbrev outputs : List Part → List Signal
+outputs qs = map (λ (p : Part). p .state .output) qs
+
+-- settling changes none of them
+outputs-settled : (qs : List Part) → outputs (all-settled qs) ≡ outputs qs
+unfolding all-settled settled
+outputs-settled qs =
+    map-map (λ (p : Part). settled (reading0 qs p) p) (λ (p : Part). p .state .output) qs ∙
+    map-cong (λ (p : Part). settled (reading0 qs p) p .state .output) (λ (p : Part). p .state .output) qs blank-part
+    (λ i h. settled-as-output (part-at qs i .component .kind) (reading0 qs (part-at qs i)) (part-at qs i .state))
+
+-- the same of part i
+pub stored-settled : (qs : List Part) (i : ℕ) → stored (all-settled qs) i ≡ stored qs i
+stored-settled qs i =
+    sym (List·getD-map (λ (p : Part). p .state .output) (all-settled qs) i blank-part) ∙
+    (ap (λ l. getD l i Absent) (outputs-settled qs) ∙ List·getD-map (λ (p : Part). p .state .output) qs i blank-part)
+
+-- so where parts are filled, their stored outputs after settling are still the rows, for the outputs stored after settling
+settled-rows : (old : List Part) (now : Point) (ps qs : List Part) → Filling old now ps qs → (i : ℕ) → i < length ps →
+    stored (all-settled qs) i ≡ row old now (all-settled qs) (part-at ps i)
+settled-rows old now ps qs f i h =
+    stored-settled qs i ∙ (f .rows i h ∙ sym (row-direct old now (all-settled qs) qs (part-at ps i) (λ j feeds. stored-settled qs j)))
+
+-- a step moves parts and keeps their components
+moved-components : (t h : ℕ) (ps : List Part) → components (all-moved t h ps) ≡ components ps
+unfolding all-moved moved
+moved-components t h ps = map-map (λ (p : Part). moved t h (reading0 ps p) p) (λ (p : Part). p .component) ps
+
+module _
+    (m : Model)
+    (h : ℕ)
+    (full : ordered (components (m .parts)) ≡ true)
+    (order : m .order ≡ part-order (components (m .parts))) where
+  -- before settling: a step fills the moved parts
+  pub step-filling :
+      Filling (m .parts) (led-to (m .point) h) (all-moved (tick (m .point)) h (m .parts))
+      (filled (m .parts) (led-to (m .point) h) (m .order) (all-moved (tick (m .point)) h (m .parts)))
+  step-filling =
+      filled-filling (m .parts) (led-to (m .point) h) (all-moved (tick (m .point)) h (m .parts)) (m .order)
+      (rw (moved-components (tick (m .point)) h (m .parts), order) (order-complete (components (m .parts)) full))
+
+  -- after settling: each stored output is the row of the moved part, its sources' outputs being those stored now, and `before` the model's
+  pub step-rows : (i : ℕ) → i < length (m .parts) →
+      stored (step-made m h .parts) i ≡
+      row (m .parts) (led-to (m .point) h) (step-made m h .parts) (part-at (all-moved (tick (m .point)) h (m .parts)) i)
+  unfolding step-made all-moved
+  step-rows i l =
+      settled-rows (m .parts) (led-to (m .point) h) (all-moved (tick (m .point)) h (m .parts))
+      (filled (m .parts) (led-to (m .point) h) (m .order) (all-moved (tick (m .point)) h (m .parts))) step-filling i
+      (simp length-map l)
+
+-- the first parts have the table's components
+first-components : (t : Table) → components (first-parts t) ≡ t .parts
+unfolding first-parts first-part
+first-components t = map-map (first-part t) (λ (p : Part). p .component) (t .parts) ∙ map-id (t .parts)
+
+module _ (t : Table) (full : ordered (t .parts) ≡ true) where
+  -- before settling: the start point is filled from the first parts
+  pub fresh-filling : Filling [] start (first-parts t) (filled [] start (part-order (t .parts)) (first-parts t))
+  fresh-filling = filled-filling [] start (first-parts t) (part-order (t .parts)) (rw (first-components t) (order-complete (t .parts) full))
+
+  -- after settling: each stored output is the row of the first part, its sources' outputs being those stored now; there is no point before
+  pub fresh-rows : (i : ℕ) → i < length (t .parts) → stored (fresh t .parts) i ≡ row [] start (fresh t .parts) (part-at (first-parts t) i)
+  unfolding fresh first-parts
+  fresh-rows i l =
+      settled-rows [] start (first-parts t) (filled [] start (part-order (t .parts)) (first-parts t)) fresh-filling i
+      (simp length-map l)

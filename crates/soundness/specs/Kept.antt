@@ -1,0 +1,96 @@
+-- What showing and settling keep of a part, whatever the order of showing: its component, its ratio and its local count, here called its core.
+-- With the ranges that they keep too, the states of parts shown and settled fit. Assumes nothing.
+use Prim.Native.Nat.{ℕ}
+use mathlib.Core.Path.{_≡_, refl, sym, ap, _∙_}
+use mathlib.Core.Bool.{true}
+use mathlib.Core.List.{List, [], _∷_, map, map-map}
+use lib.ListN.{set}
+use lib.Seq.{map-set-same}
+use Rattle.machine.specs.declared.time.LocalTicks.{LocalTicks}
+use Rattle.machine.specs.declared.time.Point.{Point}
+use Rattle.machine.specs.declared.signal.Signal.{Signal}
+use Rattle.machine.specs.declared.part.Kind.{Kind}
+use Rattle.machine.specs.declared.part.Kind.the-variants.{Constant, Gain, Adder, Square, Pulse, Delay, Integrator, ResetIntegrator, Detector, Hold, Sampler, Drive}
+use Rattle.machine.specs.declared.part.Component.{Component}
+use Rattle.machine.specs.declared.part.Part.{Part}
+use Rattle.machine.specs.Lists.{every, All}
+use Rattle.machine.specs.Time.{local-count}
+use Rattle.machine.specs.Model.{blank-part, part-at, with-state, reading0}
+use Rattle.machine.specs.Step.{shown, filled, settled-as, settled, all-settled}
+use Rattle.machine.specs.Sound.{state-fits}
+use Rattle.laws.specs.Bools.{and-intro}
+use Rattle.soundness.specs.Laws.{map-kept, all-same-map}
+use Rattle.soundness.specs.Facts.{state-test}
+use Rattle.soundness.specs.Ranges.{InRange, filled-in-range, all-settled-in-range}
+
+pub record Core : Type 0 where
+  pub component : Component
+  pub ratio : ℕ
+  pub local : LocalTicks
+
+abbrev pub core : Part → Core
+core p = record { component = p .component; ratio = p .ratio; local = p .state .local }
+
+-- showing keeps the cores
+filled-core : (old : List Part) (now : Point) (ks : List ℕ) (ps : List Part) → map core (filled old now ks ps) ≡ map core ps
+unfolding filled shown
+filled-core old now [] ps = refl
+filled-core old now (k ∷ ks) ps =
+    filled-core old now ks (set ps k (shown old now ps (part-at ps k))) ∙
+    map-set-same core ps k (shown old now ps (part-at ps k)) blank-part refl
+
+-- settling keeps the core
+settled-core : (k : Kind) (x : Signal) (p : Part) → core (with-state p (settled-as k x (p .state))) ≡ core p
+unfolding settled-as
+settled-core Constant x p = refl
+settled-core Gain x p = refl
+settled-core Adder x p = refl
+settled-core Square x p = refl
+settled-core Pulse x p = refl
+settled-core Delay x p = refl
+settled-core Integrator x p = refl
+settled-core ResetIntegrator x p = refl
+settled-core Detector x p = refl
+settled-core Hold x p = refl
+settled-core Sampler x p = refl
+settled-core Drive x p = refl
+
+-- the parts shown at a point and settled
+abbrev pub finished : List Part → Point → List ℕ → List Part → List Part
+finished old now ks ps = all-settled (filled old now ks ps)
+
+-- showing and settling keep the cores
+pub finished-core : (old : List Part) (now : Point) (ks : List ℕ) (ps : List Part) → map core (finished old now ks ps) ≡ map core ps
+unfolding all-settled settled
+finished-core old now ks ps =
+    map-kept core (λ (p : Part). settled (reading0 (filled old now ks ps) p) p) (filled old now ks ps)
+    (λ p. settled-core (p .component .kind) (reading0 (filled old now ks ps) p) p) ∙
+    filled-core old now ks ps
+
+-- so they keep whatever is read from the cores
+pub finished-kept {ℓ} :
+    {B : Type ℓ} (f : Core → B) (old : List Part) (now : Point) (ks : List ℕ) (ps : List Part) →
+    map (λ (p : Part). f (core p)) (finished old now ks ps) ≡ map (λ (p : Part). f (core p)) ps
+finished-kept f old now ks ps =
+    sym (map-map f core (finished old now ks ps)) ∙ ap (map f) (finished-core old now ks ps) ∙ map-map f core ps
+
+-- the local count of a core is floor(t / r)
+abbrev pub Counted : ℕ → Core → Type 0
+Counted t c = c .local .0 ≡ local-count t (c .ratio) .0
+
+-- states fit where all is in range and the local counts are floor(t / r)
+states-fit : (t : ℕ) (ps : List Part) → All InRange ps → All (λ p. Counted t (core p)) ps → every (state-fits t) ps ≡ true
+unfolding every
+states-fit t [] r c = refl
+states-fit t (p ∷ ps) r c =
+    and-intro (state-fits t p) (every (state-fits t) ps)
+    (state-test t p (record { local = c .0; held = r .0 .held; signal = r .0 .signal; output = r .0 .output }))
+    (states-fit t ps (r .1) (c .1))
+
+-- so the states of parts shown and settled fit where the parts and those of the point before are in range and the local counts are floor(t / r)
+pub finished-states :
+    (old : List Part) (now : Point) (ks : List ℕ) (ps : List Part) (t : ℕ) → All InRange old → All InRange ps → All (λ p. Counted t (core p)) ps →
+    every (state-fits t) (finished old now ks ps) ≡ true
+finished-states old now ks ps t before r c =
+    states-fit t (finished old now ks ps) (all-settled-in-range (filled old now ks ps) (filled-in-range old now before ks ps r))
+    (all-same-map core (Counted t) (finished old now ks ps) ps (finished-core old now ks ps) c)

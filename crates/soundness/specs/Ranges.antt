@@ -1,0 +1,174 @@
+-- Moving, showing and settling keep numbers and signals in range: whatever is stored is an operand, a clamped number, or was in range before.
+-- Assumes nothing.
+use Prim.Native.Nat.{ℕ, suc, _%_, min}
+use native.Mathlib.Omega.{arith}
+use mathlib.Core.Path.{_≡_, refl}
+use mathlib.Core.Bool.{true, cond, _&&_}
+use mathlib.Core.List.{List, [], _∷_}
+use lib.IntN.{ℤ, pos, negsuc, _+ℤ_, _*ℤ_}
+use lib.ListN.{set}
+use lib.Dec.{eqb, ltb}
+use borrow.Author.Tests.{le-leb}
+use Rattle.machine.specs.declared.time.Point.{Point}
+use Rattle.machine.specs.declared.signal.Signal.{Signal}
+use Rattle.machine.specs.declared.signal.Signal.the-variants.{Absent, Value}
+use Rattle.machine.specs.declared.part.Kind.{Kind}
+use Rattle.machine.specs.declared.part.Kind.the-variants.{Constant, Gain, Adder, Square, Pulse, Delay, Integrator, ResetIntegrator, Detector, Hold, Sampler, Drive}
+use Rattle.machine.specs.declared.part.Mark.{Mark}
+use Rattle.machine.specs.declared.part.Mark.the-variants.{Clear, Rising, Falling}
+use Rattle.machine.specs.declared.part.Source.{Source}
+use Rattle.machine.specs.declared.part.Source.the-variants.{Unwired, From}
+use Rattle.machine.specs.declared.part.State.{State}
+use Rattle.machine.specs.declared.part.Part.{Part}
+use Rattle.machine.specs.Lists.{All}
+use Rattle.machine.specs.Time.{tick}
+use Rattle.machine.specs.Signal.{largest-value, is-value, clamp, is-signal, integrated, product, total, first-present, sampled, integral}
+use Rattle.machine.specs.Kind.{period, positive-multiple, half-waves, square, pulse, mark-signal, output-as, output, integrates}
+use Rattle.machine.specs.Model.{blank-part, part-at, with-state, reading, reading0, reading1}
+use Rattle.machine.specs.Step.{gain-of, moved-held, moved, shown, filled, settled-as, settled, all-moved, all-settled}
+use Rattle.soundness.specs.Laws.{cond-cases, all-default, all-set, all-map}
+
+-- clamping gives a value
+pub clamp-value : (z : ℤ) → is-value (clamp z) ≡ true
+unfolding clamp is-value
+clamp-value (pos n) = le-leb (min n 1_000_000_000) largest-value (omega arith)
+clamp-value (negsuc n) = le-leb (suc (min n 999_999_999)) largest-value (omega arith)
+
+-- the arithmetic of signals gives signals
+product-signal : (a : ℤ) (x : Signal) → is-signal (product a x) ≡ true
+unfolding is-signal product
+product-signal a Absent = refl
+product-signal a (Value v) = clamp-value (a *ℤ v)
+
+total-signal : (x y : Signal) → is-signal (total x y) ≡ true
+unfolding is-signal total
+total-signal Absent Absent = refl
+total-signal Absent (Value w) = clamp-value w
+total-signal (Value v) Absent = clamp-value v
+total-signal (Value v) (Value w) = clamp-value (v +ℤ w)
+
+first-present-signal : (x y : Signal) → is-signal x ≡ true → is-signal y ≡ true → is-signal (first-present x y) ≡ true
+first-present-signal Absent y hx hy = hy
+first-present-signal (Value v) y hx hy = hx
+
+sampled-signal : (x y : Signal) → is-signal x ≡ true → is-signal (sampled x y) ≡ true
+unfolding is-signal
+sampled-signal x Absent hx = refl
+sampled-signal x (Value w) hx = hx
+
+mark-is-signal : (k : Mark) → is-signal (mark-signal k) ≡ true
+unfolding is-signal is-value
+mark-is-signal Clear = refl
+mark-is-signal Rising = refl
+mark-is-signal Falling = refl
+
+-- a signal that is integrated counts as a value
+integrated-value : (x : Signal) → is-signal x ≡ true → is-value (integrated x) ≡ true
+unfolding is-signal is-value
+integrated-value Absent h = refl
+integrated-value (Value v) h = h
+
+-- what of a part is in range
+pub record InRange (p : Part) : Type 0 where
+  pub a : is-value (p .component .a) ≡ true
+  pub b : is-value (p .component .b) ≡ true
+  pub held : is-value (p .state .held) ≡ true
+  pub signal : is-signal (p .state .signal) ≡ true
+  pub output : is-signal (p .state .output) ≡ true
+
+-- what stands where a list has no such part is in range
+blank-in-range : InRange blank-part
+unfolding is-value is-signal
+blank-in-range = record { a = refl; b = refl; held = refl; signal = refl; output = refl }
+
+-- a port reads a signal
+reading-signal : (ps : List Part) (s : Source) → All InRange ps → is-signal (reading ps s) ≡ true
+unfolding reading is-signal
+reading-signal ps Unwired h = refl
+reading-signal ps (From k) h = all-default InRange ps blank-part k h blank-in-range .output
+
+-- the output of a part in range is a signal, where its ports read signals
+output-as-signal :
+    (k : Kind) (p : Part) (now : Point) (x y before : Signal) → InRange p → is-signal x ≡ true → is-signal y ≡ true → is-signal before ≡ true →
+    is-signal (output-as k p now x y before) ≡ true
+unfolding output-as is-signal square pulse
+output-as-signal Constant p now x y before h hx hy hb = h .a
+output-as-signal Gain p now x y before h hx hy hb = product-signal (p .component .a) x
+output-as-signal Adder p now x y before h hx hy hb = total-signal x y
+output-as-signal Square p now x y before h hx hy hb =
+    cond-cases (λ (v : ℤ). is-value v ≡ true) (eqb (half-waves (period p) now % 2) 0) (p .component .a) (p .component .b) (λ e. h .a) (λ e. h .b)
+output-as-signal Pulse p now x y before h hx hy hb =
+    cond-cases (λ (s : Signal). is-signal s ≡ true) (eqb (now .n) 1 && positive-multiple (period p) (tick now))
+    (Value (p .component .a)) Absent (λ e. h .a) (λ e. refl)
+output-as-signal Delay p now x y before h hx hy hb =
+    cond-cases (λ (s : Signal). is-signal s ≡ true) (ltb 0 (now .n)) before Absent (λ e. hb) (λ e. refl)
+output-as-signal Integrator p now x y before h hx hy hb = h .held
+output-as-signal ResetIntegrator p now x y before h hx hy hb = first-present-signal y (Value (p .state .held)) hy (h .held)
+output-as-signal Detector p now x y before h hx hy hb = mark-is-signal (p .state .mark)
+output-as-signal Hold p now x y before h hx hy hb = first-present-signal x (p .state .signal) hx (h .signal)
+output-as-signal Sampler p now x y before h hx hy hb = sampled-signal x y hx
+output-as-signal Drive p now x y before h hx hy hb = h .held
+
+-- showing a part, and all parts in any order, keeps them in range; the parts at the point before are in range too
+module _ (old : List Part) (now : Point) (before : All InRange old) where
+  shown-in-range : (ps : List Part) (p : Part) → All InRange ps → InRange p → InRange (shown old now ps p)
+  unfolding shown output reading0 reading1
+  shown-in-range ps p hs h =
+      record {
+        a = h .a;
+        b = h .b;
+        held = h .held;
+        signal = h .signal;
+        output =
+            output-as-signal (p .component .kind) p now (reading0 ps p) (reading1 ps p) (reading0 old p) h
+            (reading-signal ps (p .component .port0) hs) (reading-signal ps (p .component .port1) hs)
+            (reading-signal old (p .component .port0) before);
+      }
+
+  pub filled-in-range : (ks : List ℕ) (ps : List Part) → All InRange ps → All InRange (filled old now ks ps)
+  unfolding filled
+  filled-in-range [] ps h = h
+  filled-in-range (k ∷ ks) ps h =
+      filled-in-range ks (set ps k (shown old now ps (part-at ps k)))
+      (all-set InRange ps k (shown old now ps (part-at ps k)) h
+      (shown-in-range ps (part-at ps k) h (all-default InRange ps blank-part k h blank-in-range)))
+
+-- settling a part, and all parts, keeps them in range
+settled-in-range : (k : Kind) (x : Signal) (p : Part) → InRange p → InRange (with-state p (settled-as k x (p .state)))
+unfolding settled-as
+settled-in-range Constant x p h = h
+settled-in-range Gain x p h = h
+settled-in-range Adder x p h = h
+settled-in-range Square x p h = h
+settled-in-range Pulse x p h = h
+settled-in-range Delay x p h = h
+settled-in-range Integrator x p h = h
+settled-in-range ResetIntegrator x p h =
+    record { a = h .a; b = h .b; held = integrated-value (p .state .output) (h .output); signal = h .signal; output = h .output }
+settled-in-range Detector x p h = record { a = h .a; b = h .b; held = h .held; signal = h .signal; output = h .output }
+settled-in-range Hold x p h = record { a = h .a; b = h .b; held = h .held; signal = h .output; output = h .output }
+settled-in-range Sampler x p h = h
+settled-in-range Drive x p h = h
+
+pub all-settled-in-range : (ps : List Part) → All InRange ps → All InRange (all-settled ps)
+unfolding all-settled settled
+all-settled-in-range ps h =
+    all-map (λ (p : Part). settled (reading0 ps p) p) InRange InRange ps (λ p. settled-in-range (p .component .kind) (reading0 ps p) p) h
+
+-- moving all parts keeps them in range
+pub all-moved-in-range : (t h : ℕ) (ps : List Part) → All InRange ps → All InRange (all-moved t h ps)
+unfolding all-moved moved moved-held integral
+all-moved-in-range t h ps r =
+    all-map (λ (p : Part). moved t h (reading0 ps p) p) InRange InRange ps
+    (λ p q.
+    record {
+      a = q .a;
+      b = q .b;
+      held =
+          cond-cases (λ (v : ℤ). is-value v ≡ true) (integrates (p .component .kind))
+          (integral (p .state .held) (reading0 ps p) (gain-of t h p)) (p .state .held)
+          (λ e. clamp-value (p .state .held +ℤ (integrated (reading0 ps p) *ℤ pos (gain-of t h p)))) (λ e. q .held);
+      signal = q .signal;
+      output = q .output;
+    })
+    r

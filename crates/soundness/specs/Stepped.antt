@@ -1,0 +1,111 @@
+-- A step that stays within the time keeps a sound model sound. The new local counts are floor((t + h) / r) because the old ones are floor(t / r).
+-- Assumes nothing.
+use Prim.Native.Nat.{ℕ, _+_, _-_, _/_, _≤_, _<_}
+use native.Mathlib.Omega.{arith}
+use mathlib.Core.Path.{_≡_, refl, sym, ap, _∙_}
+use mathlib.Core.Bool.{Bool, true, false, cond, _&&_, and-eq-true-iff}
+use mathlib.Core.List.{List, [], _∷_, map}
+use lib.ListN.{length, length-map, List·getD-map}
+use lib.Dec.{eqb, leb}
+use borrow.Author.Tests.{eqb-true, eqb-false, leb-true, le-leb}
+use Rattle.machine.specs.declared.time.Point.{Point}
+use Rattle.machine.specs.declared.part.Component.{Component}
+use Rattle.machine.specs.declared.part.Part.{Part}
+use Rattle.machine.specs.declared.model.Model.{Model}
+use Rattle.machine.specs.Lists.{every, All}
+use Rattle.machine.specs.Time.{last-tick, last-microstep, point, tick, led-to, in-time, local-count, gained}
+use Rattle.machine.specs.Model.{blank-part, blank-component, part-at, reading0}
+use Rattle.machine.specs.Table.{Table, table-of}
+use Rattle.machine.specs.Step.{gain-of, moved, all-moved, step-made}
+use Rattle.machine.specs.Sound.{component-fits, state-fits, sound}
+use Rattle.laws.specs.Lists.{every-at, all-intro}
+use Rattle.soundness.specs.Laws.{cond-cases, map-kept, length-same-map, all-map, div-mono-any}
+use Rattle.soundness.specs.Facts.{operand-values, component-facts, table-facts, StateFits, state-facts, Soundness, sound-facts, sound-test}
+use Rattle.soundness.specs.Ranges.{InRange, all-moved-in-range}
+use Rattle.soundness.specs.Kept.{Core, core, Counted, finished-kept, finished-states}
+
+-- a step of h leads h ticks on
+pub led-tick : (p : Point) (h : ℕ) → tick (led-to p h) ≡ tick p + h
+unfolding led-to
+led-tick p h =
+    cond-cases (λ (q : Point). tick q ≡ tick p + h) (eqb h 0) (point (tick p) (p .n + 1)) (point (tick p + h) 0)
+    (λ e. rw (eqb-true h 0 e) (omega arith)) (λ e. refl)
+
+-- it leads to a point of the time where the tick is not past the last, and for a step of 0 the microstep is below the last
+pub led-in-time : (p : Point) (h : ℕ) → tick p + h ≤ last-tick → (h ≡ 0 → p .n < last-microstep) → in-time (led-to p h) ≡ true
+unfolding led-to in-time
+led-in-time p h far more =
+    cond-cases (λ (q : Point). in-time q ≡ true) (eqb h 0) (point (tick p) (p .n + 1)) (point (tick p + h) 0)
+    (λ e.
+    let below = more (eqb-true h 0 e) in
+    simp and-eq-true-iff (le-leb (tick p) last-tick (omega arith), le-leb (p .n + 1) last-microstep (omega arith)))
+    (λ e. simp and-eq-true-iff (le-leb (tick p + h) last-tick far, refl))
+
+-- parts whose components and states fit are in range
+fitting-in-range :
+    (n t : ℕ) (ps : List Part) → every (component-fits n) (map (λ (p : Part). p .component) ps) ≡ true → every (state-fits t) ps ≡ true →
+    All InRange ps
+unfolding every
+fitting-in-range n t [] cs ss = tt
+fitting-in-range n t (p ∷ ps) cs ss =
+    let (c, cs′) = and-eq-true-iff (component-fits n (p .component)) (every (component-fits n) (map (λ (p : Part). p .component) ps)) .0 cs in
+    let (s, ss′) = and-eq-true-iff (state-fits t p) (every (state-fits t) ps) .0 ss in
+    let (a, b) = operand-values (p .component .kind) (p .component .a) (p .component .b) (p .component .p) (component-facts n (p .component) c .operands) in
+    let f = state-facts t p s in
+    (record { a = a; b = b; held = f .held; signal = f .signal; output = f .output }, fitting-in-range n t ps cs′ ss′)
+
+-- so are those of a sound model
+pub in-range : (m : Model) → sound m ≡ true → All InRange (m .parts)
+unfolding table-of
+in-range m s =
+    let f = sound-facts m s in
+    fitting-in-range (length (table-of m .parts)) (tick (m .point)) (m .parts) (table-facts (table-of m) (f .table) .components) (f .states)
+
+-- moving takes local counts of floor(t / r) to floor((t + h) / r)
+moved-counted : (t h : ℕ) (ps : List Part) → every (state-fits t) ps ≡ true → All (λ (p : Part). Counted (t + h) (core p)) (all-moved t h ps)
+unfolding all-moved moved gain-of gained local-count
+moved-counted t h ps f =
+    all-map (λ (p : Part). moved t h (reading0 ps p) p) (λ (p : Part). state-fits t p ≡ true) (λ (p : Part). Counted (t + h) (core p)) ps
+    (λ p e.
+    let local : p .state .local .0 ≡ t / p .ratio = state-facts t p e .local in
+    let more = div-mono-any (p .ratio) t (t + h) (omega arith) in
+    omega arith)
+    (all-intro (λ (p : Part). state-fits t p ≡ true) ps blank-part (λ i q. every-at (state-fits t) ps blank-part i f q))
+
+-- a step keeps whatever of the cores moving keeps
+step-kept :
+    {B : Type 0} (f : Core → B) (m : Model) (h : ℕ) →
+    ((p : Part) → f (core (moved (tick (m .point)) h (reading0 (m .parts) p) p)) ≡ f (core p)) →
+    map (λ (p : Part). f (core p)) (step-made m h .parts) ≡ map (λ (p : Part). f (core p)) (m .parts)
+unfolding step-made all-moved
+step-kept f m h keeps =
+    finished-kept f (m .parts) (led-to (m .point) h) (m .order) (all-moved (tick (m .point)) h (m .parts)) ∙
+    map-kept (λ (p : Part). f (core p)) (λ (p : Part). moved (tick (m .point)) h (reading0 (m .parts) p) p) (m .parts) keeps
+
+-- so it keeps the table
+pub step-table : (m : Model) (h : ℕ) → table-of (step-made m h) ≡ table-of m
+unfolding table-of step-made moved
+step-table m h =
+    ap (λ (cs : List Component). record { magnitude = m .magnitude; parts = cs }) (step-kept (λ (c : Core). c .component) m h (λ p. refl))
+
+-- a step keeps a model sound
+pub step-sound :
+    (m : Model) (h : ℕ) → sound m ≡ true → tick (m .point) + h ≤ last-tick → (h ≡ 0 → m .point .n < last-microstep) →
+    sound (step-made m h) ≡ true
+unfolding step-made moved
+step-sound m h s far more =
+    let f = sound-facts m s in
+    let r = in-range m s in
+    let ratios = step-kept (λ (c : Core). c .ratio) m h (λ p. refl) in
+    sound-test (step-made m h)
+    (record {
+      counted = f .counted ∙ sym (length-same-map (λ (p : Part). p .ratio) (step-made m h .parts) (m .parts) ratios);
+      table = rw (step-table m h) (f .table);
+      ratios = rw (step-table m h) (ratios ∙ f .ratios);
+      order = rw (step-table m h) (f .order);
+      time = led-in-time (m .point) h far more;
+      states =
+          finished-states (m .parts) (led-to (m .point) h) (m .order) (all-moved (tick (m .point)) h (m .parts)) (tick (led-to (m .point) h)) r
+          (all-moved-in-range (tick (m .point)) h (m .parts) r)
+          (rw (led-tick (m .point) h) (moved-counted (tick (m .point)) h (m .parts) (f .states)));
+    })
