@@ -4,19 +4,19 @@ use Prim.Native.Nat.{ℕ, zero, suc, _+_, _-_, _≤_, _<_}
 use native.Mathlib.Omega.{arith}
 use mathlib.Core.Path.{_≡_, refl, ap, _∙_}
 use mathlib.Core.Bool.{Bool, true, false, false≢true}
-use mathlib.Core.List.{List, [], _∷_}
+use mathlib.Core.List.{List}
 use lib.ListN.{length, set, length-set}
 use Rattle.machine.specs.declared.part.Component.{Component}
-use Rattle.machine.specs.Lists.{every, All}
+use Rattle.machine.specs.Lists.{All}
 use Rattle.machine.specs.Time.{magnitude-known}
 use Rattle.machine.specs.Model.{most-parts, blank-component}
 use Rattle.machine.specs.Table.{Table, component-at}
 use Rattle.machine.specs.Fresh.{fresh}
 use Rattle.machine.specs.Load.{is-drive, byte-at, word-at, Reading, nothing-read, Read, onward, ended, begin-refusal, begun-with, part-read, part-refusal, with-part, last-part, with-span, span-refusal, with-component, with-wire, wire-refusal, end-refusal, accepted, read-turn, read-on, read-from, load}
-use Rattle.machine.specs.Sound.{component-fits, table-fits}
-use Rattle.laws.specs.Lists.{every-intro, all-at}
-use Rattle.soundness.specs.Laws.{all-set, all-snoc, all-give, length-snoc, last-of-snoc, last-of-set}
-use Rattle.soundness.specs.Facts.{ComponentFits, component-test, table-test}
+use Rattle.machine.specs.Sound.{table-fits}
+use Rattle.laws.specs.Lists.{all-at}
+use Rattle.soundness.specs.Laws.{all-set, all-added, all-give, length-added, last-of-added, last-of-set}
+use Rattle.soundness.specs.Facts.{ComponentFits, table-test}
 use Rattle.soundness.specs.Turns.{open-component, turn-cases}
 use Rattle.soundness.specs.Passed.{begin-passed, part-passed, wire-passed, end-passed, component-more, part-fits, span-fits, wire-fits}
 
@@ -57,16 +57,16 @@ kept-part bs at rd k h =
     let cs = rd .table .parts in
     let c = part-read bs at in
     let (room, preference, operands) = part-passed cs (byte-at bs (at + 1)) c h in
-    let count = length-snoc cs c in
+    let count = length-added cs c in
     record {
       magnitude = k .magnitude;
       few = omega arith;
       components =
-          rw (length-snoc cs c)
-          (all-snoc (ComponentFits (suc (length cs))) cs c
+          rw (length-added cs c)
+          (all-added (ComponentFits (suc (length cs))) cs c
           (all-give (ComponentFits (length cs)) (ComponentFits (suc (length cs))) cs (component-more (length cs)) (k .components))
           (part-fits (suc (length cs)) bs at preference operands));
-      drive = λ s. (omega arith, ap (λ (d : Component). is-drive (d .kind)) (last-of-snoc cs c blank-component) ∙ s);
+      drive = λ s. (omega arith, ap (λ (d : Component). is-drive (d .kind)) (last-of-added cs c blank-component) ∙ s);
     }
 
 -- a component replaced by one that fits keeps what reading keeps
@@ -88,7 +88,7 @@ kept-component rd spannable k c r f last =
           (rw (length-set cs k c) some, ap (λ (d : Component). is-drive (d .kind)) same ∙ drive);
     }
 
--- Span and Wire keep what reading keeps
+-- Span keeps what reading keeps
 kept-span :
     (rd : Reading) (v : ℕ) → Readable rd → rd .spannable ≡ true → span-refusal (open-component rd) v ≡ 0 →
     Readable (with-component rd true (last-part (rd .table .parts)) (with-span (open-component rd) v))
@@ -101,6 +101,7 @@ kept-span rd v r s h =
     (span-fits (length cs) (open-component rd) v (all-at (ComponentFits (length cs)) cs blank-component (last-part cs) (r .components) there) drive h)
     (λ e. (some, refl, drive))
 
+-- Wire keeps what reading keeps
 kept-wire :
     (rd : Reading) (source receiver port : ℕ) → Readable rd → wire-refusal (rd .table .parts) source receiver port ≡ 0 →
     Readable (with-component rd false receiver (with-wire (component-at (rd .table .parts) receiver) port source))
@@ -122,14 +123,12 @@ end-fits rd r h =
       magnitude = r .magnitude;
       some = some;
       few = r .few;
-      components =
-          every-intro (component-fits (length cs)) cs blank-component
-          (λ i q. component-test (length cs) (component-at cs i) (all-at (ComponentFits (length cs)) cs blank-component i (r .components) q));
+      components = r .components;
       periods = periods;
       order = order;
     })
 
--- so does each turn
+-- each turn keeps what reading keeps
 kept-turn : (bs : List ℕ) (at : ℕ) (rd : Reading) → Readable rd → Keeps (read-turn bs at rd)
 unfolding accepted
 kept-turn bs at rd r =
@@ -148,6 +147,7 @@ unfolding read-from
 read-fits zero bs at rd r h = absurd (omega arith)
 read-fits (suc n) bs at rd r h = on-fits (read-turn bs at rd) (kept-turn bs at rd r) (read-fits n bs) h
   where
+    -- the same of what follows a turn
     on-fits :
         (r : Read) → Keeps r →
         ((at : ℕ) (rd : Reading) → Readable rd → read-from n bs at rd .number ≡ 0 →

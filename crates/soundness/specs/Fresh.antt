@@ -1,54 +1,46 @@
 -- The fresh model of a table that fits is sound, and keeps that table; it stands at the start point, with every local count 0.
 -- Assumes nothing.
-use Prim.Native.Nat.{ℕ, zero}
+use Prim.Native.Nat.{ℕ}
 use native.Mathlib.Nat.{zero-div}
 use mathlib.Core.Path.{_≡_, refl, sym, ap, _∙_}
-use mathlib.Core.Bool.{Bool, true, false, cond, _&&_, false≢true, and-eq-true-iff}
+use mathlib.Core.Bool.{true}
 use mathlib.Core.List.{List, [], _∷_, map, map-map, map-id}
-use lib.ListN.{length, length-map, List·getD-map}
-use lib.Dec.{eqb}
-use lib.IntN.{ℤ, pos, negsuc}
-use borrow.Author.Tests.{eqb-true, le-leb}
-use Rattle.machine.specs.declared.part.Kind.{Kind}
+use lib.ListN.{length, length-map}
+use lib.IntN.{ℤ, pos}
 use Rattle.machine.specs.declared.part.Component.{Component}
 use Rattle.machine.specs.declared.part.Part.{Part}
-use Rattle.machine.specs.declared.model.Model.{Model}
-use Rattle.machine.specs.Lists.{every, All}
+use Rattle.machine.specs.Lists.{All}
 use Rattle.machine.specs.Time.{in-time, local-count, start}
 use Rattle.machine.specs.Signal.{is-value, is-signal}
-use Rattle.machine.specs.Kind.{names-a, names-b, names-p, is-positive, is-zero, operands-fit, integrates}
+use Rattle.machine.specs.Kind.{integrates}
 use Rattle.machine.specs.Model.{blank-part, part-at}
 use Rattle.machine.specs.Table.{Table, table-of, component-ratio, ratios, part-order}
-use Rattle.machine.specs.Step.{filled, all-settled}
 use Rattle.machine.specs.Fresh.{first-state, first-part, first-parts, fresh}
-use Rattle.machine.specs.Sound.{component-fits, table-fits, sound}
-use Rattle.laws.specs.Bools.{and-left, and-right}
-use Rattle.soundness.specs.Laws.{cond-cases, all-default, all-same-map}
-use Rattle.soundness.specs.Facts.{operand-values, component-facts, table-facts, sound-test}
+use Rattle.machine.specs.Sound.{table-fits, sound}
+use Rattle.soundness.specs.Laws.{cond-cases, all-default, all-map, all-same-map}
+use Rattle.soundness.specs.Facts.{operand-values, ComponentFits, table-facts, sound-test}
 use Rattle.soundness.specs.Ranges.{InRange}
 use Rattle.soundness.specs.Kept.{core, Core, Counted, finished-core, finished-kept, finished-states}
 
--- the first parts of components that fit are in range
-first-in-range : (t : Table) (n : ℕ) (cs : List Component) → every (component-fits n) cs ≡ true → All InRange (map (first-part t) cs)
-unfolding every first-part first-state is-value is-signal
-first-in-range t n [] h = tt
-first-in-range t n (c ∷ cs) h =
-    let (a, b) = operand-values (c .kind) (c .a) (c .b) (c .p) (component-facts n c (and-left (component-fits n c) (every (component-fits n) cs) h) .operands) in (
-      record {
-        a = a;
-        b = b;
-        held = cond-cases (λ (v : ℤ). is-value v ≡ true) (integrates (c .kind)) (c .a) (pos 0) (λ e. a) (λ e. refl);
-        signal = refl;
-        output = refl;
-      },
-      first-in-range t n cs (and-right (component-fits n c) (every (component-fits n) cs) h),
-    )
+-- the first part of a component that fits is in range
+first-in-range : (t : Table) (n : ℕ) (c : Component) → ComponentFits n c → InRange (first-part t c)
+unfolding first-part first-state is-value is-signal
+first-in-range t n c f =
+    let (a, b) = operand-values (c .kind) (c .a) (c .b) (c .p) (f .operands) in
+    record {
+      a = a;
+      b = b;
+      held = cond-cases (λ (v : ℤ). is-value v ≡ true) (integrates (c .kind)) (c .a) (pos 0) (λ e. a) (λ e. refl);
+      signal = refl;
+      output = refl;
+    }
 
 -- the fresh model keeps the table
 pub fresh-table : (t : Table) → table-of (fresh t) ≡ t
 unfolding table-of fresh first-parts first-part
 fresh-table t = ap (λ (cs : List Component). record { magnitude = t .magnitude; parts = cs }) components
   where
+    -- it keeps the components
     components : map (λ (p : Part). p .component) (fresh t .parts) ≡ t .parts
     components =
         finished-kept (λ (c : Core). c .component) [] start (part-order (t .parts)) (first-parts t) ∙
@@ -85,6 +77,7 @@ fresh-local t i =
 pub fresh-sound : (t : Table) → table-fits t ≡ true → sound (fresh t) ≡ true
 unfolding fresh first-parts first-part ratios in-time
 fresh-sound t h =
+    let n = length (t .parts) in
     sound-test (fresh t)
     (record {
       counted = sym (fresh-count t);
@@ -97,6 +90,6 @@ fresh-sound t h =
       time = refl;
       states =
           finished-states [] start (part-order (t .parts)) (first-parts t) 0 tt
-          (first-in-range t (length (t .parts)) (t .parts) (table-facts t h .components))
+          (all-map (first-part t) (ComponentFits n) InRange (t .parts) (first-in-range t n) (table-facts t h .components))
           (first-counted t (t .parts));
     })

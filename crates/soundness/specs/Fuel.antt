@@ -2,14 +2,12 @@
 -- So the number of turns makes no difference, and reading is one turn and then reading. Assumes nothing.
 use Prim.Native.Nat.{ℕ, zero, suc, _+_, _≤_, _<_}
 use native.Mathlib.Omega.{arith}
-use mathlib.Core.Path.{_≡_, refl, sym, _∙_}
+use mathlib.Core.Path.{_≡_, refl, sym}
 use mathlib.Core.List.{List}
 use lib.ListN.{length}
-use lib.Dec.{ltb}
 use borrow.Author.Tests.{le-ltb}
 use Rattle.machine.specs.declared.model.Loaded.{Loaded}
-use Rattle.machine.specs.Load.{Reading, Read, onward, ended, refused, byte-at, command-read, read-turn, read-on, read-from}
-use Rattle.laws.specs.Bools.{cond-false}
+use Rattle.machine.specs.Load.{Reading, Read, onward, ended, refused, read-turn, read-on, read-from}
 use Rattle.soundness.specs.Turns.{turn-cases}
 
 -- a turn goes on past the position, if it goes on

@@ -2,7 +2,6 @@
 -- With the ranges that they keep too, the states of parts shown and settled fit. Assumes nothing.
 use Prim.Native.Nat.{ℕ}
 use mathlib.Core.Path.{_≡_, refl, sym, ap, _∙_}
-use mathlib.Core.Bool.{true}
 use mathlib.Core.List.{List, [], _∷_, map, map-map}
 use lib.ListN.{set}
 use lib.Seq.{map-set-same}
@@ -13,21 +12,21 @@ use Rattle.machine.specs.declared.part.Kind.{Kind}
 use Rattle.machine.specs.declared.part.Kind.the-variants.{Constant, Gain, Adder, Square, Pulse, Delay, Integrator, ResetIntegrator, Detector, Hold, Sampler, Drive}
 use Rattle.machine.specs.declared.part.Component.{Component}
 use Rattle.machine.specs.declared.part.Part.{Part}
-use Rattle.machine.specs.Lists.{every, All}
+use Rattle.machine.specs.Lists.{All}
 use Rattle.machine.specs.Time.{local-count}
 use Rattle.machine.specs.Model.{blank-part, part-at, with-state, reading0}
 use Rattle.machine.specs.Step.{shown, filled, settled-as, settled, all-settled}
-use Rattle.machine.specs.Sound.{state-fits}
-use Rattle.laws.specs.Bools.{and-intro}
 use Rattle.soundness.specs.Laws.{map-kept, all-same-map}
-use Rattle.soundness.specs.Facts.{state-test}
+use Rattle.soundness.specs.Facts.{StateFits}
 use Rattle.soundness.specs.Ranges.{InRange, filled-in-range, all-settled-in-range}
 
+-- the core of a part
 pub record Core : Type 0 where
   pub component : Component
   pub ratio : ℕ
   pub local : LocalTicks
 
+-- of each part
 abbrev pub core : Part → Core
 core p = record { component = p .component; ratio = p .ratio; local = p .state .local }
 
@@ -79,18 +78,15 @@ abbrev pub Counted : ℕ → Core → Type 0
 Counted t c = c .local .0 ≡ local-count t (c .ratio) .0
 
 -- states fit where all is in range and the local counts are floor(t / r)
-states-fit : (t : ℕ) (ps : List Part) → All InRange ps → All (λ p. Counted t (core p)) ps → every (state-fits t) ps ≡ true
-unfolding every
-states-fit t [] r c = refl
+states-fit : (t : ℕ) (ps : List Part) → All InRange ps → All (λ p. Counted t (core p)) ps → All (StateFits t) ps
+states-fit t [] r c = tt
 states-fit t (p ∷ ps) r c =
-    and-intro (state-fits t p) (every (state-fits t) ps)
-    (state-test t p (record { local = c .0; held = r .0 .held; signal = r .0 .signal; output = r .0 .output }))
-    (states-fit t ps (r .1) (c .1))
+    (record { local = c .0; held = r .0 .held; signal = r .0 .signal; output = r .0 .output }, states-fit t ps (r .1) (c .1))
 
 -- so the states of parts shown and settled fit where the parts and those of the point before are in range and the local counts are floor(t / r)
 pub finished-states :
     (old : List Part) (now : Point) (ks : List ℕ) (ps : List Part) (t : ℕ) → All InRange old → All InRange ps → All (λ p. Counted t (core p)) ps →
-    every (state-fits t) (finished old now ks ps) ≡ true
+    All (StateFits t) (finished old now ks ps)
 finished-states old now ks ps t before r c =
     states-fit t (finished old now ks ps) (all-settled-in-range (filled old now ks ps) (filled-in-range old now before ks ps r))
     (all-same-map core (Counted t) (finished old now ks ps) ps (finished-core old now ks ps) c)

@@ -4,11 +4,11 @@ use native.Mathlib.Omega.{arith}
 use native.Mathlib.Nat.{div-zero}
 use native.Mathlib.Numerals.{sub-one}
 use mathlib.Core.Path.{_≡_, refl, sym, ap, ap₂, _∙_}
-use mathlib.Core.Bool.{Bool, true, false, cond}
+use mathlib.Core.Bool.{Bool, true, false, cond, and-eq-true-iff}
 use mathlib.Core.List.{List, [], _∷_, _++_, map}
 use lib.ListN.{length, getD, set, length-append, length-set, length-map}
-use lib.Seq.{getD-append-seam, getD-set-same}
-use Rattle.machine.specs.Lists.{same, All}
+use lib.Seq.{getD-append-seam, set-append-seam, getD-set-same}
+use Rattle.machine.specs.Lists.{every, same, All}
 use Rattle.laws.specs.Lists.{same-refl}
 use Rattle.laws.specs.Numbers.{div-mono}
 
@@ -28,6 +28,20 @@ module _ {ℓ} {A : Type ℓ} (P : A → Type 0) where
   all-default (x ∷ xs) d zero h p = h .0
   all-default (x ∷ xs) d (suc i) h p = all-default xs d i (h .1) p
 
+  -- where the test f shows P, all elements of a list that passes it have P
+  pub every-all : (f : A → Bool) (l : List A) → ((a : A) → f a ≡ true → P a) → every f l ≡ true → All P l
+  unfolding every
+  every-all f [] shows h = tt
+  every-all f (x ∷ xs) shows h =
+      let (first, others) = and-eq-true-iff (f x) (every f xs) .0 h in
+      (shows x first, every-all f xs shows others)
+
+  -- where P passes the test f, a list of elements that have P passes it
+  pub all-every : (f : A → Bool) (l : List A) → ((a : A) → P a → f a ≡ true) → All P l → every f l ≡ true
+  unfolding every
+  all-every f [] passes h = refl
+  all-every f (x ∷ xs) passes h = and-eq-true-iff (f x) (every f xs) .1 (passes x (h .0), all-every f xs passes (h .1))
+
   -- an element replaced by one that has P, at any index
   pub all-set : (l : List A) (i : ℕ) (a : A) → All P l → P a → All P (set l i a)
   all-set [] i a h p = tt
@@ -35,9 +49,9 @@ module _ {ℓ} {A : Type ℓ} (P : A → Type 0) where
   all-set (x ∷ xs) (suc i) a h p = (h .0, all-set xs i a (h .1) p)
 
   -- one element more that has P
-  pub all-snoc : (l : List A) (a : A) → All P l → P a → All P (l ++ (a ∷ []))
-  all-snoc [] a h p = (p, tt)
-  all-snoc (x ∷ xs) a h p = (h .0, all-snoc xs a (h .1) p)
+  pub all-added : (l : List A) (a : A) → All P l → P a → All P (l ++ (a ∷ []))
+  all-added [] a h p = (p, tt)
+  all-added (x ∷ xs) a h p = (h .0, all-added xs a (h .1) p)
 
   -- where P gives Q, all elements that have P have Q
   pub all-give : (Q : A → Type 0) (l : List A) → ((a : A) → P a → Q a) → All P l → All Q l
@@ -70,8 +84,8 @@ module _ {ℓ} {A B : Type ℓ} (f : A → B) where
 
 module _ {ℓ} {A : Type ℓ} where
   -- one element more
-  pub length-snoc : (l : List A) (a : A) → length (l ++ (a ∷ [])) ≡ suc (length l)
-  length-snoc l a = omega (arith, length-append l (a ∷ []))
+  pub length-added : (l : List A) (a : A) → length (l ++ (a ∷ [])) ≡ suc (length l)
+  length-added l a = omega (arith, length-append l (a ∷ []))
 
   -- the default does not matter where there is an element
   getD-any : (l : List A) (i : ℕ) (d e : A) → i < length l → getD l i d ≡ getD l i e
@@ -80,8 +94,12 @@ module _ {ℓ} {A : Type ℓ} where
   getD-any (x ∷ xs) (suc i) d e h = getD-any xs i d e (omega arith)
 
   -- the last element, where one was added
-  pub last-of-snoc : (l : List A) (a d : A) → getD (l ++ (a ∷ [])) (length (l ++ (a ∷ [])) - 1) d ≡ a
-  last-of-snoc l a d = rw (length-snoc l a, sub-one) (getD-append-seam l a [] d)
+  pub last-of-added : (l : List A) (a d : A) → getD (l ++ (a ∷ [])) (length (l ++ (a ∷ [])) - 1) d ≡ a
+  last-of-added l a d = rw (length-added l a, sub-one) (getD-append-seam l a [] d)
+
+  -- the last element replaced, where one was added
+  pub set-last-of-added : (l : List A) (a b : A) → set (l ++ (a ∷ [])) (length (l ++ (a ∷ [])) - 1) b ≡ l ++ (b ∷ [])
+  set-last-of-added l a b = rw (length-added l a, sub-one) (set-append-seam l a [] b)
 
   -- the last element, where it was replaced
   pub last-of-set : (l : List A) (a d : A) → 0 < length l → getD (set l (length l - 1) a) (length (set l (length l - 1) a) - 1) d ≡ a

@@ -1,4 +1,4 @@
--- Soundness tied to loading, and kept by steps.
+-- Soundness tied to loading, and kept by steps. The results are in Fresh, Stepped, Accepted, Fuel and Bytes; the other files carry them.
 pub mod Laws
 pub mod Facts
 pub mod Ranges
@@ -9,3 +9,7 @@ pub mod Turns
 pub mod Fuel
 pub mod Passed
 pub mod Accepted
+pub mod Written
+pub mod Seams
+pub mod Commands
+pub mod Bytes

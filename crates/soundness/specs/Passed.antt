@@ -1,5 +1,5 @@
 -- What the commands show that are not refused, and the components that they leave: these fit. Assumes nothing.
-use Prim.Native.Nat.{ℕ, suc, _+_, _-_, _≤_, _<_}
+use Prim.Native.Nat.{ℕ, suc, _-_, _≤_, _<_}
 use native.Mathlib.Omega.{arith}
 use mathlib.Core.Path.{_≡_, refl}
 use mathlib.Core.Bool.{Bool, true, false, cond, _&&_, and-eq-true-iff}
@@ -16,23 +16,25 @@ use Rattle.machine.specs.Model.{most-parts, most-spans}
 use Rattle.machine.specs.Table.{Table, component-at, periods-fit, ordered}
 use Rattle.machine.specs.Load.{preference-known, is-drive, begin-refusal, part-read, part-refusal, last-span, with-span, span-refusal, source-of, wired, with-wire, wire-refusal, end-refusal}
 use Rattle.machine.specs.Sound.{source-fits, spans-rise}
-use Rattle.soundness.specs.Laws.{cond-cases, length-snoc, last-of-tail}
+use Rattle.soundness.specs.Laws.{cond-cases, length-added, last-of-tail}
 use Rattle.soundness.specs.Facts.{ComponentFits}
 
--- a refusal number that is 0 was not picked from the numbers above 0
+-- where the number picked is 0 and the first is above 0, it is not the first
 not-first : (b : Bool) (n m : ℕ) → cond b (suc n) m ≡ 0 → (b ≡ false) × (m ≡ 0)
 not-first true n m h = absurd (omega arith)
 not-first false n m h = (refl, h)
 
+-- the same of the second
 not-second : (b : Bool) (n m : ℕ) → cond b m (suc n) ≡ 0 → (b ≡ true) × (m ≡ 0)
 not-second true n m h = (refl, h)
 not-second false n m h = absurd (omega arith)
 
--- what a Begin, a Part, a Span, a Wire and End show that are not refused
+-- what a Begin shows that is not refused
 pub begin-passed : (e : ℕ) → begin-refusal e ≡ 0 → magnitude-known e ≡ true
 unfolding begin-refusal
 begin-passed e h = not-second (magnitude-known e) 4 0 h .0
 
+-- what a Part shows that is not refused
 pub part-passed :
     (cs : List Component) (kind : ℕ) (c : Component) → part-refusal cs kind c ≡ 0 →
     (length cs < most-parts) × (preference-known (c .preference) ≡ true) × (operands-fit (c .kind) (c .a) (c .b) (c .p) ≡ true)
@@ -43,6 +45,7 @@ part-passed cs kind c h =
     let f = simp and-eq-true-iff at (not-second fit 4 0 rest .0) in
     (leb-false most-parts (length cs) room, f .0 .1, f .1)
 
+-- what a Span shows that is not refused
 span-passed :
     (c : Component) (v : ℕ) → span-refusal c v ≡ 0 → (length (c .spans) < most-spans) × (v ≤ 1_000_000_000) × (last-span c < v)
 unfolding span-refusal is-positive
@@ -55,6 +58,7 @@ span-passed c v h =
       ltb-true (last-span c) v (not-second (ltb (last-span c) v) 11 0 rest .0),
     )
 
+-- what a Wire shows that is not refused
 pub wire-passed :
     (cs : List Component) (source receiver port : ℕ) → wire-refusal cs source receiver port ≡ 0 →
     (source < length cs) × (receiver < length cs) × (port < ports (component-at cs receiver .kind))
@@ -65,6 +69,7 @@ wire-passed cs source receiver port h =
     let f = simp and-eq-true-iff at (not-second known 6 (cond (wired (source-of (component-at cs receiver) port)) 8 0) h .0) in
     (ltb-true source (length cs) (f .0 .0), ltb-true receiver (length cs) (f .0 .1), ltb-true port m (f .1))
 
+-- what an End shows that is not refused
 pub end-passed : (t : Table) → end-refusal t ≡ 0 → (1 ≤ length (t .parts)) × (periods-fit t ≡ true) × (ordered (t .parts) ≡ true)
 unfolding end-refusal
 end-passed t h =
@@ -117,7 +122,7 @@ unfolding with-span last-span
 span-fits n c v f drive h =
     let (room, most, above) = span-passed c v h in
     let counted = f .counted in
-    let count = length-snoc (c .spans) v in
+    let count = length-added (c .spans) v in
     record {
       preference = f .preference;
       operands = f .operands;

@@ -3,7 +3,7 @@
 use Prim.Native.Nat.{ℕ, suc, _%_, min}
 use native.Mathlib.Omega.{arith}
 use mathlib.Core.Path.{_≡_, refl}
-use mathlib.Core.Bool.{true, cond, _&&_}
+use mathlib.Core.Bool.{true, _&&_}
 use mathlib.Core.List.{List, [], _∷_}
 use lib.IntN.{ℤ, pos, negsuc, _+ℤ_, _*ℤ_}
 use lib.ListN.{set}
@@ -18,7 +18,6 @@ use Rattle.machine.specs.declared.part.Mark.{Mark}
 use Rattle.machine.specs.declared.part.Mark.the-variants.{Clear, Rising, Falling}
 use Rattle.machine.specs.declared.part.Source.{Source}
 use Rattle.machine.specs.declared.part.Source.the-variants.{Unwired, From}
-use Rattle.machine.specs.declared.part.State.{State}
 use Rattle.machine.specs.declared.part.Part.{Part}
 use Rattle.machine.specs.Lists.{All}
 use Rattle.machine.specs.Time.{tick}
@@ -34,12 +33,13 @@ unfolding clamp is-value
 clamp-value (pos n) = le-leb (min n 1_000_000_000) largest-value (omega arith)
 clamp-value (negsuc n) = le-leb (suc (min n 999_999_999)) largest-value (omega arith)
 
--- the arithmetic of signals gives signals
+-- a product is a signal
 product-signal : (a : ℤ) (x : Signal) → is-signal (product a x) ≡ true
 unfolding is-signal product
 product-signal a Absent = refl
 product-signal a (Value v) = clamp-value (a *ℤ v)
 
+-- a total is a signal
 total-signal : (x y : Signal) → is-signal (total x y) ≡ true
 unfolding is-signal total
 total-signal Absent Absent = refl
@@ -47,15 +47,18 @@ total-signal Absent (Value w) = clamp-value w
 total-signal (Value v) Absent = clamp-value v
 total-signal (Value v) (Value w) = clamp-value (v +ℤ w)
 
+-- the first present of two signals is a signal
 first-present-signal : (x y : Signal) → is-signal x ≡ true → is-signal y ≡ true → is-signal (first-present x y) ≡ true
 first-present-signal Absent y hx hy = hy
 first-present-signal (Value v) y hx hy = hx
 
+-- a signal sampled is a signal
 sampled-signal : (x y : Signal) → is-signal x ≡ true → is-signal (sampled x y) ≡ true
 unfolding is-signal
 sampled-signal x Absent hx = refl
 sampled-signal x (Value w) hx = hx
 
+-- a mark shows a signal
 mark-is-signal : (k : Mark) → is-signal (mark-signal k) ≡ true
 unfolding is-signal is-value
 mark-is-signal Clear = refl
@@ -109,8 +112,9 @@ output-as-signal Hold p now x y before h hx hy hb = first-present-signal x (p .s
 output-as-signal Sampler p now x y before h hx hy hb = sampled-signal x y hx
 output-as-signal Drive p now x y before h hx hy hb = h .held
 
--- showing a part, and all parts in any order, keeps them in range; the parts at the point before are in range too
+-- where the parts at the point before are in range:
 module _ (old : List Part) (now : Point) (before : All InRange old) where
+  -- showing a part keeps it in range
   shown-in-range : (ps : List Part) (p : Part) → All InRange ps → InRange p → InRange (shown old now ps p)
   unfolding shown output reading0 reading1
   shown-in-range ps p hs h =
@@ -125,6 +129,7 @@ module _ (old : List Part) (now : Point) (before : All InRange old) where
             (reading-signal old (p .component .port0) before);
       }
 
+  -- showing parts, in any order, keeps all in range
   pub filled-in-range : (ks : List ℕ) (ps : List Part) → All InRange ps → All InRange (filled old now ks ps)
   unfolding filled
   filled-in-range [] ps h = h
@@ -133,7 +138,7 @@ module _ (old : List Part) (now : Point) (before : All InRange old) where
       (all-set InRange ps k (shown old now ps (part-at ps k)) h
       (shown-in-range ps (part-at ps k) h (all-default InRange ps blank-part k h blank-in-range)))
 
--- settling a part, and all parts, keeps them in range
+-- settling a part keeps it in range
 settled-in-range : (k : Kind) (x : Signal) (p : Part) → InRange p → InRange (with-state p (settled-as k x (p .state)))
 unfolding settled-as
 settled-in-range Constant x p h = h
@@ -150,6 +155,7 @@ settled-in-range Hold x p h = record { a = h .a; b = h .b; held = h .held; signa
 settled-in-range Sampler x p h = h
 settled-in-range Drive x p h = h
 
+-- settling all parts keeps them in range
 pub all-settled-in-range : (ps : List Part) → All InRange ps → All InRange (all-settled ps)
 unfolding all-settled settled
 all-settled-in-range ps h =

@@ -1,26 +1,25 @@
 -- A step that stays within the time keeps a sound model sound. The new local counts are floor((t + h) / r) because the old ones are floor(t / r).
 -- Assumes nothing.
-use Prim.Native.Nat.{ℕ, _+_, _-_, _/_, _≤_, _<_}
+use Prim.Native.Nat.{ℕ, _+_, _/_, _≤_, _<_}
 use native.Mathlib.Omega.{arith}
 use mathlib.Core.Path.{_≡_, refl, sym, ap, _∙_}
-use mathlib.Core.Bool.{Bool, true, false, cond, _&&_, and-eq-true-iff}
+use mathlib.Core.Bool.{true, and-eq-true-iff}
 use mathlib.Core.List.{List, [], _∷_, map}
-use lib.ListN.{length, length-map, List·getD-map}
-use lib.Dec.{eqb, leb}
-use borrow.Author.Tests.{eqb-true, eqb-false, leb-true, le-leb}
+use lib.ListN.{length}
+use lib.Dec.{eqb}
+use borrow.Author.Tests.{eqb-true, le-leb}
 use Rattle.machine.specs.declared.time.Point.{Point}
 use Rattle.machine.specs.declared.part.Component.{Component}
 use Rattle.machine.specs.declared.part.Part.{Part}
 use Rattle.machine.specs.declared.model.Model.{Model}
-use Rattle.machine.specs.Lists.{every, All}
+use Rattle.machine.specs.Lists.{All}
 use Rattle.machine.specs.Time.{last-tick, last-microstep, point, tick, led-to, in-time, local-count, gained}
-use Rattle.machine.specs.Model.{blank-part, blank-component, part-at, reading0}
-use Rattle.machine.specs.Table.{Table, table-of}
+use Rattle.machine.specs.Model.{reading0}
+use Rattle.machine.specs.Table.{table-of}
 use Rattle.machine.specs.Step.{gain-of, moved, all-moved, step-made}
-use Rattle.machine.specs.Sound.{component-fits, state-fits, sound}
-use Rattle.laws.specs.Lists.{every-at, all-intro}
+use Rattle.machine.specs.Sound.{sound}
 use Rattle.soundness.specs.Laws.{cond-cases, map-kept, length-same-map, all-map, div-mono-any}
-use Rattle.soundness.specs.Facts.{operand-values, component-facts, table-facts, StateFits, state-facts, Soundness, sound-facts, sound-test}
+use Rattle.soundness.specs.Facts.{operand-values, ComponentFits, table-facts, StateFits, sound-facts, sound-test}
 use Rattle.soundness.specs.Ranges.{InRange, all-moved-in-range}
 use Rattle.soundness.specs.Kept.{Core, core, Counted, finished-kept, finished-states}
 
@@ -43,16 +42,13 @@ led-in-time p h far more =
 
 -- parts whose components and states fit are in range
 fitting-in-range :
-    (n t : ℕ) (ps : List Part) → every (component-fits n) (map (λ (p : Part). p .component) ps) ≡ true → every (state-fits t) ps ≡ true →
-    All InRange ps
-unfolding every
+    (n t : ℕ) (ps : List Part) → All (ComponentFits n) (map (λ (p : Part). p .component) ps) → All (StateFits t) ps → All InRange ps
 fitting-in-range n t [] cs ss = tt
 fitting-in-range n t (p ∷ ps) cs ss =
-    let (c, cs′) = and-eq-true-iff (component-fits n (p .component)) (every (component-fits n) (map (λ (p : Part). p .component) ps)) .0 cs in
-    let (s, ss′) = and-eq-true-iff (state-fits t p) (every (state-fits t) ps) .0 ss in
-    let (a, b) = operand-values (p .component .kind) (p .component .a) (p .component .b) (p .component .p) (component-facts n (p .component) c .operands) in
-    let f = state-facts t p s in
-    (record { a = a; b = b; held = f .held; signal = f .signal; output = f .output }, fitting-in-range n t ps cs′ ss′)
+    let c = p .component in
+    let s = ss .0 in
+    let (a, b) = operand-values (c .kind) (c .a) (c .b) (c .p) (cs .0 .operands) in
+    (record { a = a; b = b; held = s .held; signal = s .signal; output = s .output }, fitting-in-range n t ps (cs .1) (ss .1))
 
 -- so are those of a sound model
 pub in-range : (m : Model) → sound m ≡ true → All InRange (m .parts)
@@ -62,15 +58,15 @@ in-range m s =
     fitting-in-range (length (table-of m .parts)) (tick (m .point)) (m .parts) (table-facts (table-of m) (f .table) .components) (f .states)
 
 -- moving takes local counts of floor(t / r) to floor((t + h) / r)
-moved-counted : (t h : ℕ) (ps : List Part) → every (state-fits t) ps ≡ true → All (λ (p : Part). Counted (t + h) (core p)) (all-moved t h ps)
+moved-counted : (t h : ℕ) (ps : List Part) → All (StateFits t) ps → All (λ (p : Part). Counted (t + h) (core p)) (all-moved t h ps)
 unfolding all-moved moved gain-of gained local-count
 moved-counted t h ps f =
-    all-map (λ (p : Part). moved t h (reading0 ps p) p) (λ (p : Part). state-fits t p ≡ true) (λ (p : Part). Counted (t + h) (core p)) ps
-    (λ p e.
-    let local : p .state .local .0 ≡ t / p .ratio = state-facts t p e .local in
+    all-map (λ (p : Part). moved t h (reading0 ps p) p) (StateFits t) (λ (p : Part). Counted (t + h) (core p)) ps
+    (λ p s.
+    let local : p .state .local .0 ≡ t / p .ratio = s .local in
     let more = div-mono-any (p .ratio) t (t + h) (omega arith) in
     omega arith)
-    (all-intro (λ (p : Part). state-fits t p ≡ true) ps blank-part (λ i q. every-at (state-fits t) ps blank-part i f q))
+    f
 
 -- a step keeps whatever of the cores moving keeps
 step-kept :

@@ -3,14 +3,14 @@
 use Prim.Native.Nat.{ℕ, _+_, _<_}
 use native.Mathlib.Omega.{arith}
 use mathlib.Core.Path.{_≡_}
-use mathlib.Core.Bool.{Bool, true, false, cond, not, _&&_, and-eq-true-iff}
+use mathlib.Core.Bool.{true, false, cond}
 use mathlib.Core.List.{List}
 use lib.ListN.{length}
 use lib.Dec.{eqb, leb, ltb}
 use borrow.Author.Tests.{eqb-true, eqb-false}
 use Rattle.machine.specs.declared.part.Component.{Component}
 use Rattle.machine.specs.Table.{component-at}
-use Rattle.machine.specs.Load.{begin-byte, part-byte, span-byte, wire-byte, want-byte, known-command, command-width, byte-at, word-at, Reading, in-place, Read, onward, ended, refused, unless-refused, begin-refusal, begun-with, part-read, part-refusal, with-part, last-part, with-span, span-refusal, with-component, with-wire, wire-refusal, end-refusal, accepted, begin-read, part-command, span-command, wire-command, end-command, whole-command, command-read, read-turn}
+use Rattle.machine.specs.Load.{begin-byte, part-byte, span-byte, wire-byte, known-command, command-width, byte-at, word-at, Reading, in-place, Read, onward, ended, refused, begin-refusal, begun-with, part-read, part-refusal, with-part, last-part, with-span, span-refusal, with-component, with-wire, wire-refusal, end-refusal, accepted, begin-read, part-command, span-command, wire-command, end-command, whole-command, command-read, read-turn}
 use Rattle.laws.specs.Bools.{and-right}
 use Rattle.soundness.specs.Laws.{cond-cases}
 
@@ -18,18 +18,21 @@ use Rattle.soundness.specs.Laws.{cond-cases}
 abbrev pub open-component : Reading → Component
 open-component rd = component-at (rd .table .parts) (last-part (rd .table .parts))
 
--- what a command leaves that is not refused
+-- what a Begin leaves that is not refused
 abbrev pub after-begin : List ℕ → ℕ → Read
 after-begin bs at = onward (at + 2) (begun-with (byte-at bs (at + 1)))
 
+-- what a Part leaves that is not refused
 abbrev pub after-part : List ℕ → ℕ → Reading → Read
 after-part bs at rd = onward (at + 15) (with-part rd (part-read bs at))
 
+-- what a Span leaves that is not refused
 abbrev pub after-span : List ℕ → ℕ → Reading → Read
 after-span bs at rd =
     onward (at + 5)
     (with-component rd true (last-part (rd .table .parts)) (with-span (open-component rd) (word-at bs (at + 1))))
 
+-- what a Wire leaves that is not refused
 abbrev pub after-wire : List ℕ → ℕ → Reading → Read
 after-wire bs at rd =
     onward (at + 4)
@@ -45,13 +48,13 @@ module _
     (wire : wire-refusal (rd .table .parts) (byte-at bs (at + 1)) (byte-at bs (at + 2)) (byte-at bs (at + 3)) ≡ 0 → P (after-wire bs at rd))
     (end : end-refusal (rd .table) ≡ 0 → P (ended (accepted at (rd .table))))
   where
-    -- a refusal number that is 0, or is not
+    -- P holds of a command that its refusal number stops, or does not
     stopped : (number : ℕ) (on : Read) → (number ≡ 0 → P on) → P (cond (eqb number 0) on (ended (refused number at)))
     stopped number on h =
         cond-cases P (eqb number 0) on (ended (refused number at)) (λ e. h (eqb-true number 0 e))
         (λ e. let some = eqb-false number 0 e in refusal number at (omega arith))
 
-    -- a command that is known, in place and whole
+    -- P holds of a command that is known, in place and whole
     whole-cases : (b : ℕ) → in-place rd b ≡ true → P (whole-command bs at rd b)
     unfolding whole-command begin-read part-command span-command wire-command end-command in-place
     whole-cases b placed =
