@@ -15,7 +15,7 @@ use Rattle.machine.specs.Time.{tick}
 use Rattle.machine.specs.Kind.{period}
 use Rattle.machine.specs.Step.{gain-of}
 use Rattle.machine.specs.Accept.{Class, waiting, delaying, detecting, driving, free, class-of, due, next-multiple, allowed, largest-below, last-adding, longest-as, longest}
-use Rattle.acceptance.specs.Laws.{min-one}
+use Rattle.laws.specs.Numbers.{min-one}
 use Rattle.acceptance.specs.Spans.{largest-below-is}
 
 -- the ends of a part that is not due: the step to the next multiple of P; the last steps that add 0 and each span; none

@@ -1,6 +1,5 @@
 -- Laws of which steps a part accepts, and of one round of an advance.
 pub mod Ends
-pub mod Laws
 pub mod Longest
 pub mod Rounds
 pub mod SoundParts

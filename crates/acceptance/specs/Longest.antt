@@ -21,7 +21,7 @@ use Rattle.machine.specs.Step.{gain-of}
 use Rattle.machine.specs.Accept.{Class, waiting, delaying, detecting, driving, free, class-of, due, next-multiple, AcceptsAs, Accepts, allowed, largest-below, last-adding, longest-as, longest}
 use Rattle.laws.specs.Bools.{or-cases, or-left, or-right}
 use Rattle.laws.specs.Lists.{member-in, in-member}
-use Rattle.laws.specs.Numbers.{div-mono}
+use Rattle.laws.specs.Numbers.{div-grows}
 use Rattle.acceptance.specs.Spans.{added, last-adding-adds, last-adding-most, last-adding-within, largest-below-is}
 
 -- a part is in good order at tick t: its ratio is positive, its local count is floor(t / r), and where it waits for multiples of P that is positive
@@ -91,7 +91,7 @@ drive-longest spans r t h positive = by-test (allowed spans (added r t h)) refl
           itself = rw (last-adding-adds r t v positive) (List·Memᴰ·cases-cons (largest-below-is spans (added r t h) .among));
           most =
               λ j few one.
-              let earlier : (t + j) / r ≤ (t + h) / r = div-mono r (t + j) (t + h) positive (omega arith) in
+              let earlier : (t + j) / r ≤ (t + h) / r = div-grows r (t + j) (t + h) (omega arith) in
               last-adding-most r t v positive j (allowed-most spans (added r t h) (added r t j) e (omega arith) one);
         }
 

@@ -15,7 +15,9 @@ use Rattle.machine.specs.Model.{blank-part, part-at, reading0}
 use Rattle.machine.specs.Accept.{longest}
 use Rattle.machine.specs.Advance.{least, round}
 use Rattle.machine.specs.WholeList.{AllAccept}
-use Rattle.acceptance.specs.Laws.{min-one, below, below-few, below-drops, flatMap-few}
+use Rattle.laws.specs.Lists.{flatMap-few}
+use Rattle.laws.specs.Numbers.{min-one}
+use Rattle.laws.specs.Below.{below, below-few, below-mono, below-drops}
 use Rattle.acceptance.specs.Longest.{Fit, longest-within, longest-accepted, longest-most}
 use Rattle.acceptance.specs.Ends.{ends, ends-few, longest-drops}
 
@@ -120,6 +122,11 @@ pot-bound m few h =
     (λ i within.
     let p = part-at (m .parts) i in
     ends-few p (m .point) (reading0 (m .parts) p) (few i within)))
+
+-- no fewer lie below a larger h
+pub pot-mono : (m : Model) (j h : ℕ) → j ≤ h → pot m j ≤ pot m h
+unfolding pot
+pot-mono m j h le = below-mono j h (flatMap (ends-in m) (m .parts)) le
 
 -- where a round lowers h, fewer ends lie below
 pub round-drops : (m : Model) (h : ℕ) → (round m h ≡ h → ⊥) → pot m (round m h) < pot m h

@@ -11,7 +11,7 @@ use mathlib.Core.List.{List, [], _∷_, foldl, List·Memᴰ, List·Memᴰ·head,
 use lib.Dec.{ltb}
 use borrow.Author.Tests.{ltb-true, ltb-false}
 use Rattle.machine.specs.Accept.{last-adding, largest-below}
-use Rattle.acceptance.specs.Laws.{max-one}
+use Rattle.laws.specs.Numbers.{max-one}
 
 -- the local ticks of r master ticks that a step of h from tick t adds
 abbrev pub added : ℕ → ℕ → ℕ → ℕ

@@ -1,7 +1,9 @@
 -- Laws of tests: a test is a Bool, and what it shows is an equation with true or false. Assumes nothing.
-use mathlib.Core.Path.{_≡_, refl}
+use Prim.Native.Nat.{ℕ, suc, _≤_, _<_}
+use native.Mathlib.Nat.{eq-or-lt-of-le}
+use mathlib.Core.Path.{_≡_, refl, ap, sym, _∙_}
 use mathlib.Core.Bool.{Bool, true, false, cond, _&&_, _||_, true≢false, false≢true}
-use mathlib.Core.Logic.{_⊎_, inl, inr}
+use mathlib.Core.Logic.{_⊎_, inl, inr, ⊎-elim}
 
 -- a test is true or false, with the equation
 pub either : (b : Bool) → (b ≡ true) ⊎ (b ≡ false)
@@ -20,6 +22,11 @@ and-right false b h = absurd (false≢true h)
 pub and-intro : (a b : Bool) → a ≡ true → b ≡ true → a && b ≡ true
 and-intro true b ha hb = hb
 and-intro false b ha hb = ha
+
+-- one of two tests fails where not both hold
+pub and-false-cases : (a b : Bool) → a && b ≡ false → (a ≡ false) ⊎ (b ≡ false)
+and-false-cases true b h = inr h
+and-false-cases false b h = inl refl
 
 -- one of two tests holds
 pub or-cases : (a b : Bool) → a || b ≡ true → (a ≡ true) ⊎ (b ≡ true)
@@ -56,3 +63,8 @@ cond-false false x y h = refl
 pub cond-cases {ℓ κ} : {A : Type ℓ} (P : A → Type κ) (b : Bool) (x y : A) → (b ≡ true → P x) → (b ≡ false → P y) → P (cond b x y)
 cond-cases P true x y on-true on-false = on-true refl
 cond-cases P false x y on-true on-false = on-false refl
+
+-- a test of numbers that fails at k, and from k + 1 on up to n, fails from k on
+pub fails-from : (test : ℕ → Bool) (n k : ℕ) → test k ≡ false → ((j : ℕ) → suc k ≤ j → j < n → test j ≡ false) →
+    (j : ℕ) → k ≤ j → j < n → test j ≡ false
+fails-from test n k e later j h l = ⊎-elim (λ same. ap test (sym same) ∙ e) (λ more. later j more l) (eq-or-lt-of-le h)

@@ -1,4 +1,9 @@
 -- Laws that speak of no part and no model.
 pub mod Bools
 pub mod Lists
+pub mod Alls
+pub mod Last
 pub mod Numbers
+pub mod Below
+pub mod Marks
+pub mod Once

@@ -1,15 +1,18 @@
--- Laws of lists: `every`, `any`, `member` and `same` as statements, elements of mapped lists, and what holds of all elements. Assumes nothing.
-use Prim.Native.Nat.{ℕ, zero, suc, _<_}
+-- Laws of lists: `every`, `any`, `member` and `same` as statements, elements of mapped lists, what holds of all elements, and where an element
+-- stands. Assumes nothing.
+use Prim.Native.Nat.{ℕ, zero, suc, _*_, _≤_, _<_}
 use native.Mathlib.Omega.{arith}
-use mathlib.Core.Path.{_≡_, refl, ap, ap₂}
+use native.Mathlib.Nat.{mul-suc}
+use mathlib.Core.Path.{_≡_, refl, ap, ap₂, sym, subst, _∙_}
 use mathlib.Core.Bool.{Bool, true, false, false≢true}
-use mathlib.Core.Logic.{_⊎_, inl, inr}
-use mathlib.Core.List.{List, [], _∷_, map, List·Memᴰ, List·Memᴰ·head, List·Memᴰ·tail, List·Memᴰ·not-nil, List·Memᴰ·cases-cons}
-use lib.ListN.{length, getD}
+use mathlib.Core.Logic.{_⊎_, inl, inr, ⊎-elim}
+use mathlib.Core.List.{List, [], _∷_, _++_, append-nil, map, flatMap, List·Memᴰ, List·Memᴰ·head, List·Memᴰ·tail, List·Memᴰ·not-nil, List·Memᴰ·cases-cons, List·Memᴰ·eq-of-singleton, List·Memᴰ·append-cases}
+use lib.ListN.{length, getD, length-append}
+use lib.Seq.{append-snoc}
 use lib.Dec.{eqb}
 use borrow.Author.Tests.{eqb-true, eq-eqb}
 use Rattle.machine.specs.Lists.{every, any, member, same, All}
-use Rattle.laws.specs.Bools.{and-left, and-right, and-intro, or-cases, or-left, or-right, or-false-left, or-false-right}
+use Rattle.laws.specs.Bools.{either, and-left, and-right, and-intro, or-cases, or-left, or-right, or-false-left, or-false-right}
 
 module _ {ℓ} {A : Type ℓ} where
   -- what `every` says at each index, and back
@@ -73,10 +76,6 @@ pub map-cong {ℓ ℓ′} : {A : Type ℓ} {B : Type ℓ′} (f g : A → B) (l 
 map-cong f g [] d h = refl
 map-cong f g (x ∷ xs) d h = ap₂ _∷_ (h 0 (omega arith)) (map-cong f g xs d (λ i p. h (suc i) (omega arith)))
 
-pub map-map {ℓ} : {A B C : Type ℓ} (f : A → B) (g : B → C) (l : List A) → map g (map f l) ≡ map (λ x. g (f x)) l
-map-map f g [] = refl
-map-map f g (x ∷ xs) = ap (λ t. g (f x) ∷ t) (map-map f g xs)
-
 -- lists of numbers that are the same are equal, and back
 pub same-equal : (xs ys : List ℕ) → same xs ys ≡ true → xs ≡ ys
 unfolding same
@@ -90,6 +89,9 @@ pub same-refl : (xs : List ℕ) → same xs xs ≡ true
 unfolding same
 same-refl [] = refl
 same-refl (x ∷ xs) = and-intro (eqb x x) (same xs xs) (eq-eqb x x refl) (same-refl xs)
+
+pub equal-same : (xs ys : List ℕ) → xs ≡ ys → same xs ys ≡ true
+equal-same xs ys e = rw e (same-refl ys)
 
 -- `member` as membership, and back
 pub member-in : (n : ℕ) (xs : List ℕ) → member n xs ≡ true → List·Memᴰ n xs
@@ -109,3 +111,43 @@ in-member n (x ∷ xs) m = at-head-or-later (List·Memᴰ·cases-cons m) (in-mem
     at-head-or-later : (n ≡ x) ⊎ List·Memᴰ n xs → (List·Memᴰ n xs → member n xs ≡ true) → member n (x ∷ xs) ≡ true
     at-head-or-later (inl e) later = or-left (eqb n x) (member n xs) (eq-eqb n x e)
     at-head-or-later (inr m′) later = or-right (eqb n x) (member n xs) (later m′)
+
+-- a number is in a list, or is not
+pub in-or-not : (k : ℕ) (ks : List ℕ) → List·Memᴰ k ks ⊎ (List·Memᴰ k ks → ⊥)
+in-or-not k ks = by-test (either (member k ks))
+  where
+    by-test : (member k ks ≡ true) ⊎ (member k ks ≡ false) → List·Memᴰ k ks ⊎ (List·Memᴰ k ks → ⊥)
+    by-test (inl e) = inl (member-in k ks e)
+    by-test (inr e) = inr (λ m. false≢true (sym e ∙ in-member k ks m))
+
+-- a list with an element in it splits there
+pub split-in {ℓ} : {A : Type ℓ} {a : A} {l : List A} → List·Memᴰ a l → (front : List A) × (back : List A) × (l ≡ front ++ a ∷ back)
+split-in (List·Memᴰ·head {xs = xs} e) = ([], xs, ap (λ x. x ∷ xs) (sym e))
+split-in (List·Memᴰ·tail {x = x} m) = let (front, back, e) = split-in m in (x ∷ front, back, ap (λ l. x ∷ l) e)
+
+-- induction along a list: what holds of each element where it holds of those before it, holds of all
+module _
+    (ks : List ℕ)
+    (P : ℕ → Type 0)
+    (step : (front back : List ℕ) (k : ℕ) → ks ≡ front ++ k ∷ back → ((i : ℕ) → List·Memᴰ i front → P i) → P k) where
+  -- from a front of which it holds already, it goes on along what is left of the list
+  along-from : (back front : List ℕ) → ks ≡ front ++ back → ((i : ℕ) → List·Memᴰ i front → P i) → (i : ℕ) → List·Memᴰ i ks → P i
+  along-from [] front e before = λ i m. before i (rw (e, append-nil) at m)
+  along-from (k ∷ back) front e before =
+      along-from back (front ++ (k ∷ [])) (e ∙ sym (append-snoc front k back)) (λ j n.
+      ⊎-elim (before j) (λ o. subst P (sym (List·Memᴰ·eq-of-singleton o)) (step front back k e before)) (List·Memᴰ·append-cases front n))
+
+  -- from the empty front on
+  pub along : (i : ℕ) → List·Memᴰ i ks → P i
+  along = along-from ks [] refl (λ j n. absurd (List·Memᴰ·not-nil n))
+
+-- lists of at most n numbers for each element of a list are together at most n times as long as it
+pub flatMap-few :
+    {A : Type 0} (f : A → List ℕ) (l : List A) (d : A) (n : ℕ) → ((i : ℕ) → i < length l → length (f (getD l i d)) ≤ n) →
+    length (flatMap f l) ≤ n * length l
+unfolding flatMap
+flatMap-few f [] d n few = omega arith
+flatMap-few f (x ∷ xs) d n few =
+    let head : length (f x) ≤ n = few 0 (omega arith) in
+    let rest : length (flatMap f xs) ≤ n * length xs = flatMap-few f xs d n (λ i p. few (suc i) (omega arith)) in
+    rw (length-append (f x) (flatMap f xs), mul-suc n (length xs)) (omega arith)

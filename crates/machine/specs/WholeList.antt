@@ -50,7 +50,7 @@ unfoldable pub sum : List ℕ → ℕ
 sum [] = 0
 sum (h ∷ hs) = h + sum hs
 
--- "ONE claim about the whole list" of calls from the model m, whose last model is z
+-- "ONE claim about the whole list" of calls from the model m
 pub record WholeList (m : Model) (cs : List Call) : Type 0 where
   -- "final model = committed steps alone"
   pub same : trimmed (last-model m cs) ≡ steps-made (trimmed m) (committed cs)

@@ -6,7 +6,7 @@ use Prim.Native.Nat.{ℕ, _<_}
 use native.Mathlib.Omega.{arith}
 use mathlib.Core.Path.{_≡_, refl, ap, ap₂, sym, _∙_}
 use mathlib.Core.Logic.{⊎-elim}
-use mathlib.Core.List.{List, [], _∷_, _++_, map, List·Memᴰ, List·Memᴰ·head, List·Memᴰ·tail, Memᴰ·append-right}
+use mathlib.Core.List.{List, [], _∷_, _++_, map, map-map, List·Memᴰ, List·Memᴰ·head, List·Memᴰ·tail, Memᴰ·append-right}
 use lib.ListN.{length, set, length-map, List·getD-map, List·getD-eq-default}
 use lib.Seq.{getD-set-same, getD-set-other, map-set-same, ext-getD}
 use Rattle.machine.specs.declared.time.Point.{Point}
@@ -14,8 +14,8 @@ use Rattle.machine.specs.declared.part.Part.{Part}
 use Rattle.machine.specs.Model.{blank-part, part-at}
 use Rattle.machine.specs.Table.{DirectWire}
 use Rattle.machine.specs.Step.{with-output, shown, filled}
-use Rattle.laws.specs.Lists.{map-map}
-use Rattle.ordering.specs.Laws.{Once, split-in, in-or-not, once-apart, once-rest, along}
+use Rattle.laws.specs.Lists.{split-in, in-or-not, along}
+use Rattle.laws.specs.Once.{Once, once-apart, once-rest}
 use Rattle.ordering.specs.Order.{CompleteOrder}
 use Rattle.ordering.specs.Row.{unshown, row, stored, row-kept, components, components-length, row-at}
 
@@ -35,7 +35,7 @@ kept-at ps qs e i = sym (List·getD-map unshown qs i blank-part) ∙ (ap (λ l. 
 -- and so are the components
 kept-components : (ps qs : List Part) → map unshown qs ≡ map unshown ps → components qs ≡ components ps
 kept-components ps qs e =
-    sym (map-map unshown (λ (p : Part). p .component) qs) ∙ (ap components e ∙ map-map unshown (λ (p : Part). p .component) ps)
+    sym (map-map (λ (p : Part). p .component) unshown qs) ∙ (ap components e ∙ map-map (λ (p : Part). p .component) unshown ps)
 
 module _ (old : List Part) (now : Point) where
   -- filling in an order changes nothing but stored outputs

@@ -1,5 +1,4 @@
 -- Laws of the order of parts, and of filling a point's outputs in that order.
-pub mod Laws
 pub mod Order
 pub mod Stuck
 pub mod Row

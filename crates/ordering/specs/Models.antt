@@ -4,7 +4,7 @@
 use Prim.Native.Nat.{ℕ, _<_}
 use mathlib.Core.Path.{_≡_, refl, ap, sym, _∙_}
 use mathlib.Core.Bool.{true}
-use mathlib.Core.List.{List, [], map, map-id}
+use mathlib.Core.List.{List, [], map, map-map, map-id}
 use lib.ListN.{length, getD, length-map, List·getD-map}
 use Rattle.machine.specs.declared.time.Point.{Point}
 use Rattle.machine.specs.declared.signal.Signal.{Signal}
@@ -19,7 +19,7 @@ use Rattle.machine.specs.Model.{blank-part, part-at, reading0}
 use Rattle.machine.specs.Table.{Table, part-order, ordered}
 use Rattle.machine.specs.Step.{moved, filled, settled-as, settled, all-moved, all-settled, step-made}
 use Rattle.machine.specs.Fresh.{first-part, first-parts, fresh}
-use Rattle.laws.specs.Lists.{map-map, map-cong}
+use Rattle.laws.specs.Lists.{map-cong}
 use Rattle.ordering.specs.Order.{order-complete}
 use Rattle.ordering.specs.Row.{row, stored, row-direct, components}
 use Rattle.ordering.specs.Filling.{Filling, filled-filling}
@@ -48,7 +48,7 @@ outputs qs = map (λ (p : Part). p .state .output) qs
 outputs-settled : (qs : List Part) → outputs (all-settled qs) ≡ outputs qs
 unfolding all-settled settled
 outputs-settled qs =
-    map-map (λ (p : Part). settled (reading0 qs p) p) (λ (p : Part). p .state .output) qs ∙
+    map-map (λ (p : Part). p .state .output) (λ (p : Part). settled (reading0 qs p) p) qs ∙
     map-cong (λ (p : Part). settled (reading0 qs p) p .state .output) (λ (p : Part). p .state .output) qs blank-part
     (λ i h. settled-as-output (part-at qs i .component .kind) (reading0 qs (part-at qs i)) (part-at qs i .state))
 
@@ -67,7 +67,7 @@ settled-rows old now ps qs f i h =
 -- a step moves parts and keeps their components
 moved-components : (t h : ℕ) (ps : List Part) → components (all-moved t h ps) ≡ components ps
 unfolding all-moved moved
-moved-components t h ps = map-map (λ (p : Part). moved t h (reading0 ps p) p) (λ (p : Part). p .component) ps
+moved-components t h ps = map-map (λ (p : Part). p .component) (λ (p : Part). moved t h (reading0 ps p) p) ps
 
 module _
     (m : Model)
@@ -95,7 +95,7 @@ module _
 -- the first parts have the table's components
 first-components : (t : Table) → components (first-parts t) ≡ t .parts
 unfolding first-parts first-part
-first-components t = map-map (first-part t) (λ (p : Part). p .component) (t .parts) ∙ map-id (t .parts)
+first-components t = map-map (λ (p : Part). p .component) (first-part t) (t .parts) ∙ map-id (t .parts)
 
 module _ (t : Table) (full : ordered (t .parts) ≡ true) where
   -- before settling: the start point is filled from the first parts

@@ -17,8 +17,10 @@ use Rattle.machine.specs.declared.part.Source.the-variants.{From}
 use Rattle.machine.specs.Kind.{direct0, direct1}
 use Rattle.machine.specs.Model.{blank-component}
 use Rattle.machine.specs.Table.{component-at, source-placed, ready, lowest-ready, next-part, placed, part-order, ordered, DirectWire}
-use Rattle.laws.specs.Bools.{either, and-left, and-right}
-use Rattle.ordering.specs.Laws.{fails-from, Once, in-or-not, cleared, clear-set, marked-before, cleared-other, once-short, once-all}
+use Rattle.laws.specs.Bools.{either, and-left, and-right, fails-from}
+use Rattle.laws.specs.Lists.{in-or-not}
+use Rattle.laws.specs.Marks.{cleared, clear-set, marked-before, cleared-other}
+use Rattle.laws.specs.Once.{Once, once-short, once-all}
 
 -- part k may go next: it is unplaced, and its direct sources are placed
 abbrev pub may-go : List Component → List Bool → ℕ → Bool

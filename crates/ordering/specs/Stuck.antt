@@ -16,8 +16,10 @@ use Rattle.machine.specs.declared.part.Source.{Source}
 use Rattle.machine.specs.declared.part.Source.the-variants.{Unwired, From}
 use Rattle.machine.specs.Kind.{direct0, direct1}
 use Rattle.machine.specs.Table.{component-at, source-placed, ready, lowest-ready, next-part, placed, part-order, ordered, DirectWire, Chained, Loop}
-use Rattle.laws.specs.Bools.{either}
-use Rattle.ordering.specs.Laws.{and-false, Once, split-in, in-or-not, once-apart, cleared, cleared-marked, left, left-cleared, left-replicate, one-left, marked-below}
+use Rattle.laws.specs.Bools.{either, and-false-cases}
+use Rattle.laws.specs.Lists.{split-in, in-or-not}
+use Rattle.laws.specs.Marks.{marked-below, cleared, cleared-marked, left, left-replicate, one-left}
+use Rattle.laws.specs.Once.{Once, once-apart, left-cleared}
 use Rattle.ordering.specs.Order.{may-go, Found, lowest-found, all-marked, order-once, order-below, order-all, order-after}
 
 -- a port whose source is not placed: it is direct, and its source is marked
@@ -37,7 +39,7 @@ source-marked cs marks k h e =
     let first : Bool = not (direct0 (c .kind)) || source-placed marks (c .port0) in
     let second : Bool = not (direct1 (c .kind)) || source-placed marks (c .port1) in
     ⊎-elim (λ f. let (i, d, from, m) = port-marked marks (direct0 (c .kind)) (c .port0) f in (i, (h, inl (d, from)), m))
-    (λ f. let (i, d, from, m) = port-marked marks (direct1 (c .kind)) (c .port1) f in (i, (h, inr (d, from)), m)) (and-false first second e)
+    (λ f. let (i, d, from, m) = port-marked marks (direct1 (c .kind)) (c .port1) f in (i, (h, inr (d, from)), m)) (and-false-cases first second e)
 
 -- no part may go
 abbrev NoneMayGo : List Component → List Bool → Type 0

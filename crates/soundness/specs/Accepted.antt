@@ -14,8 +14,9 @@ use Rattle.machine.specs.Table.{Table, component-at}
 use Rattle.machine.specs.Fresh.{fresh}
 use Rattle.machine.specs.Load.{is-drive, byte-at, word-at, Reading, nothing-read, Read, onward, ended, begin-refusal, begun-with, part-read, part-refusal, with-part, last-part, with-span, span-refusal, with-component, with-wire, wire-refusal, end-refusal, accepted, read-turn, read-on, read-from, load}
 use Rattle.machine.specs.Sound.{table-fits}
+use Rattle.laws.specs.Last.{length-added, last-of-added, last-of-set}
+use Rattle.laws.specs.Alls.{all-set, all-added, all-give}
 use Rattle.laws.specs.Lists.{all-at}
-use Rattle.soundness.specs.Laws.{all-set, all-added, all-give, length-added, last-of-added, last-of-set}
 use Rattle.soundness.specs.Facts.{ComponentFits, table-test}
 use Rattle.soundness.specs.Turns.{open-component, turn-cases}
 use Rattle.soundness.specs.Passed.{begin-passed, part-passed, wire-passed, end-passed, component-more, part-fits, span-fits, wire-fits}

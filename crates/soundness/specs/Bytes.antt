@@ -20,7 +20,7 @@ use Rattle.machine.specs.Table.{Table, table-of}
 use Rattle.machine.specs.Fresh.{fresh}
 use Rattle.machine.specs.Load.{wire-byte, end-byte, is-drive, source-of, wired, with-wire, end-refusal, accepted, load}
 use Rattle.machine.specs.Sound.{source-fits, spans-rise, table-fits}
-use Rattle.soundness.specs.Laws.{length-added, last-of-added}
+use Rattle.laws.specs.Last.{length-added, last-of-added}
 use Rattle.soundness.specs.Facts.{ComponentFits, TableFits, table-facts}
 use Rattle.soundness.specs.Fresh.{fresh-table}
 use Rattle.soundness.specs.Accepted.{load-fits}

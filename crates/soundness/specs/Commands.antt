@@ -17,7 +17,7 @@ use Rattle.machine.specs.Kind.{kind-number, kind-known, kind-of, ports, is-posi
 use Rattle.machine.specs.Model.{most-parts, most-spans, blank-component}
 use Rattle.machine.specs.Table.{Table}
 use Rattle.machine.specs.Load.{begin-byte, part-byte, span-byte, wire-byte, end-byte, known-command, command-width, preference-known, is-drive, Reading, nothing-read, in-place, onward, ended, begin-refusal, begun-with, part-read, part-refusal, with-part, last-part, last-span, with-span, span-refusal, with-component, source-of, wired, with-wire, wire-refusal, end-refusal, accepted, begin-read, part-command, span-command, wire-command, end-command, whole-command}
-use Rattle.soundness.specs.Laws.{length-added, last-of-added, set-last-of-added}
+use Rattle.laws.specs.Last.{length-added, last-of-added, set-last-of-added}
 use Rattle.soundness.specs.Facts.{operand-values, operand-small}
 use Rattle.soundness.specs.Written.{word-bytes, signed-word, part-bytes}
 use Rattle.soundness.specs.Seams.{signed-back, further, byte-there, word-there, turn-there, read-all, after-turn}

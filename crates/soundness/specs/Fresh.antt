@@ -17,7 +17,8 @@ use Rattle.machine.specs.Model.{blank-part, part-at}
 use Rattle.machine.specs.Table.{Table, table-of, component-ratio, ratios, part-order}
 use Rattle.machine.specs.Fresh.{first-state, first-part, first-parts, fresh}
 use Rattle.machine.specs.Sound.{table-fits, sound}
-use Rattle.soundness.specs.Laws.{cond-cases, all-default, all-map, all-same-map}
+use Rattle.laws.specs.Alls.{all-default, all-map, all-same-map}
+use Rattle.laws.specs.Bools.{cond-cases}
 use Rattle.soundness.specs.Facts.{operand-values, ComponentFits, table-facts, sound-test}
 use Rattle.soundness.specs.Ranges.{InRange}
 use Rattle.soundness.specs.Kept.{core, Core, Counted, finished-core, finished-kept, finished-states}

@@ -16,7 +16,7 @@ use Rattle.machine.specs.Lists.{All}
 use Rattle.machine.specs.Time.{local-count}
 use Rattle.machine.specs.Model.{blank-part, part-at, with-state, reading0}
 use Rattle.machine.specs.Step.{shown, filled, settled-as, settled, all-settled}
-use Rattle.soundness.specs.Laws.{map-kept, all-same-map}
+use Rattle.laws.specs.Alls.{map-kept, all-same-map}
 use Rattle.soundness.specs.Facts.{StateFits}
 use Rattle.soundness.specs.Ranges.{InRange, filled-in-range, all-settled-in-range}
 

@@ -1,5 +1,4 @@
 -- Soundness tied to loading, and kept by steps. The results are in Fresh, Stepped, Accepted, Fuel and Bytes; the other files carry them.
-pub mod Laws
 pub mod Facts
 pub mod Ranges
 pub mod Kept

@@ -16,7 +16,8 @@ use Rattle.machine.specs.Model.{most-parts, most-spans}
 use Rattle.machine.specs.Table.{Table, component-at, periods-fit, ordered}
 use Rattle.machine.specs.Load.{preference-known, is-drive, begin-refusal, part-read, part-refusal, last-span, with-span, span-refusal, source-of, wired, with-wire, wire-refusal, end-refusal}
 use Rattle.machine.specs.Sound.{source-fits, spans-rise}
-use Rattle.soundness.specs.Laws.{cond-cases, length-added, last-of-tail}
+use Rattle.laws.specs.Last.{length-added, last-of-tail}
+use Rattle.laws.specs.Bools.{cond-cases}
 use Rattle.soundness.specs.Facts.{ComponentFits}
 
 -- where the number picked is 0 and the first is above 0, it is not the first

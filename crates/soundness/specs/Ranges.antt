@@ -25,7 +25,8 @@ use Rattle.machine.specs.Signal.{largest-value, is-value, clamp, is-signal, int
 use Rattle.machine.specs.Kind.{period, positive-multiple, half-waves, square, pulse, mark-signal, output-as, output, integrates}
 use Rattle.machine.specs.Model.{blank-part, part-at, with-state, reading, reading0, reading1}
 use Rattle.machine.specs.Step.{gain-of, moved-held, moved, shown, filled, settled-as, settled, all-moved, all-settled}
-use Rattle.soundness.specs.Laws.{cond-cases, all-default, all-set, all-map}
+use Rattle.laws.specs.Alls.{all-default, all-set, all-map}
+use Rattle.laws.specs.Bools.{cond-cases}
 
 -- clamping gives a value
 pub clamp-value : (z : ℤ) → is-value (clamp z) ≡ true

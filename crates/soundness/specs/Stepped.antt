@@ -18,7 +18,9 @@ use Rattle.machine.specs.Model.{reading0}
 use Rattle.machine.specs.Table.{table-of}
 use Rattle.machine.specs.Step.{gain-of, moved, all-moved, step-made}
 use Rattle.machine.specs.Sound.{sound}
-use Rattle.soundness.specs.Laws.{cond-cases, map-kept, length-same-map, all-map, div-mono-any}
+use Rattle.laws.specs.Numbers.{div-grows}
+use Rattle.laws.specs.Alls.{map-kept, length-same-map, all-map}
+use Rattle.laws.specs.Bools.{cond-cases}
 use Rattle.soundness.specs.Facts.{operand-values, ComponentFits, table-facts, StateFits, sound-facts, sound-test}
 use Rattle.soundness.specs.Ranges.{InRange, all-moved-in-range}
 use Rattle.soundness.specs.Kept.{Core, core, Counted, finished-kept, finished-states}
@@ -64,7 +66,7 @@ moved-counted t h ps f =
     all-map (λ (p : Part). moved t h (reading0 ps p) p) (StateFits t) (λ (p : Part). Counted (t + h) (core p)) ps
     (λ p s.
     let local : p .state .local .0 ≡ t / p .ratio = s .local in
-    let more = div-mono-any (p .ratio) t (t + h) (omega arith) in
+    let more = div-grows (p .ratio) t (t + h) (omega arith) in
     omega arith)
     f
 

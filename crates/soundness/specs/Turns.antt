@@ -11,8 +11,7 @@ use borrow.Author.Tests.{eqb-true, eqb-false}
 use Rattle.machine.specs.declared.part.Component.{Component}
 use Rattle.machine.specs.Table.{component-at}
 use Rattle.machine.specs.Load.{begin-byte, part-byte, span-byte, wire-byte, known-command, command-width, byte-at, word-at, Reading, in-place, Read, onward, ended, refused, begin-refusal, begun-with, part-read, part-refusal, with-part, last-part, with-span, span-refusal, with-component, with-wire, wire-refusal, end-refusal, accepted, begin-read, part-command, span-command, wire-command, end-command, whole-command, command-read, read-turn}
-use Rattle.laws.specs.Bools.{and-right}
-use Rattle.soundness.specs.Laws.{cond-cases}
+use Rattle.laws.specs.Bools.{and-right, cond-cases}
 
 -- the component that a span is added to: the last one read
 abbrev pub open-component : Reading → Component

@@ -2,6 +2,7 @@
 -- at most `most` that every lower h uses up. Assumes nothing.
 use Prim.Native.Nat.{ℕ, _≤_, _<_}
 use mathlib.Core.Path.{_≡_}
+use mathlib.Core.Logic.{_⊎_}
 use Rattle.machine.specs.declared.model.Turn.{Turn}
 use Rattle.machine.specs.declared.model.Turn.the-variants.{Lower, Halve, Commit, Refuse}
 use Rattle.stepsearch.specs.Fuel.{Falls}
@@ -15,8 +16,8 @@ pub record Fair (turn : ℕ → Turn) (ok : ℕ → Type 0) (pot : ℕ → ℕ) 
   pub halve : (h : ℕ) → turn h ≡ Halve → 2 ≤ h
   -- only a step that is ok is committed
   pub commit : (h : ℕ) → turn h ≡ Commit → ok h
-  -- a refusal has a number other than 0, and comes at 0 alone
-  pub refuse : (h k : ℕ) → turn h ≡ Refuse k → (h ≡ 0) × (k ≡ 0 → ⊥)
+  -- a refusal comes at 0 alone, and has the number 21 or 22
+  pub refuse : (h k : ℕ) → turn h ≡ Refuse k → (h ≡ 0) × ((k ≡ 21) ⊎ (k ≡ 22))
   -- the potential is bounded, and no smaller at a larger h
   pub bound : (h : ℕ) → pot h ≤ most
   pub mono : (j h : ℕ) → j ≤ h → pot j ≤ pot h

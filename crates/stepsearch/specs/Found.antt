@@ -4,6 +4,7 @@
 use Prim.Native.Nat.{ℕ, zero, suc, _+_, _/_, _^_, _≤_, _<_}
 use native.Mathlib.Omega.{arith}
 use mathlib.Core.Path.{_≡_, refl}
+use mathlib.Core.Logic.{_⊎_, inl, inr, ⊎-elim}
 use Rattle.machine.specs.declared.model.Turn.{Turn}
 use Rattle.machine.specs.declared.model.Turn.the-variants.{Lower, Halve, Commit, Refuse}
 use Rattle.machine.specs.Advance.{Outcome, followed, search-from, longest-wanted}
@@ -11,6 +12,8 @@ use Rattle.stepsearch.specs.Fair.{Fair}
 
 -- what holds of the outcome o of a search that was asked for w
 pub record Found (turn : ℕ → Turn) (ok : ℕ → Type 0) (most w : ℕ) (o : Outcome) : Type 0 where
+  -- it ends with a step committed, or with the number 21 or 22
+  pub number : (o .number ≡ 0) ⊎ ((o .number ≡ 21) ⊎ (o .number ≡ 22))
   -- a committed step is ok, and was committed by the turn at it
   pub committed : o .number ≡ 0 → ok (o .step)
   pub ended : o .number ≡ 0 → turn (o .step) ≡ Commit
@@ -82,6 +85,7 @@ module _ {turn : ℕ → Turn} {ok : ℕ → Type 0} {pot : ℕ → ℕ} {most :
       later (h / 2) (h / 2) (n + 1) (v + 1) b′ (omega arith) next
   followed-found Commit on c h n v b e so-far later =
       record {
+        number = inl refl;
         committed = λ z. fair .commit h e;
         ended = λ z. e;
         step-zero = λ z. absurd (z refl);
@@ -93,10 +97,12 @@ module _ {turn : ℕ → Turn} {ok : ℕ → Type 0} {pot : ℕ → ℕ} {most :
         revisions = omega arith;
       }
   followed-found (Refuse k) on c h n v b e so-far later =
-      let (at-zero, number) = fair .refuse h k e in
+      let (at-zero, which) = fair .refuse h k e in
+      let other : k ≡ 0 → ⊥ = λ z. ⊎-elim (λ n. omega arith) (λ n. omega arith) which in
       record {
-        committed = λ z. absurd (number z);
-        ended = λ z. absurd (number z);
+        number = inr which;
+        committed = λ z. absurd (other z);
+        ended = λ z. absurd (other z);
         step-zero = λ z. refl;
         refused = λ z. rw at-zero at e;
         within = omega arith;

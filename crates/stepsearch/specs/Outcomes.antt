@@ -103,7 +103,3 @@ outcome-facts m pot w owes = facts (ℕ-discrete (barred m w) 0)
 pub advance-counts : (m : Model) (w : ℕ) → counts-of (advance m w) ≡ outcome m w
 unfolding counts-of advance answer-with
 advance-counts m w = refl
-
--- so the counts of every answer have it too
-pub advance-facts : (m : Model) (pot : ℕ → ℕ) (w : ℕ) → (barred m w ≡ 0 → RoundOwes m pot) → OutcomeFacts m (counts-of (advance m w))
-advance-facts m pot w owes = rw (advance-counts m w) (outcome-facts m pot w owes)

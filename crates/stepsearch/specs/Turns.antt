@@ -4,6 +4,7 @@ use Prim.Native.Nat.{ℕ, _*_, _≤_, _<_}
 use native.Mathlib.Omega.{arith}
 use mathlib.Core.Path.{_≡_, refl, sym, subst}
 use mathlib.Core.Bool.{Bool, true, false, not, _&&_, false≢true}
+use mathlib.Core.Logic.{_⊎_, inl, inr}
 use lib.ListN.{length}
 use lib.Dec.{eqb, ltb}
 use borrow.Author.Tests.{eqb-true, eqb-false, ltb-true, eq-eqb}
@@ -23,14 +24,14 @@ use Rattle.laws.specs.Lists.{any-one}
 use Rattle.stepsearch.specs.Fair.{Fair}
 use Rattle.stepsearch.specs.Frame.{made-length, made-component, made-ratio}
 
--- what each turn at h shows: whether the round changed h, whether a part objects to the trial, and where h may be 0
+-- what each turn at h shows: whether the round changed h, whether a part objects to the trial, where h may be 0, and the numbers of refusals
 abbrev pub Told : Model → ℕ → Turn → Type 0
 Told m h (Lower l) = (round m h ≡ l) × (round m h ≡ h → ⊥)
 Told m h Halve = (round m h ≡ h) × (any-objects h (step-made m h) ≡ true)
 Told m h Commit =
     (round m h ≡ h) × (any-objects h (step-made m h) ≡ false) ×
     (h ≡ 0 → (any-due m ≡ true) × (m .point .n ≡ last-microstep → ⊥))
-Told m h (Refuse k) = (h ≡ 0) × (k ≡ 0 → ⊥)
+Told m h (Refuse k) = (h ≡ 0) × ((k ≡ 21) ⊎ (k ≡ 22))
 
 -- a step of 0 that is not refused has a part due, before the last microstep
 zero-told : (is-zero is-due is-last : Bool) → is-zero && not is-due ≡ false → is-zero && is-due && is-last ≡ false → is-zero ≡ true →
@@ -46,9 +47,9 @@ tried-told m h same =
     let is-zero = eqb h 0 in
     let is-last = eqb (m .point .n) last-microstep in
     cond-cases (Told m h) (is-zero && not (any-due m)) _ _
-    (λ idle. (eqb-true h 0 (and-left is-zero (not (any-due m)) idle), omega arith))
+    (λ idle. (eqb-true h 0 (and-left is-zero (not (any-due m)) idle), inr refl))
     (λ not-idle. cond-cases (Told m h) (is-zero && any-due m && is-last) _ _
-    (λ ended. (eqb-true h 0 (and-left is-zero (any-due m) (and-left (is-zero && any-due m) is-last ended)), omega arith))
+    (λ ended. (eqb-true h 0 (and-left is-zero (any-due m) (and-left (is-zero && any-due m) is-last ended)), inl refl))
     (λ not-last. cond-cases (Told m h) (any-objects h (step-made m h)) _ _
     (λ some. (same, some))
     (λ none. (
@@ -96,8 +97,8 @@ module _ {m : Model} {pot : ℕ → ℕ} (owes : RoundOwes m pot) where
       let (i, p, objects-i) = any-one (objects h) (step-made m h .parts) blank-part e in
       let here : i < length (m .parts) = rw made-length at p in
       let (detects, below) = objecting (class-of (part-at (step-made m h .parts) i)) h (part-at (step-made m h .parts) i) objects-i in
-      let above-zero = owes .positive i here (rw (made-component m h i here) at detects) in
-      let below-h : period (part-at (m .parts) i) < h = rw (made-component m h i here, made-ratio m h i here) at below in
+      let above-zero = owes .positive i here (rw (made-component m h i) at detects) in
+      let below-h : period (part-at (m .parts) i) < h = rw (made-component m h i, made-ratio m h i) at below in
       omega arith
 
   -- the machine's turns are fair

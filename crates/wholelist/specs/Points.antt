@@ -16,6 +16,7 @@ use Rattle.machine.specs.Kind.{positive-multiple, at-multiple}
 use Rattle.machine.specs.Accept.{next-multiple}
 use Rattle.machine.specs.WholeList.{sum}
 use Rattle.laws.specs.Bools.{either, and-intro, cond-false}
+use Rattle.soundness.specs.Stepped.{led-tick}
 
 -- the point that steps lead to, in order, and the points on the way, the last among them
 unfoldable pub point-after : Point → List ℕ → Point
@@ -30,12 +31,6 @@ points-after p (h ∷ hs) = led-to p h ∷ points-after (led-to p h) hs
 led-on : (p : Point) (h : ℕ) → 0 < h → led-to p h ≡ point (tick p + h) 0
 unfolding led-to
 led-on p h up = cond-false (eqb h 0) (point (tick p) (p .n + 1)) (point (tick p + h) 0) (ne-eqb h 0 (omega arith))
-
--- a step of h adds h to the tick
-pub led-tick : (p : Point) (h : ℕ) → tick (led-to p h) ≡ tick p + h
-unfolding led-to
-led-tick p zero = omega arith
-led-tick p (suc h) = ap tick (led-on p (suc h) (omega arith))
 
 -- steps add their sum to the tick
 pub after-tick : (p : Point) (hs : List ℕ) → tick (point-after p hs) ≡ tick p + sum hs

@@ -1,25 +1,10 @@
--- Laws that speak of no part and no model. Assumes nothing.
-use Prim.Native.Nat.{ℕ, zero, suc, _-_, _/_, _≤_, _<_}
-use native.Mathlib.Omega.{arith}
-use native.Mathlib.Nat.{div-zero}
-use native.Mathlib.Numerals.{sub-one}
+-- Laws of what holds of all elements of a list, and of lists that are mapped. Assumes nothing.
+use Prim.Native.Nat.{ℕ, zero, suc}
 use mathlib.Core.Path.{_≡_, refl, sym, ap, ap₂, _∙_}
-use mathlib.Core.Bool.{Bool, true, false, cond, and-eq-true-iff}
+use mathlib.Core.Bool.{Bool, true, and-eq-true-iff}
 use mathlib.Core.List.{List, [], _∷_, _++_, map}
-use lib.ListN.{length, getD, set, length-append, length-set, length-map}
-use lib.Seq.{getD-append-seam, set-append-seam, getD-set-same}
-use Rattle.machine.specs.Lists.{every, same, All}
-use Rattle.laws.specs.Lists.{same-refl}
-use Rattle.laws.specs.Numbers.{div-mono}
-
--- equal lists of numbers are the same
-pub equal-same : (xs ys : List ℕ) → xs ≡ ys → same xs ys ≡ true
-equal-same xs ys e = rw e (same-refl ys)
-
--- what is picked has P where each of the two has it, given what the test then says
-pub cond-cases {ℓ ℓ′} : {A : Type ℓ} (P : A → Type ℓ′) (b : Bool) (x y : A) → (b ≡ true → P x) → (b ≡ false → P y) → P (cond b x y)
-cond-cases P true x y f g = f refl
-cond-cases P false x y f g = g refl
+use lib.ListN.{length, getD, set, length-map}
+use Rattle.machine.specs.Lists.{every, All}
 
 module _ {ℓ} {A : Type ℓ} (P : A → Type 0) where
   -- where all elements have P, and the default too, so has what stands at any index
@@ -81,38 +66,3 @@ module _ {ℓ} {A B : Type ℓ} (f : A → B) where
   -- what holds of all elements once mapped holds of all elements of a list that is mapped to the same
   pub all-same-map : (P : B → Type 0) (k l : List A) → map f k ≡ map f l → All (λ a. P (f a)) l → All (λ a. P (f a)) k
   all-same-map P k l e h = all-unmapped P k (rw e (all-map (λ a. P (f a)) P l (λ a p. p) h))
-
-module _ {ℓ} {A : Type ℓ} where
-  -- one element more
-  pub length-added : (l : List A) (a : A) → length (l ++ (a ∷ [])) ≡ suc (length l)
-  length-added l a = omega (arith, length-append l (a ∷ []))
-
-  -- the default does not matter where there is an element
-  getD-any : (l : List A) (i : ℕ) (d e : A) → i < length l → getD l i d ≡ getD l i e
-  getD-any [] i d e h = absurd (omega arith)
-  getD-any (x ∷ xs) zero d e h = refl
-  getD-any (x ∷ xs) (suc i) d e h = getD-any xs i d e (omega arith)
-
-  -- the last element, where one was added
-  pub last-of-added : (l : List A) (a d : A) → getD (l ++ (a ∷ [])) (length (l ++ (a ∷ [])) - 1) d ≡ a
-  last-of-added l a d = rw (length-added l a, sub-one) (getD-append-seam l a [] d)
-
-  -- the last element replaced, where one was added
-  pub set-last-of-added : (l : List A) (a b : A) → set (l ++ (a ∷ [])) (length (l ++ (a ∷ [])) - 1) b ≡ l ++ (b ∷ [])
-  set-last-of-added l a b = rw (length-added l a, sub-one) (set-append-seam l a [] b)
-
-  -- the last element, where it was replaced
-  pub last-of-set : (l : List A) (a d : A) → 0 < length l → getD (set l (length l - 1) a) (length (set l (length l - 1) a) - 1) d ≡ a
-  last-of-set l a d h =
-      let there : length l - 1 < length l = omega arith in
-      rw (length-set l (length l - 1) a) (getD-set-same l (length l - 1) a d there)
-
-  -- the last element, of a list and of its tail
-  pub last-of-tail : (d x : A) (xs : List A) → getD (x ∷ xs) (length (x ∷ xs) - 1) d ≡ getD xs (length xs - 1) x
-  last-of-tail d x [] = refl
-  last-of-tail d x (y ∷ ys) = simp sub-one (getD-any (y ∷ ys) (length ys) d x (omega arith))
-
--- a larger number divided is no smaller, by 0 too
-pub div-mono-any : (r a b : ℕ) → a ≤ b → a / r ≤ b / r
-div-mono-any zero a b h = rw (div-zero a) (omega arith)
-div-mono-any (suc r) a b h = div-mono (suc r) a b (omega arith) h
