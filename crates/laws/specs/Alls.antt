@@ -38,6 +38,11 @@ module _ {ℓ} {A : Type ℓ} (P : A → Type 0) where
   all-added [] a h p = (p, tt)
   all-added (x ∷ xs) a h p = (h .0, all-added xs a (h .1) p)
 
+  -- two lists one behind the other
+  pub all-append : (k l : List A) → All P k → All P l → All P (k ++ l)
+  all-append [] l h p = p
+  all-append (x ∷ xs) l h p = (h .0, all-append xs l (h .1) p)
+
   -- where P gives Q, all elements that have P have Q
   pub all-give : (Q : A → Type 0) (l : List A) → ((a : A) → P a → Q a) → All P l → All Q l
   all-give Q [] gives h = tt

@@ -24,6 +24,7 @@ use Rattle.laws.specs.Last.{length-added, last-of-added}
 use Rattle.soundness.specs.Facts.{ComponentFits, TableFits, table-facts}
 use Rattle.soundness.specs.Fresh.{fresh-table}
 use Rattle.soundness.specs.Accepted.{load-fits}
+use Rattle.soundness.specs.Octets.{Octet, table-octets}
 use Rattle.soundness.specs.Seams.{further, read-all}
 use Rattle.soundness.specs.Commands.{so-far, shaped, reads-begin, reads-part, reads-span, reads-wire, reads-end}
 unfoldable pub use Rattle.soundness.specs.Written.{word-bytes, signed-word, part-bytes, spans-bytes, parts-bytes, port-bytes, wires-bytes, table-bytes}
@@ -158,18 +159,24 @@ loads-back t h =
     reads-wires bs e r s [] cs next (end-byte ∷ []) g fit
     (λ next s g. reads-end bs next s t g (end-none t f)))
 
--- a table fits exactly where some stream loads to its fresh model
-pub fits-iff-loads : (t : Table) → (table-fits t ≡ true) ↔ ((bs : List ℕ) × (load bs .number ≡ 0) × (load bs .model ≡ fresh t))
+-- a table fits exactly where some stream of bytes loads to its fresh model
+pub fits-iff-loads :
+    (t : Table) → (table-fits t ≡ true) ↔ ((bs : List ℕ) × All Octet bs × (load bs .number ≡ 0) × (load bs .model ≡ fresh t))
 unfolding accepted
 fits-iff-loads t = (written, fitting)
   where
     -- the table's bytes are such a stream
-    written : table-fits t ≡ true → (bs : List ℕ) × (load bs .number ≡ 0) × (load bs .model ≡ fresh t)
-    written h = (table-bytes t, ap (λ (r : Loaded). r .number) (loads-back t h), ap (λ (r : Loaded). r .model) (loads-back t h))
+    written : table-fits t ≡ true → (bs : List ℕ) × All Octet bs × (load bs .number ≡ 0) × (load bs .model ≡ fresh t)
+    written h = (
+      table-bytes t,
+      table-octets t h,
+      ap (λ (r : Loaded). r .number) (loads-back t h),
+      ap (λ (r : Loaded). r .model) (loads-back t h),
+    )
 
     -- a stream that loads is that of a table that fits, and the fresh model keeps its table
-    fitting : (bs : List ℕ) × (load bs .number ≡ 0) × (load bs .model ≡ fresh t) → table-fits t ≡ true
-    fitting (bs, none, same) =
+    fitting : (bs : List ℕ) × All Octet bs × (load bs .number ≡ 0) × (load bs .model ≡ fresh t) → table-fits t ≡ true
+    fitting (bs, octets, none, same) =
         let (u, fit, is) = load-fits bs none in
         let equal : u ≡ t = sym (fresh-table u) ∙ ap table-of (sym is ∙ same) ∙ fresh-table t in
         rw equal at fit

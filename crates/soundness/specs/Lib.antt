@@ -9,6 +9,7 @@ pub mod Fuel
 pub mod Passed
 pub mod Accepted
 pub mod Written
+pub mod Octets
 pub mod Seams
 pub mod Commands
 pub mod Bytes

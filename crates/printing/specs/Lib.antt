@@ -1,0 +1,2 @@
+-- Laws of what `rehearse` prints.
+pub mod Fuel
