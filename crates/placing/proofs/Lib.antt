@@ -1,0 +1,4 @@
+-- What the proofs of this crate share: laws of lists, of the search for the lowest candidate, and of an order partway.
+pub mod Lists
+pub mod Candidates
+pub mod Partway

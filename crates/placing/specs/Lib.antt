@@ -1,0 +1,4 @@
+-- The marks of a word, and the order of parts as the code finds it, by the direct sources of the parts alone.
+pub mod Marks
+pub mod Direct
+pub mod Order
