@@ -1,5 +1,5 @@
 -- Signed numbers as a word has them: the tests of the code on a word's bits, and what they show of the number. Assumes nothing.
-use Prim.Native.Nat.{suc, _<_}
+use Prim.Native.Nat.{suc}
 use native.Mathlib.Omega.{arith}
 use mathlib.Core.Path.{_≡_, refl}
 use mathlib.Core.Bool.{true, false, false≢true}
@@ -16,7 +16,7 @@ use Rattle.machine.specs.Kind.{is-zero}
 pub value-below : (v : ℤ) → ltZ v (negsuc 999_999_999) ≡ true → is-value v ≡ false
 unfolding is-value
 value-below (pos n) h = absurd (false≢true h)
-value-below (negsuc n) h = lt-leb (suc n) 1_000_000_000 (let l : 999_999_999 < n = ltb-true 999_999_999 n h in omega arith)
+value-below (negsuc n) h = lt-leb (suc n) 1_000_000_000 (omega (arith, ltb-true 999_999_999 n h))
 
 -- from there on those up to the largest are
 pub value-from : (v : ℤ) → ltZ v (negsuc 999_999_999) ≡ false → is-value v ≡ leZ v (pos 1_000_000_000)

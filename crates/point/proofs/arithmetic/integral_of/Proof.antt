@@ -1,0 +1,92 @@
+-- `integral_of` is `integral`: d is at most 10^9, so the product fits, and so does the sum with a held value. An absent signal counts as 0,
+-- which leaves the held number.
+use native.Mathlib.Omega.{arith}
+use lib.IntN.{pos, +ℤ-idr, zero-*ℤ}
+use borrow.Author.Needs.{needs}
+use mir.Syntax.{w64}
+use mir.ValLaws.{toZ-ofZ, toZ-pos}
+use Rattle.machine.specs.Signal.{integral}
+use Rattle.point.specs.Signed.{product-fits, product-most, signal-most, sum-fits, value-most}
+use Rattle.point.proofs.arithmetic.integral_of.Statement.{statement}
+use Rattle.point.proofs.arithmetic.integral_of.Tie as tie
+
+enum-told : tie.Need-enum-told
+enum-told c = search needs
+
+clamped-requires : tie.Need-clamped-requires
+clamped-requires c κs = search needs
+
+enum-known-x : tie.Need-enum-known-x
+enum-known-x c = search needs
+
+cast-clamped : tie.Need-cast-clamped
+cast-clamped c = search needs
+
+mul-clamped : tie.Need-mul-clamped
+mul-clamped c =
+    let s = c .before .before .before in
+    let v = c .before .x .given in
+    rw (
+      toZ-ofZ w64 (v .0 .0) (record { sfits = c .known-told .given .0 .1 }),
+      toZ-pos w64 (s .args .d) (omega arith),
+    )
+    (product-fits (v .0 .0) (pos (s .args .d)) (signal-most (s .args .x) _ (v .1) (s .pre .1 .0)) (s .pre .1 .1))
+
+add-clamped : tie.Need-add-clamped
+add-clamped c =
+    let s = c .before .before .before in
+    let v = c .before .x .given in
+    rw (
+      toZ-ofZ w64 _ (mul-clamped c),
+      toZ-ofZ w64 (s .args .held) (s .fits .held),
+      toZ-ofZ w64 (v .0 .0) (record { sfits = c .known-told .given .0 .1 }),
+      toZ-pos w64 (s .args .d) (omega arith),
+    )
+    (sum-fits (s .args .held) _ (value-most (s .args .held) (s .pre .0))
+    (product-most (v .0 .0) (pos (s .args .d)) (signal-most (s .args .x) _ (v .1) (s .pre .1 .0)) (s .pre .1 .1)))
+
+clamped-requires-2 : tie.Need-clamped-requires-2
+clamped-requires-2 c κs = search needs
+
+returns : tie.Need-returns
+unfolding integral
+returns c =
+    let s = c .before .before .before in
+    rw (
+      toZ-ofZ w64 (c .clamped .result) (record { sfits = c .clamped .ok }),
+      c .clamped .ensures,
+      toZ-ofZ w64 (s .args .held) (s .fits .held),
+      c .before .enum-told .given .1,
+      zero-*ℤ (pos (s .args .d)),
+      +ℤ-idr (s .args .held),
+    )
+
+returns-2 : tie.Need-returns-2
+unfolding integral
+returns-2 c =
+    let s = c .before .before .before .before in
+    let v = c .before .before .x .given in
+    rw (
+      toZ-ofZ w64 (c .clamped2 .result) (record { sfits = c .clamped2 .ok }),
+      c .clamped2 .ensures,
+      toZ-ofZ w64 _ (add-clamped (c .before)),
+      toZ-ofZ w64 _ (mul-clamped (c .before)),
+      toZ-ofZ w64 (s .args .held) (s .fits .held),
+      toZ-ofZ w64 (v .0 .0) (record { sfits = c .before .known-told .given .0 .1 }),
+      toZ-pos w64 (s .args .d) (omega arith),
+      v .1,
+    )
+
+pub integral-of-spec : {M : Type 1} → statement M
+integral-of-spec =
+    tie.close
+    (tie.spec
+    enum-told
+    clamped-requires
+    enum-known-x
+    cast-clamped
+    mul-clamped
+    add-clamped
+    clamped-requires-2
+    returns
+    returns-2)

@@ -1,0 +1,110 @@
+-- `total_of` is `total`, by its four cases. The sum of two values fits, and what is clamped is the sum itself.
+use native.Mathlib.Omega.{arith}
+use borrow.Author.Needs.{needs}
+use mir.Syntax.{w64}
+use mir.ValLaws.{toZ-ofZ}
+use Rattle.machine.specs.Signal.{total}
+use Rattle.point.specs.Signed.{signal-most, sum-fits}
+use Rattle.point.proofs.arithmetic.total_of.Statement.{statement}
+use Rattle.point.proofs.arithmetic.total_of.Tie as tie
+
+enum-told : tie.Need-enum-told
+enum-told c = search needs
+
+enum-told-2 : tie.Need-enum-told-2
+enum-told-2 c = search needs
+
+enum-known-y : tie.Need-enum-known-y
+enum-known-y c = search needs
+
+clamped-requires : tie.Need-clamped-requires
+clamped-requires c κs = search needs
+
+enum-known-x : tie.Need-enum-known-x
+enum-known-x c = search needs
+
+enum-told-3 : tie.Need-enum-told-3
+enum-told-3 c = search needs
+
+clamped-requires-2 : tie.Need-clamped-requires-2
+clamped-requires-2 c κs = search needs
+
+enum-known-y-2 : tie.Need-enum-known-y-2
+enum-known-y-2 c = search needs
+
+add-clamped : tie.Need-add-clamped
+add-clamped c =
+    let w = c .before .y2 .given in
+    let v = c .before .before .before .before .x .given in
+    let s = c .before .before .before .before .before .before in
+    rw (
+      toZ-ofZ w64 (v .0 .0) (record { sfits = c .before .before .before .known-told2 .given .0 .1 }),
+      toZ-ofZ w64 (w .0 .0) (record { sfits = c .known-told3 .given .0 .1 }),
+    )
+    (sum-fits (v .0 .0) (w .0 .0) (signal-most (s .args .x) _ (v .1) (s .pre .0))
+    (omega (arith, signal-most (s .args .y) _ (w .1) (s .pre .1))))
+
+clamped-requires-3 : tie.Need-clamped-requires-3
+clamped-requires-3 c κs = search needs
+
+returns : tie.Need-returns
+unfolding total
+returns c = simp (c .before .before .enum-told .given .1, c .enum-told2 .given .1)
+
+returns-2 : tie.Need-returns-2
+unfolding total
+returns-2 c =
+    let w = c .before .before .y .given in
+    rw (
+      toZ-ofZ w64 (c .clamped .result) (record { sfits = c .clamped .ok }),
+      c .clamped .ensures,
+      toZ-ofZ w64 (w .0 .0) (record { sfits = c .before .known-told .given .0 .1 }),
+      c .before .before .before .before .enum-told .given .1,
+      w .1,
+    )
+
+returns-3 : tie.Need-returns-3
+unfolding total
+returns-3 c =
+    let v = c .before .before .before .before .x .given in
+    rw (
+      toZ-ofZ w64 (c .clamped2 .result) (record { sfits = c .clamped2 .ok }),
+      c .clamped2 .ensures,
+      toZ-ofZ w64 (v .0 .0) (record { sfits = c .before .before .before .known-told2 .given .0 .1 }),
+      v .1,
+      c .before .enum-told3 .given .1,
+    )
+
+returns-4 : tie.Need-returns-4
+unfolding total
+returns-4 c =
+    let w = c .before .before .y2 .given in
+    let v = c .before .before .before .before .before .x .given in
+    rw (
+      toZ-ofZ w64 (c .clamped3 .result) (record { sfits = c .clamped3 .ok }),
+      c .clamped3 .ensures,
+      toZ-ofZ w64 _ (add-clamped (c .before)),
+      toZ-ofZ w64 (v .0 .0) (record { sfits = c .before .before .before .before .known-told2 .given .0 .1 }),
+      toZ-ofZ w64 (w .0 .0) (record { sfits = c .before .known-told3 .given .0 .1 }),
+      v .1,
+      w .1,
+    )
+
+pub total-of-spec : {M : Type 1} → statement M
+total-of-spec =
+    tie.close
+    (tie.spec
+    enum-told
+    enum-told-2
+    enum-known-y
+    clamped-requires
+    enum-known-x
+    enum-told-3
+    clamped-requires-2
+    enum-known-y-2
+    add-clamped
+    clamped-requires-3
+    returns
+    returns-2
+    returns-3
+    returns-4)

@@ -1,0 +1,4 @@
+-- What the contracts and proofs of this crate cite beside `machine`'s definitions.
+pub mod Ranges
+pub mod Signed
+pub mod States

@@ -1,0 +1,198 @@
+// What a step changes of a part: its local count and held number as the step is made, its stored
+// output, and what it takes once the outputs are there.
+//
+// Its contracts cite `machine`'s `specs/Kind.antt` and `specs/Step.antt`, and this crate's
+// `specs/States.antt`.
+use crate::arithmetic::integral_of;
+use crate::arithmetic::integrated_of;
+use kinds::kind::holds_number;
+use machine::part::Kind;
+use machine::part::Mark;
+use machine::part::Part;
+use machine::part::Side;
+use machine::part::State;
+use machine::signal::Signal;
+use machine::time::Ticks;
+ghost use mathlib.Core.Path.{_≡_};
+ghost use mathlib.Core.Bool.{cond, true};
+ghost use Prim.Native.Nat.{_≤_};
+ghost use Rattle.machine.specs.Signal.{integral, is-signal, is-value};
+ghost use Rattle.machine.specs.Kind.{integrates, mark-between, side-after};
+ghost use Rattle.machine.specs.Model.{with-state};
+ghost use Rattle.machine.specs.Step.{gain-of, moved, settled, settled-as, with-output};
+ghost use Rattle.point.specs.States.{with-held, with-mark, with-signal};
+ghost use Rattle.point.specs.Ranges.{InRange, StepFits};
+
+// The side on which a detector sees its input; an absent one keeps the side `s`.
+pub fn side_after(s: Side, x: Signal) -> Side
+    ensures { λ r. ⌜ r ≡ side-after s x ⌝ }
+{
+    let Signal::Value(v) = x else {
+        return s;
+    };
+    if v < 0 {
+        return Side::Negative;
+    }
+    Side::NotNegative
+}
+
+// The mark that a detector sets, by its sides before and after.
+pub fn mark_between(before: Side, after: Side) -> Mark
+    ensures { λ r. ⌜ r ≡ mark-between before after ⌝ }
+{
+    match before {
+        Side::Unset => Mark::Clear,
+        Side::Negative => match after {
+            Side::Unset => Mark::Clear,
+            Side::Negative => Mark::Clear,
+            Side::NotNegative => Mark::Rising,
+        },
+        Side::NotNegative => match after {
+            Side::Unset => Mark::Clear,
+            Side::Negative => Mark::Falling,
+            Side::NotNegative => Mark::Clear,
+        },
+    }
+}
+
+// The state with another held number.
+fn with_held(mut s: State, held: i64) -> State
+    ensures { λ r. ⌜ r ≡ with-held s held ⌝ }
+{
+    s.held = held;
+    s
+}
+
+// The state with another held signal.
+fn with_signal(s: State, signal: Signal) -> State
+    ensures { λ r. ⌜ r ≡ with-signal s signal ⌝ }
+{
+    let local = s.local;
+    let output = s.output;
+    let side = s.side;
+    let mark = s.mark;
+    State {
+        local,
+        held: s.held,
+        signal,
+        output,
+        side,
+        mark,
+    }
+}
+
+// The state with another side and mark.
+fn with_mark(s: State, side: Side, mark: Mark) -> State
+    ensures { λ r. ⌜ r ≡ with-mark s side mark ⌝ }
+{
+    let local = s.local;
+    let signal = s.signal;
+    let output = s.output;
+    State {
+        local,
+        held: s.held,
+        signal,
+        output,
+        side,
+        mark,
+    }
+}
+
+// The part in another state.
+fn with_state(mut p: Part, s: State) -> Part
+    ensures { λ r. ⌜ r ≡ with-state p s ⌝ }
+{
+    p.state = s;
+    p
+}
+
+// The part with another stored output.
+pub fn with_output(p: Part, out: Signal) -> Part
+    ensures { λ r. ⌜ r ≡ with-output p out ⌝ }
+{
+    let old = p.state;
+    let local = old.local;
+    let signal = old.signal;
+    let side = old.side;
+    let mark = old.mark;
+    let next = State {
+        local,
+        held: old.held,
+        signal,
+        output: out,
+        side,
+        mark,
+    };
+    with_state(p, next)
+}
+
+// The local ticks that a step of `h` from the tick `t` adds.
+pub fn gain_of(p: Part, t: Ticks, h: u64) -> u64
+    requires { ⌜ StepFits (t .0) h p ⌝ }
+    ensures { λ r. ⌜ r ≡ gain-of (t .0) h p ⌝ }
+{
+    let s = p.state;
+    let end = Ticks(t.0 + h);
+    let count = end.local(p.ratio);
+    count.0 - s.local.0
+}
+
+// A held number once a part of the kind has moved by `d` local ticks; `x` is the reading of port 0.
+fn held_after(kind: Kind, held: i64, x: Signal, d: u64) -> i64
+    requires { ⌜ is-value held ≡ true ⌝ }
+    requires { ⌜ is-signal x ≡ true ⌝ }
+    requires { ⌜ d ≤ 1_000_000_000 ⌝ }
+    ensures { λ r. ⌜ r ≡ cond (integrates kind) (integral held x d) held ⌝ }
+{
+    if holds_number(kind) {
+        return integral_of(held, x, d);
+    }
+    held
+}
+
+// The part moved by a step of `h` from the tick `t`: its local count and its held number.
+pub fn moved_part(p: Part, t: Ticks, h: u64, x: Signal) -> Part
+    requires { ⌜ InRange p ⌝ }
+    requires { ⌜ StepFits (t .0) h p ⌝ }
+    requires { ⌜ gain-of (t .0) h p ≤ 1_000_000_000 ⌝ }
+    requires { ⌜ is-signal x ≡ true ⌝ }
+    ensures { λ r. ⌜ r ≡ moved (t .0) h x p ⌝ }
+{
+    let d = gain_of(p, t, h);
+    let c = p.component;
+    let kind = c.kind;
+    let mut s = p.state;
+    let held = held_after(kind, s.held, x, d);
+    let count = s.local.0 + d;
+    s.local.0 = count;
+    s.held = held;
+    with_state(p, s)
+}
+
+// The state that a part of the kind takes once the outputs are there; `x` is the reading of port 0.
+fn settled_state(kind: Kind, x: Signal, s: State) -> State
+    ensures { λ r. ⌜ r ≡ settled-as kind x s ⌝ }
+{
+    let output = s.output;
+    let side = s.side;
+    match kind {
+        Kind::ResetIntegrator => with_held(s, integrated_of(output)),
+        Kind::Detector => {
+            let after = side_after(side, x);
+            with_mark(s, after, mark_between(side, after))
+        }
+        Kind::Hold => with_signal(s, output),
+        _ => s,
+    }
+}
+
+// The part once the outputs at the new point are there.
+pub fn settled_part(p: Part, x: Signal) -> Part
+    ensures { λ r. ⌜ r ≡ settled x p ⌝ }
+{
+    let c = p.component;
+    let s = p.state;
+    let kind = c.kind;
+    let next = settled_state(kind, x, s);
+    with_state(p, next)
+}
