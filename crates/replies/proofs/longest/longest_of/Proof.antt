@@ -1,0 +1,196 @@
+-- `longest_of` is `longest` of the part trimmed. Trimming changes the spans alone, so that the part is due where the trimmed one is, and its P and its
+-- gain are the same; a due part accepts 0 only, and another is asked by its kind. The gain, in master ticks, is at most the tick that the step
+-- leads to.
+use Prim.Native.Nat.{ℕ, _+_, _-_, _*_, _/_, _≤_, min}
+use native.Mathlib.Nat.{div-mul-le-self, le-trans, mul-le-mul-right}
+use native.Mathlib.Omega.{arith}
+use mathlib.Core.Path.{_≡_, _∙_, refl, sym, ap}
+use mathlib.Core.Bool.{true, false, cond}
+use mathlib.Core.List.{List, [], _∷_}
+use denote.Enum.Declared.{tagOf}
+use types.Run.{OneOf, miss}
+use lib.ListN.{take}
+use borrow.Author.Needs.{needs}
+use Rattle.machine.proofs.part.Kind as tags
+use Rattle.machine.specs.declared.time.Point.{Point}
+use Rattle.machine.specs.declared.signal.Signal.{Signal}
+use Rattle.machine.specs.declared.part.Kind.{Kind}
+use Rattle.machine.specs.declared.part.Kind.the-variants.{Constant, Gain, Adder, Square, Pulse, Delay, Integrator, ResetIntegrator, Detector, Hold, Sampler, Drive}
+use Rattle.machine.specs.declared.part.Part.{Part}
+use Rattle.machine.specs.Time.{gained, last-tick, local-count, tick}
+use Rattle.machine.specs.Kind.{period}
+use Rattle.machine.specs.Model.{trimmed-component, trimmed-part}
+use Rattle.machine.specs.Step.{gain-of}
+use Rattle.machine.specs.Accept.{Class, waiting, delaying, detecting, driving, free, class, class-of, due, due-as, next-multiple, allowed, largest-below, last-adding, longest-as, longest}
+use Rattle.point.specs.Ranges.{StepFits}
+use Rattle.replies.proofs.longest.longest_of.Statement.{statement}
+use Rattle.replies.proofs.longest.longest_of.Tie as tie
+
+-- a part is due where the trimmed one is
+due-as-trimmed : (k : Class) (p : Part) (now : Point) (x : Signal) → due-as k (trimmed-part p) now x ≡ due-as k p now x
+unfolding due-as trimmed-part trimmed-component
+due-as-trimmed waiting p now x = refl
+due-as-trimmed delaying p now x = refl
+due-as-trimmed detecting p now x = refl
+due-as-trimmed driving p now x = refl
+due-as-trimmed free p now x = refl
+
+due-trimmed : (p : Part) (now : Point) (x : Signal) → due (trimmed-part p) now x ≡ due p now x
+unfolding due trimmed-part trimmed-component
+due-trimmed p now x = due-as-trimmed (class-of p) p now x
+
+-- the longest step of a part that is due
+due-longest : (p : Part) (now : Point) (x : Signal) (h : ℕ) → due p now x ≡ true → 0 ≡ longest (trimmed-part p) now x h
+unfolding longest
+due-longest p now x h is-due = rw (due-trimmed p now x, is-due)
+
+-- that of another part, by its class
+class-longest :
+    (k : Class) (p : Part) (now : Point) (x : Signal) (h r : ℕ) → due p now x ≡ false → class-of p ≡ k →
+    r ≡ longest-as k (trimmed-part p) (tick now) h → r ≡ longest (trimmed-part p) now x h
+unfolding longest trimmed-part trimmed-component
+class-longest k p now x h r not-due of-class is = rw (due-trimmed p now x, not-due, of-class) is
+
+-- of a square or pulse
+waiting-longest :
+    (p : Part) (now : Point) (x : Signal) (h P r : ℕ) → due p now x ≡ false → class-of p ≡ waiting → P ≡ period p →
+    r ≡ min h (next-multiple P (tick now) - tick now) → r ≡ longest (trimmed-part p) now x h
+unfolding longest-as trimmed-part trimmed-component
+waiting-longest p now x h P r not-due waits is-period is =
+    class-longest waiting p now x h r not-due waits (is ∙ ap (λ (n : ℕ). min h (next-multiple n (tick now) - tick now)) is-period)
+
+-- of a drive
+driving-longest :
+    (p : Part) (now : Point) (x : Signal) (h d r : ℕ) → due p now x ≡ false → class-of p ≡ driving → d ≡ gain-of (tick now) h p →
+    (let spans = take (p .component .«span_count») (p .component .spans) in
+    r ≡ cond (allowed spans d) h (last-adding (p .ratio) (tick now) (largest-below spans d))) →
+    r ≡ longest (trimmed-part p) now x h
+unfolding longest-as trimmed-part trimmed-component gain-of
+driving-longest p now x h d r not-due drives is-gain is =
+    let spans = take (p .component .«span_count») (p .component .spans) in
+    class-longest driving p now x h r not-due drives
+    (is ∙ ap (λ (n : ℕ). cond (allowed spans n) h (last-adding (p .ratio) (tick now) (largest-below spans n))) is-gain)
+
+-- the numbers of the kinds that accept every step where they are not due
+abbrev accepting : List ℕ
+accepting = 0 ∷ 1 ∷ 2 ∷ 5 ∷ 6 ∷ 7 ∷ 8 ∷ 9 ∷ 10 ∷ []
+
+-- of such a kind
+whole : (k : Kind) (p : Part) (t h : ℕ) → OneOf accepting (tagOf tags.the-type k) → h ≡ longest-as (class k) p t h
+unfolding longest-as
+whole Constant p t h one = refl
+whole Gain p t h one = refl
+whole Adder p t h one = refl
+whole Square p t h one = absurd (miss accepting 3 tt one)
+whole Pulse p t h one = absurd (miss accepting 4 tt one)
+whole Delay p t h one = refl
+whole Integrator p t h one = refl
+whole ResetIntegrator p t h one = refl
+whole Detector p t h one = refl
+whole Hold p t h one = refl
+whole Sampler p t h one = refl
+whole Drive p t h one = absurd (miss accepting 11 tt one)
+
+-- the gain, in master ticks, is at most the tick that the step leads to
+gain-fits : (t h d : ℕ) (p : Part) → StepFits t h p → d ≡ gain-of t h p → d * p .ratio ≤ last-tick
+unfolding gain-of gained local-count
+gain-fits t h d p fits e =
+    let few : d ≤ (t + h) / p .ratio = omega arith in
+    le-trans (mul-le-mul-right (p .ratio) few) (le-trans (div-mul-le-self (t + h) (p .ratio)) (fits .time))
+
+due-of-requires : tie.Need-due-of-requires
+due-of-requires c κs = search needs
+
+returns : tie.Need-returns
+returns c =
+    let args = c .before .before .args in
+    due-longest (args .p) (args .now) (args .x) (args .h) (sym (c .before .due-of .ensures) ∙ c .if1 .taken)
+
+enum-told : tie.Need-enum-told
+enum-told c = search needs
+
+period-of-requires : tie.Need-period-of-requires
+period-of-requires c κs = search needs
+
+up-to-multiple-requires : tie.Need-up-to-multiple-requires
+up-to-multiple-requires c κs =
+    let start = c .before .before .before .before .before .before .before .before in
+    rw (c .period-of .ensures) (start .pre .waits (ap class (c .before .enum-told .given .1)))
+
+enum-told-2 : tie.Need-enum-told-2
+enum-told-2 c = search needs
+
+period-of-requires-2 : tie.Need-period-of-requires-2
+period-of-requires-2 c κs = search needs
+
+up-to-multiple-requires-2 : tie.Need-up-to-multiple-requires-2
+up-to-multiple-requires-2 c κs =
+    let start = c .before .before .before .before .before .before .before .before in
+    rw (c .period-of2 .ensures) (start .pre .waits (ap class (c .before .enum-told2 .given .1)))
+
+enum-told-3 : tie.Need-enum-told-3
+enum-told-3 c = search needs
+
+gain-of-requires : tie.Need-gain-of-requires
+gain-of-requires c κs = search needs
+
+longest-of-drive-requires : tie.Need-longest-of-drive-requires
+longest-of-drive-requires c κs =
+    let start = c .before .before .before .before .before .before .before .before in
+    let args = start .args in (
+      start .pre .places,
+      (start .pre .ratio, gain-fits (tick (args .now)) (args .h) _ (args .p) (start .pre .step) (c .gain-of .ensures)),
+    )
+
+returns-2 : tie.Need-returns-2
+returns-2 c =
+    let asked = c .before .before .before .before .before .before .before in
+    let args = asked .before .before .args in
+    let not-due = sym (asked .before .due-of .ensures) ∙ asked .if1 .left in
+    waiting-longest (args .p) (args .now) (args .x) (args .h) _ _ not-due (ap class (c .before .before .enum-told .given .1))
+    (c .before .period-of .ensures) (c .up-to-multiple .ensures)
+
+returns-3 : tie.Need-returns-3
+returns-3 c =
+    let asked = c .before .before .before .before .before .before .before in
+    let args = asked .before .before .args in
+    let not-due = sym (asked .before .due-of .ensures) ∙ asked .if1 .left in
+    waiting-longest (args .p) (args .now) (args .x) (args .h) _ _ not-due (ap class (c .before .before .enum-told2 .given .1))
+    (c .before .period-of2 .ensures) (c .up-to-multiple2 .ensures)
+
+returns-4 : tie.Need-returns-4
+returns-4 c =
+    let asked = c .before .before .before .before .before .before .before in
+    let args = asked .before .before .args in
+    let not-due = sym (asked .before .due-of .ensures) ∙ asked .if1 .left in
+    driving-longest (args .p) (args .now) (args .x) (args .h) _ _ not-due (ap class (c .before .before .enum-told3 .given .1))
+    (c .before .gain-of .ensures) (c .longest-of-drive .ensures)
+
+returns-5 : tie.Need-returns-5
+returns-5 c =
+    let asked = c .before .before .before .before in
+    let args = asked .before .before .args in
+    let kind = args .p .component .kind in
+    let not-due = sym (asked .before .due-of .ensures) ∙ asked .if1 .left in
+    class-longest (class kind) (args .p) (args .now) (args .x) (args .h) (args .h) not-due refl
+    (whole kind (trimmed-part (args .p)) (tick (args .now)) (args .h) (c .match .keys4))
+
+pub longest-of-spec : {M : Type 1} → statement M
+longest-of-spec =
+    tie.close
+    (tie.spec
+    due-of-requires
+    returns
+    enum-told
+    period-of-requires
+    up-to-multiple-requires
+    enum-told-2
+    period-of-requires-2
+    up-to-multiple-requires-2
+    enum-told-3
+    gain-of-requires
+    longest-of-drive-requires
+    returns-2
+    returns-3
+    returns-4
+    returns-5)
