@@ -1,0 +1,3 @@
+-- What the promises of this crate cite besides the machine's definitions: what a writing call leaves, and what a piece of a line adds to it.
+pub mod Written
+pub mod Put
