@@ -1,0 +1,154 @@
+-- A step made of moving, filling and settling: what each asks of the model that the one before it gives, and what they come to. Assumes nothing.
+use Prim.Native.Nat.{ℕ, _≤_, _<_}
+use mathlib.Core.Path.{_≡_, refl, sym, ap, subst, _∙_}
+use mathlib.Core.Bool.{true}
+use mathlib.Core.List.{List, [], _∷_, List·Memᴰ, List·Memᴰ·head, List·Memᴰ·tail}
+use lib.ListN.{length, length-map}
+use Rattle.machine.specs.declared.time.Point.{Point}
+use Rattle.machine.specs.declared.part.Component.{Component}
+use Rattle.machine.specs.declared.part.Part.{Part}
+use Rattle.machine.specs.declared.model.Model.{Model}
+use Rattle.machine.specs.Lists.{All}
+use Rattle.machine.specs.Time.{last-tick, tick, led-to}
+use Rattle.machine.specs.Kind.{period}
+use Rattle.machine.specs.Model.{with-parts, reading0, trimmed, spare-spans, SameUnused}
+use Rattle.machine.specs.Table.{table-of, part-order}
+use Rattle.machine.specs.Step.{moved, all-moved, filled, all-settled, step-made}
+use Rattle.machine.specs.Sound.{sound}
+use Rattle.laws.specs.Alls.{all-map, all-same-map, length-same-map}
+use Rattle.soundness.specs.Facts.{table-facts, sound-facts}
+use Rattle.soundness.specs.Ranges.{all-moved-in-range}
+use Rattle.soundness.specs.Stepped.{in-range}
+use Rattle.ordering.specs.Order.{order-below, order-length}
+use Rattle.steps.specs.Reading.{WiredBelow}
+use Rattle.steps.specs.Trimmed.{Changed}
+use Rattle.steps.specs.Fillable.{Wired, Fillable}
+use Rattle.steps.specs.SoundParts.{sound-wired, sound-periods, sound-many}
+use Rattle.steps.specs.Filling.{filled-kept}
+
+-- what holds of every number in a list holds of all its elements
+members-all : (P : ℕ → Type 0) (l : List ℕ) → ((k : ℕ) → List·Memᴰ k l → P k) → All P l
+members-all P [] h = tt
+members-all P (k ∷ ks) h = (h k (List·Memᴰ·head refl), members-all P ks (λ j m. h j (List·Memᴰ·tail m)))
+
+-- the numbers of a part order are those of the components
+pub order-numbers : (cs : List Component) → All (λ (k : ℕ). k < length cs) (part-order cs)
+order-numbers cs = members-all (λ (k : ℕ). k < length cs) (part-order cs) (order-below cs)
+
+-- once a sound model's parts are moved, its outputs can be filled
+pub moved-fillable :
+    (m : Model) (now : Point) (h : ℕ) → sound m ≡ true → Fillable m (with-parts m now (all-moved (tick (m .point)) h (m .parts)))
+unfolding all-moved moved table-of
+moved-fillable m now h s =
+    let facts = sound-facts m s in
+    let wired = sound-wired m s in
+    let t = tick (m .point) in
+    let f : Part → Part = λ p. moved t h (reading0 (m .parts) p) p in
+    let cs = table-of m .parts in
+    record {
+      wired =
+          record {
+            few = wired .few;
+            counted = facts .counted ∙ sym (length-map (m .parts) f);
+            sources =
+                all-map f (λ (p : Part). WiredBelow (m .count) (p .component)) (λ (p : Part). WiredBelow (m .count) (p .component)) (m .parts)
+                (λ p w. w) (wired .sources);
+          };
+      counted = facts .counted;
+      same = refl;
+      places = sym (ap length (facts .order) ∙ order-length cs (table-facts (table-of m) (facts .table) .order) ∙ sound-many m s);
+      order = rw (facts .order, ← sound-many m s) (order-numbers cs);
+      periods =
+          all-map f (λ (p : Part). period p ≤ last-tick) (λ (p : Part). period p ≤ last-tick) (m .parts) (λ p w. w) (sound-periods m s);
+      before = in-range m s;
+      ranges = all-moved-in-range t h (m .parts) (in-range m s);
+    }
+
+-- a model with its outputs filled is wired as before
+pub filled-wired :
+    (old : List Part) (now : Point) (ks : List ℕ) (m : Model) → Wired m → Wired (with-parts m now (filled old now ks (m .parts)))
+filled-wired old now ks m wired =
+    let kept = filled-kept old now (λ (p : Part). p .component) (λ p out. refl) ks (m .parts) in
+    record {
+      few = wired .few;
+      counted = wired .counted ∙ sym (length-same-map (λ (p : Part). p .component) (filled old now ks (m .parts)) (m .parts) kept);
+      sources =
+          all-same-map (λ (p : Part). p .component) (WiredBelow (m .count)) (filled old now ks (m .parts)) (m .parts) kept (wired .sources);
+    }
+
+-- the places in no use stay as they were through two changes
+pub unused-through : (m b r : Model) → b .count ≡ m .count → SameUnused m b → SameUnused b r → SameUnused m r
+unused-through m b r e u v =
+    record {
+      orders = (rw e at (v .orders)) ∙ u .orders;
+      parts = (rw e at (v .parts)) ∙ u .parts;
+      spans = λ i h. v .spans i (rw e h) ∙ u .spans i h;
+    }
+
+-- a changed model has the count of the model before
+pub changed-count : (m : Model) (ps : List Part) (r : Model) → Changed m ps r → r .count ≡ m .count
+unfolding trimmed
+changed-count m ps r c = ap (λ (x : Model). x .count) (c .is)
+
+-- a model with its outputs filled, and then settled
+pub finished-is :
+    (old : List Part) (b f r : Model) → Changed b (filled old (b .point) (trimmed b .order) (trimmed b .parts)) f →
+    Changed f (all-settled (trimmed f .parts)) r →
+    trimmed r ≡ with-parts (trimmed b) (b .point) (all-settled (filled old (b .point) (trimmed b .order) (trimmed b .parts)))
+unfolding trimmed
+finished-is old b f r fills settles =
+    settles .is ∙ ap (λ (x : Model). with-parts x (x .point) (all-settled (x .parts))) (fills .is)
+
+-- the model a at another point
+abbrev pub at-point : Model → Point → Model
+at-point a now = with-parts a now (a .parts)
+
+-- the model m with its parts moved, at the new point
+pub moved-is :
+    (m a : Model) (now : Point) (ps : List Part) → Changed m ps a → trimmed (at-point a now) ≡ with-parts (trimmed m) now ps
+unfolding trimmed
+moved-is m a now ps moves = ap (λ (x : Model). with-parts x now (x .parts)) (moves .is)
+
+-- its places in no use are those of m
+pub moved-unused : (m a : Model) (now : Point) (ps : List Part) → Changed m ps a → SameUnused m (at-point a now)
+unfolding spare-spans
+moved-unused m a now ps moves =
+    record { orders = moves .unused .orders; parts = moves .unused .parts; spans = moves .unused .spans }
+
+-- moved, filled and settled, a model has made the step
+pub made-is :
+    (m a f r : Model) (now : Point) (h : ℕ) → now ≡ led-to (m .point) h →
+    Changed m (all-moved (tick (m .point)) h (trimmed m .parts)) a →
+    Changed (at-point a now) (filled (trimmed m .parts) now (trimmed (at-point a now) .order) (trimmed (at-point a now) .parts)) f →
+    Changed f (all-settled (trimmed f .parts)) r →
+    trimmed r ≡ step-made (trimmed m) h
+unfolding step-made trimmed
+made-is m a f r now h e moves fills settles =
+    let old = trimmed m .parts in
+    finished-is old (at-point a now) f r fills settles ∙
+    ap (λ (x : Model). with-parts x now (all-settled (filled old now (x .order) (x .parts))))
+    (moved-is m a now (all-moved (tick (m .point)) h old) moves) ∙
+    ap (λ (p : Point). with-parts (trimmed m) p (all-settled (filled old p (trimmed m .order) (all-moved (tick (m .point)) h old)))) e
+
+-- what filling asks of the moved model
+pub made-fillable :
+    (m a : Model) (now : Point) (h : ℕ) → sound (trimmed m) ≡ true →
+    Changed m (all-moved (tick (m .point)) h (trimmed m .parts)) a → Fillable (trimmed m) (trimmed (at-point a now))
+unfolding trimmed
+made-fillable m a now h s moves =
+    subst (λ (x : Model). Fillable (trimmed m) x) (sym (moved-is m a now (all-moved (tick (m .point)) h (trimmed m .parts)) moves))
+    (moved-fillable (trimmed m) now h s)
+
+-- what settling asks of the filled one
+pub filled-settleable :
+    (old : List Part) (b f : Model) → Wired (trimmed b) → Changed b (filled old (b .point) (trimmed b .order) (trimmed b .parts)) f →
+    Wired (trimmed f)
+filled-settleable old b f wired fills = subst Wired (sym (fills .is)) (filled-wired old (b .point) (trimmed b .order) (trimmed b) wired)
+
+-- the places in no use stay as they were through the step
+pub made-unused :
+    (m a f r : Model) (now : Point) (ps qs rs : List Part) → Changed m ps a → Changed (at-point a now) qs f → Changed f rs r → SameUnused m r
+made-unused m a f r now ps qs rs moves fills settles =
+    let count = changed-count m ps a moves in
+    unused-through m f r (changed-count (at-point a now) qs f fills ∙ count)
+    (unused-through m (at-point a now) f count (moved-unused m a now ps moves) (fills .unused)) (settles .unused)

@@ -1,0 +1,51 @@
+-- A list whose first elements are changed and whose others are not yet, which is what a loop over an array holds partway; and what two lists
+-- share of which a part of each element is the same. Assumes nothing.
+use Prim.Native.Nat.{ℕ, zero, suc, _+_, _≤_, _<_}
+use native.Mathlib.Omega.{arith}
+use native.Mathlib.Numerals.{add-one}
+use mathlib.Core.Path.{_≡_, refl, ap, ap₂, sym, _∙_}
+use mathlib.Core.List.{List, [], _∷_, _++_, map}
+use lib.ListN.{length, getD, set, take, drop, List·getD-map}
+
+module _ {ℓ} {A : Type ℓ} (f : A → A) where
+  -- the first i elements changed by f
+  abbrev pub partway : ℕ → List A → List A
+  partway i l = map f (take i l) ++ drop i l
+
+  -- the next element changed
+  partway-suc : (i : ℕ) (l : List A) (d : A) → i < length l → set (partway i l) i (f (getD l i d)) ≡ partway (suc i) l
+  partway-suc i [] d h = absurd (omega arith)
+  partway-suc zero (x ∷ xs) d h = refl
+  partway-suc (suc i) (x ∷ xs) d h = ap (λ l. f x ∷ l) (partway-suc i xs d (omega arith))
+
+  -- the same, as a loop counts
+  pub partway-next : (i : ℕ) (l : List A) (d : A) → i < length l → set (partway i l) i (f (getD l i d)) ≡ partway (i + 1) l
+  partway-next i l d h = rw add-one (partway-suc i l d h)
+
+  -- an element that is not changed yet
+  pub partway-later : (i : ℕ) (l : List A) (k : ℕ) (d : A) → i ≤ k → getD (partway i l) k d ≡ getD l k d
+  partway-later zero l k d h = refl
+  partway-later (suc i) [] k d h = refl
+  partway-later (suc i) (x ∷ xs) zero d h = absurd (omega arith)
+  partway-later (suc i) (x ∷ xs) (suc k) d h = partway-later i xs k d (omega arith)
+
+  -- the elements that are changed, and those that are not
+  pub partway-front : (i : ℕ) (l : List A) → take i (partway i l) ≡ map f (take i l)
+  partway-front zero l = refl
+  partway-front (suc i) [] = refl
+  partway-front (suc i) (x ∷ xs) = ap (λ l. f x ∷ l) (partway-front i xs)
+
+  pub partway-back : (i : ℕ) (l : List A) → drop i (partway i l) ≡ drop i l
+  partway-back zero l = refl
+  partway-back (suc i) [] = refl
+  partway-back (suc i) (x ∷ xs) = partway-back i xs
+
+  -- what f keeps of each element
+  pub partway-kept {κ} : {B : Type κ} (g : A → B) (i : ℕ) (l : List A) → ((a : A) → g (f a) ≡ g a) → map g (partway i l) ≡ map g l
+  partway-kept g zero l keeps = refl
+  partway-kept g (suc i) [] keeps = refl
+  partway-kept g (suc i) (x ∷ xs) keeps = ap₂ _∷_ (keeps x) (partway-kept g i xs keeps)
+
+-- what is the same of all elements of two lists is the same at each index
+pub same-at {ℓ κ} : {A : Type ℓ} {B : Type κ} (g : A → B) (k l : List A) (i : ℕ) (d : A) → map g k ≡ map g l → g (getD k i d) ≡ g (getD l i d)
+same-at g k l i d e = sym (List·getD-map g k i d) ∙ ap (λ x. getD x i (g d)) e ∙ List·getD-map g l i d

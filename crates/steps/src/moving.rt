@@ -1,0 +1,42 @@
+// Every part of a model moved by a step.
+//
+// Its contract cites `machine`'s `specs/Step.antt`.
+use crate::reading::heard_of;
+use crate::reading::source_index;
+use machine::model::Model;
+use point::change::moved_part;
+ghost use mathlib.Core.Path.{_≡_};
+ghost use mathlib.Core.Bool.{true};
+ghost use Prim.Native.Nat.{_+_, _≤_};
+ghost use Rattle.machine.specs.Time.{last-tick, tick};
+ghost use Rattle.machine.specs.Model.{trimmed};
+ghost use Rattle.machine.specs.Sound.{sound};
+ghost use Rattle.machine.specs.Step.{all-moved};
+ghost use Rattle.steps.specs.Trimmed.{Changed};
+
+// All parts moved by a step of `h`, each by its readings in `m`.
+pub fn all_moved(m: Model, h: u64) -> Model
+    requires { ⌜ sound (trimmed m) ≡ true ⌝ }
+    requires { ⌜ h ≤ 1_000_000_000 ⌝ }
+    requires { ⌜ tick (m .point) + h ≤ last-tick ⌝ }
+    ensures { λ r. ⌜ Changed m (all-moved (tick (m .point)) h (trimmed m .parts)) r ⌝ }
+{
+    let now = m.point;
+    let t = now.t;
+    let mut next = m;
+    let mut i: usize = 0;
+    while i < m.count {
+        let p = m.parts[i];
+        let c = p.component;
+        let s = c.port0;
+        let k = source_index(s);
+        let q = m.parts[k];
+        let from = q.state;
+        let out = from.output;
+        let x = heard_of(s, out);
+        let moved = moved_part(p, t, h, x);
+        next.parts[i] = moved;
+        i += 1;
+    }
+    next
+}
