@@ -29,12 +29,12 @@ pub record Readable (rd : Reading) : Type 0 where
   pub drive : rd .spannable ≡ true → (0 < length (rd .table .parts)) × (is-drive (open-component rd .kind) ≡ true)
 
 -- what a turn comes to: reading goes on with what it keeps, or ends with the fresh model of a table that fits, where it is accepted
-abbrev Keeps : Read → Type 0
+abbrev pub Keeps : Read → Type 0
 Keeps (onward at rd) = Readable rd
 Keeps (ended r) = r .number ≡ 0 → (t : Table) × (table-fits t ≡ true) × (r .model ≡ fresh t)
 
 -- before anything is read
-kept-nothing : Readable nothing-read
+pub kept-nothing : Readable nothing-read
 unfolding magnitude-known
 kept-nothing = record { magnitude = refl; few = omega arith; components = tt; drive = λ s. absurd (false≢true s) }
 
@@ -130,7 +130,7 @@ end-fits rd r h =
     })
 
 -- each turn keeps what reading keeps
-kept-turn : (bs : List ℕ) (at : ℕ) (rd : Reading) → Readable rd → Keeps (read-turn bs at rd)
+pub kept-turn : (bs : List ℕ) (at : ℕ) (rd : Reading) → Readable rd → Keeps (read-turn bs at rd)
 unfolding accepted
 kept-turn bs at rd r =
     turn-cases Keeps bs at rd (λ number position some none. absurd (omega arith))

@@ -1,0 +1,92 @@
+-- `parts_fit` asks every part in use. The loop's invariant: the test of all parts is the test of those from i on. The measure is what is left of
+-- the count.
+use Prim.Native.Nat.{_+_, _-_, _≤_}
+use native.Mathlib.Omega.{arith}
+use mathlib.Core.Path.{_≡_, _∙_, refl, sym, ap}
+use mathlib.Core.Bool.{Bool, _&&_}
+use lib.ListN.{length, length-map, drop}
+use borrow.Author.Tests.{not-true, not-false}
+use Rattle.machine.specs.declared.part.Part.{Part}
+use Rattle.machine.specs.Lists.{every}
+use Rattle.machine.specs.Model.{trimmed}
+use Rattle.machine.specs.Time.{tick}
+use Rattle.inspection.specs.Parts.{part-fits}
+use Rattle.inspection.specs.Fronts.{every-end}
+use Rattle.inspection.specs.Trimmed.{parts-count, parts-on}
+use Rattle.inspection.proofs.parts.parts_fit.Statement.{statement}
+use Rattle.inspection.proofs.parts.parts_fit.Tie as tie
+
+abbrev Inv-loop : tie.InvT-loop
+Inv-loop magnitude m t i₀ i =
+    every (part-fits (m .count) magnitude (t .0)) (trimmed m .parts) ≡ every (part-fits (m .count) magnitude (t .0)) (drop i (trimmed m .parts))
+
+abbrev μ-loop : tie.MeasureT-loop
+μ-loop magnitude m t i₀ i = m .count - i
+
+-- a turn's question of the part i, and the rest after it
+turn : (c : tie.After-part-fits Inv-loop μ-loop) →
+    let test = c .before .before in
+    let start = test .before .before .before .before in
+    let m = start .args .t1 in
+    let f = part-fits (m .count) (start .args .magnitude) (tick (m .point)) in
+    every f (trimmed m .parts) ≡ (c .part-fits .result && every f (drop (test .before .loop .i + 1) (trimmed m .parts)))
+turn c =
+    let test = c .before .before in
+    let start = test .before .before .before .before in
+    let m = start .args .t1 in
+    let i = test .before .loop .i in
+    let f : Part → Bool = part-fits (m .count) (start .args .magnitude) (tick (m .point)) in
+    let few : m .count ≤ length (m .parts) = omega (arith, start .pre .0, simp length-map at (start .good .0)) in
+    test .before .loop .inv ∙ parts-on m few f i (test .loop-test .taken) ∙
+    ap (λ (b : Bool). b && every f (drop (i + 1) (trimmed m .parts))) (sym (c .part-fits .ensures))
+
+loop-holds : tie.Need-loop-holds Inv-loop μ-loop
+loop-holds c = refl
+
+mul-p : tie.Need-mul-p Inv-loop μ-loop
+mul-p c = omega (arith, c .loop-test .taken, c .before .before .before .before .pre .0)
+
+element-copy-out-p : tie.Need-element-copy-out-p Inv-loop μ-loop
+element-copy-out-p c = omega (arith, c .loop-test .taken, c .before .before .before .before .pre .0)
+
+part-fits-requires : tie.Need-part-fits-requires Inv-loop μ-loop
+part-fits-requires c κs = c .before .before .before .before .before .pre .1
+
+returns : tie.Need-returns Inv-loop μ-loop
+returns c = rw (turn (c .before), not-true (c .before .part-fits .result) (c .if1 .taken))
+
+add-i : tie.Need-add-i Inv-loop μ-loop
+add-i c =
+    let test = c .before .before .before in
+    omega (arith, test .loop-test .taken, test .before .before .before .before .pre .0)
+
+loop-less : tie.Need-loop-less Inv-loop μ-loop
+loop-less c = omega (arith, c .before .before .before .loop-test .taken)
+
+loop-again : tie.Need-loop-again Inv-loop μ-loop
+loop-again c = rw (turn (c .before), not-false (c .before .part-fits .result) (c .if1 .left))
+
+returns-2 : tie.Need-returns-2 Inv-loop μ-loop
+returns-2 c =
+    let start = c .before .before .before .before in
+    let m = start .args .t1 in
+    let f : Part → Bool = part-fits (m .count) (start .args .magnitude) (tick (m .point)) in
+    let few : m .count ≤ length (m .parts) = omega (arith, start .pre .0, simp length-map at (start .good .0)) in
+    let past : length (trimmed m .parts) ≤ c .before .loop .i = rw (parts-count m few) (c .loop-test .left) in
+    sym (c .before .loop .inv ∙ every-end f (trimmed m .parts) (c .before .loop .i) past)
+
+pub parts-fit-spec : {M : Type 1} → statement M
+parts-fit-spec =
+    tie.close
+    (tie.spec
+    Inv-loop
+    μ-loop
+    loop-holds
+    mul-p
+    element-copy-out-p
+    part-fits-requires
+    returns
+    add-i
+    loop-less
+    loop-again
+    returns-2)

@@ -1,0 +1,75 @@
+// The tests of the parts of a model, one by one. Its contracts cite the machine's `specs/Sound.antt`, and
+// `specs/Parts.antt`, which gathers what soundness asks of one part.
+use kinds::component::component_fits;
+use kinds::range::is_signal;
+use kinds::range::is_value;
+use kinds::ratio::period_fits;
+use kinds::ratio::ratio_of;
+use machine::model::Model;
+use machine::part::Part;
+use machine::part::State;
+use machine::time::Ticks;
+ghost use mathlib.Core.Path.{_≡_};
+ghost use Prim.Native.Nat.{_≤_};
+ghost use Rattle.machine.specs.Lists.{every};
+ghost use Rattle.machine.specs.Model.{trimmed, trimmed-part};
+ghost use Rattle.machine.specs.Time.{last-magnitude, tick};
+ghost use Rattle.inspection.specs.Parts.{part-fits, state-holds};
+
+// Whether a state may be that of a part with this ratio at tick t.
+fn state_fits(t: Ticks, ratio: u64, state: State) -> bool
+    ensures { λ r. ⌜ r ≡ state-holds (t .0) ratio state ⌝ }
+{
+    let local = state.local;
+    if local.0 != t.local(ratio).0 {
+        return false;
+    }
+    if !is_value(state.held) {
+        return false;
+    }
+    let signal = state.signal;
+    if !is_signal(signal) {
+        return false;
+    }
+    let output = state.output;
+    is_signal(output)
+}
+
+// Whether a part may be one of so many parts at tick t, by the master's magnitude.
+fn part_fits(p: Part, parts: usize, magnitude: u8, t: Ticks) -> bool
+    requires { ⌜ magnitude ≤ last-magnitude ⌝ }
+    ensures { λ r. ⌜ r ≡ part-fits parts magnitude (t .0) (trimmed-part p) ⌝ }
+{
+    let c = p.component;
+    if !component_fits(c, parts) {
+        return false;
+    }
+    let ratio = ratio_of(magnitude, c.preference);
+    if p.ratio != ratio {
+        return false;
+    }
+    if !period_fits(c.p, ratio) {
+        return false;
+    }
+    let state = p.state;
+    state_fits(t, ratio, state)
+}
+
+// Whether every part in use may be one of the model's, by the master's magnitude.
+pub fn parts_fit(m: Model, magnitude: u8) -> bool
+    requires { ⌜ m .count ≤ 32 ⌝ }
+    requires { ⌜ magnitude ≤ last-magnitude ⌝ }
+    ensures { λ r. ⌜ r ≡ every (part-fits (m .count) magnitude (tick (m .point))) (trimmed m .parts) ⌝ }
+{
+    let now = m.point;
+    let t = now.t;
+    let mut i: usize = 0;
+    while i < m.count {
+        let p = m.parts[i];
+        if !part_fits(p, m.count, magnitude, t) {
+            return false;
+        }
+        i += 1;
+    }
+    true
+}

@@ -1,0 +1,43 @@
+-- `refusal_of` is `refusal`: each return by the tests on the way to it.
+use mathlib.Core.Path.{sym, _∙_}
+use borrow.Author.Needs.{needs}
+use borrow.Author.Tests.{eq-eqb, ne-eqb}
+use Rattle.machine.specs.Model.{trimmed}
+use Rattle.master.specs.Searching.{refusal}
+use Rattle.master.proofs.search.refusal_of.Statement.{statement}
+use Rattle.master.proofs.search.refusal_of.Tie as tie
+
+returns : tie.Need-returns
+unfolding refusal
+returns c = rw (ne-eqb (c .before .args .h) 0 (c .if1 .taken))
+
+any-due-of-requires : tie.Need-any-due-of-requires
+any-due-of-requires c κs = search needs
+
+returns-2 : tie.Need-returns-2
+unfolding refusal trimmed
+returns-2 c =
+    let tests = c .before .before .before in
+    rw (
+      eq-eqb (tests .before .before .before .args .h) 0 (tests .before .before .if1 .left),
+      sym (tests .before .any-due-of .ensures) ∙ tests .if2 .taken,
+      eq-eqb (tests .before .before .before .args .m .point .n) 999 (c .if3 .taken),
+    )
+
+returns-3 : tie.Need-returns-3
+unfolding refusal trimmed
+returns-3 c =
+    let tests = c .before .before .before in
+    rw (
+      eq-eqb (tests .before .before .before .args .h) 0 (tests .before .before .if1 .left),
+      sym (tests .before .any-due-of .ensures) ∙ tests .if2 .taken,
+      ne-eqb (tests .before .before .before .args .m .point .n) 999 (c .if3 .left),
+    )
+
+returns-4 : tie.Need-returns-4
+unfolding refusal
+returns-4 c =
+    rw (eq-eqb (c .before .before .before .args .h) 0 (c .before .before .if1 .left), sym (c .before .any-due-of .ensures) ∙ c .if2 .left)
+
+pub refusal-of-spec : {M : Type 1} → statement M
+refusal-of-spec = tie.close (tie.spec returns any-due-of-requires returns-2 returns-3 returns-4)

@@ -1,0 +1,3 @@
+-- What the contracts and proofs of this crate cite beside `machine`'s definitions.
+pub mod Asked
+pub mod Searching

@@ -1,0 +1,83 @@
+// The search for the step of one advance, of a sound model.
+//
+// Its contracts cite `machine`'s `specs/Advance.antt` and this crate's `specs/Searching.antt`.
+use crate::asking::any_due_of;
+use crate::asking::any_objects_of;
+use crate::asking::round_of;
+use machine::model::Answer;
+use machine::model::Model;
+use steps::step::made;
+ghost use mathlib.Core.Path.{_≡_};
+ghost use mathlib.Core.Bool.{true};
+ghost use Prim.Native.Nat.{_+_, _≤_};
+ghost use Rattle.machine.specs.Time.{last-tick, tick};
+ghost use Rattle.machine.specs.Model.{trimmed};
+ghost use Rattle.machine.specs.Sound.{sound};
+ghost use Rattle.master.specs.Searching.{Searched, refusal};
+
+// The number of the refusal of a step of `h` that all parts accept, 0 where it is made on trial.
+fn refusal_of(m: Model, h: u64) -> u64
+    requires { ⌜ sound (trimmed m) ≡ true ⌝ }
+    ensures { λ r. ⌜ r ≡ refusal (trimmed m) h ⌝ }
+{
+    if h != 0 {
+        return 0;
+    }
+    if any_due_of(m) {
+        let now = m.point;
+        if now.n == 999 {
+            return 21;
+        }
+        return 0;
+    }
+    22
+}
+
+// The answer to a call that nothing bars: rounds lower h under a ceiling until one changes nothing; the
+// step is then refused, or made on trial, and an objection to the trial halves the ceiling.
+pub fn searched_answer(m: Model, w: u64) -> Answer
+    requires { ⌜ sound (trimmed m) ≡ true ⌝ }
+    requires { ⌜ w ≤ 1_000_000_000 ⌝ }
+    requires { ⌜ tick (m .point) + w ≤ last-tick ⌝ }
+    ensures { λ r. ⌜ Searched m w r ⌝ }
+{
+    let mut ceiling = w;
+    let mut h = w;
+    let mut rounds: u64 = 0;
+    let mut revisions: u64 = 0;
+    'ceilings: loop {
+        loop {
+            let least = round_of(m, h);
+            rounds += 1;
+            if least == h {
+                let number = refusal_of(m, h);
+                if number != 0 {
+                    break 'ceilings Answer {
+                        model: m,
+                        number: number,
+                        step: 0,
+                        rounds: rounds,
+                        revisions: revisions,
+                        ceiling: ceiling,
+                    };
+                }
+                let trial = made(m, h);
+                if any_objects_of(h, trial) {
+                    break;
+                }
+                break 'ceilings Answer {
+                    model: trial,
+                    number: 0,
+                    step: h,
+                    rounds: rounds,
+                    revisions: revisions,
+                    ceiling: ceiling,
+                };
+            }
+            h = least;
+        }
+        revisions += 1;
+        h = h / 2;
+        ceiling = h;
+    }
+}

@@ -1,0 +1,57 @@
+-- `begin` is cut where its operand is; else its step is the definition's.
+use Prim.Native.Nat.{ℕ, _+_, _≤_, _<_}
+use native.Mathlib.Omega.{arith}
+use mathlib.Core.Path.{_≡_, _∙_}
+use mathlib.Core.List.{List}
+use lib.ListN.{length}
+use borrow.Author.Tests.{le-leb, lt-leb}
+use Rattle.machine.specs.Load.{byte-at, begin-read, begin-refusal, begun-with, unless-refused}
+use Rattle.reading.specs.Steps.{step-of, uncut}
+use borrow.Author.Needs.{needs}
+use Rattle.reading.proofs.command.begin.Statement.{statement}
+use Rattle.reading.proofs.command.begin.Tie as tie
+
+-- a Begin that is whole is the definition's
+begin-as : (bs : List ℕ) (at e next : ℕ) → at + 2 ≤ length bs → e ≡ byte-at bs (at + 1) → next ≡ at + 2 →
+    unless-refused (begin-refusal e) at next (begun-with e) ≡ uncut bs at 2 (begin-read bs at)
+unfolding uncut begin-read
+begin-as bs at e next whole same there = rw (same, there, le-leb (at + 2) (length bs) whole)
+
+add-t7 : tie.Need-add-t7
+add-t7 c = search needs
+
+byte-requires : tie.Need-byte-requires
+byte-requires c κs = search needs
+
+enum-known-e : tie.Need-enum-known-e
+enum-known-e c = search needs
+
+enum-told : tie.Need-enum-told
+enum-told c = search needs
+
+returns : tie.Need-returns
+unfolding step-of uncut
+returns c =
+    let cut = rw (c .enum-told .given .1) at (c .before .before .byte .ensures) in
+    let args = c .before .before .before .before .args in
+    let short : length (args .s .now) < args .at + 2 = omega arith in (
+      λ rows. rw (lt-leb (args .at + 2) (length (args .s .now)) short),
+      omega arith,
+    )
+
+begin-step-requires : tie.Need-begin-step-requires
+begin-step-requires c κs = search needs
+
+returns-2 : tie.Need-returns-2
+returns-2 c =
+    let found = c .before .before in
+    let args = found .before .before .before .before .args in
+    let got = rw (found .e .given .1) at (found .before .before .byte .ensures) in (
+      λ rows. c .begin-step .ensures .0 rows (args .at) ∙ begin-as (args .s .now) (args .at) _ _ (omega arith) (got .1) (omega arith),
+      omega arith,
+    )
+
+pub begin-spec : {M : Type 1} → statement M
+begin-spec =
+    tie.close
+    (tie.spec add-t7 byte-requires enum-known-e enum-told returns begin-step-requires returns-2)

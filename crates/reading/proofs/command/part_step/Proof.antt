@@ -1,0 +1,48 @@
+-- `part_step` is refused as the definition, and else has one part more; a part that is not refused has room.
+use Prim.Native.Nat.{ℕ, _<_}
+use native.Mathlib.Omega.{arith}
+use mathlib.Core.Path.{_≡_, _∙_, sym}
+use mathlib.Core.Bool.{true, false}
+use mathlib.Core.Logic.{_⊎_, inl, inr}
+use lib.Dec.{leb}
+use borrow.Author.Tests.{leb-false, ne-eqb}
+use Rattle.laws.specs.Bools.{either}
+use Rattle.reading.specs.declared.operands.PartOperands.{PartOperands}
+use Rattle.reading.specs.Refusals.{part-number}
+use Rattle.reading.specs.Steps.{step-of}
+use borrow.Author.Needs.{needs}
+use Rattle.reading.proofs.command.part_step.Statement.{statement}
+use Rattle.reading.proofs.command.part_step.Tie as tie
+
+-- a part that is not refused has room
+part-room : (count : ℕ) (o : PartOperands) → part-number count o ≡ 0 → count < 32
+unfolding part-number
+part-room count o none = by-test (either (leb 32 count))
+  where
+    by-test : (leb 32 count ≡ true) ⊎ (leb 32 count ≡ false) → count < 32
+    by-test (inl e) = absurd (omega (arith, rw e at none))
+    by-test (inr e) = leb-false 32 count e
+
+part-refusal-requires : tie.Need-part-refusal-requires
+part-refusal-requires c κs = search needs
+
+returns : tie.Need-returns
+unfolding step-of
+returns c = (
+  λ rows at. rw (← c .before .part-refusal .ensures, ne-eqb _ _ (c .if1 .taken)),
+  omega arith,
+)
+
+with-part-requires : tie.Need-with-part-requires
+with-part-requires c κs = part-room _ _ (sym (c .before .part-refusal .ensures) ∙ c .if1 .left)
+
+returns-2 : tie.Need-returns-2
+unfolding step-of
+returns-2 c =
+    let number = c .before .before .part-refusal in (
+      λ rows at. rw (← number .ensures, c .before .if1 .left, c .with-part .ensures .0 rows),
+      omega arith,
+    )
+
+pub part-step-spec : {M : Type 1} → statement M
+part-step-spec = tie.close (tie.spec part-refusal-requires returns with-part-requires returns-2)

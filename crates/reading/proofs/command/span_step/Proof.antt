@@ -1,0 +1,118 @@
+-- `span_step` is refused as the definition, by the last part's count and last span, and else has one span more; a span that is not refused has room.
+use Prim.Native.Nat.{ℕ, _<_, _≤_}
+use native.Mathlib.Omega.{arith}
+use mathlib.Core.Path.{_≡_, _∙_, sym}
+use mathlib.Core.Bool.{true, false}
+use mathlib.Core.List.{List, []}
+use mathlib.Core.Logic.{_⊎_, inl, inr}
+use lib.Dec.{leb}
+use lib.ListN.{length, getD, take, length-map, length-take}
+use lib.Seq.{getD-take}
+use borrow.Author.Tests.{leb-false, ne-eqb}
+use Rattle.laws.specs.Bools.{either}
+use Rattle.machine.specs.Model.{blank-component}
+use Rattle.machine.specs.Table.{component-at}
+use Rattle.machine.specs.Load.{last-span, span-refusal}
+use Rattle.reading.specs.declared.progress.Progress.{Progress}
+use Rattle.reading.specs.Progress.{with-row, reading-of}
+use Rattle.reading.specs.Refusals.{span-number}
+use Rattle.reading.specs.Rows.{joined-at}
+use Rattle.reading.specs.Spanned.{last-of, last-place, span-count, Beside}
+use Rattle.reading.specs.Steps.{step-of}
+use Rattle.reading.specs.Tests.{at-least-min}
+use borrow.Author.Needs.{needs}
+use Rattle.reading.proofs.command.span_step.Statement.{statement}
+use Rattle.reading.proofs.command.span_step.Tie as tie
+
+-- the refusal of a Span is the one by the last part's count and last span
+refusal-as : (progress : Progress) (rows : List (List ℕ)) (last v : ℕ) → 0 < progress .count → progress .count ≤ length (progress .parts) →
+    Beside progress rows last →
+    span-refusal (component-at (reading-of progress rows .table .parts) (last-place progress)) v ≡ span-number (span-count progress) last v
+unfolding reading-of with-row span-refusal span-number last-span last-of
+refusal-as progress rows last v some few beside =
+    let k = last-place progress in
+    let here : k < progress .count = omega arith in
+    let inside : k < length (take (progress .count) (progress .parts)) = rw length-take (omega arith) in
+    rw (
+      joined-at (take (progress .count) (progress .parts)) rows k blank-component blank-component inside,
+      getD-take (progress .count) (progress .parts) k blank-component here,
+      beside .final,
+      length-take (span-count progress) (getD rows k []),
+      beside .eight,
+      at-least-min 8 (span-count progress),
+    )
+
+-- a span that is not refused has room
+span-room : (count last v : ℕ) → span-number count last v ≡ 0 → count < 8
+unfolding span-number
+span-room count last v none = by-test (either (leb 8 count))
+  where
+    by-test : (leb 8 count ≡ true) ⊎ (leb 8 count ≡ false) → count < 8
+    by-test (inl e) = absurd (omega (arith, rw e at none))
+    by-test (inr e) = leb-false 8 count e
+
+sub-k : tie.Need-sub-k
+sub-k c = search needs
+
+mul-c : tie.Need-mul-c
+mul-c c = search needs
+
+element-copy-out-c : tie.Need-element-copy-out-c
+element-copy-out-c c = search needs
+
+span-refusal-requires : tie.Need-span-refusal-requires
+span-refusal-requires c κs = search needs
+
+returns : tie.Need-returns
+unfolding step-of
+returns c =
+    let start = c .before .before .before in
+    let progress = start .args .t1 in
+    let many : length (progress .parts) ≡ 32 = omega (arith, simp length-map at (start .good .0)) in
+    let few : progress .count ≤ length (progress .parts) = omega arith in (
+      λ rows at beside.
+          rw (
+            refusal-as progress rows (start .args .last) (start .args .v) (start .pre .0) few beside,
+            ← c .before .span-refusal .ensures,
+            ne-eqb _ _ (c .if1 .taken),
+          ),
+      omega arith,
+    )
+
+with-span-counted-requires : tie.Need-with-span-counted-requires
+with-span-counted-requires c κs =
+    let start = c .before .before .before in
+    let none = sym (c .before .span-refusal .ensures) ∙ c .if1 .left in
+    (omega arith, start .pre .1, span-room (span-count (start .args .t1)) (start .args .last) (start .args .v) none)
+
+returns-2 : tie.Need-returns-2
+unfolding step-of
+returns-2 c =
+    let start = c .before .before .before .before in
+    let progress = start .args .t1 in
+    let number = c .before .before .span-refusal in
+    let many : length (progress .parts) ≡ 32 = omega (arith, simp length-map at (start .good .0)) in
+    let few : progress .count ≤ length (progress .parts) = omega arith in
+    let room = span-room (span-count progress) (start .args .last) (start .args .v) (sym (number .ensures) ∙ c .before .if1 .left) in (
+      λ rows at beside.
+          let inside : span-count progress < length (getD rows (last-place progress) []) = rw (beside .eight) room in
+          rw (
+            refusal-as progress rows (start .args .last) (start .args .v) (start .pre .0) few beside,
+            ← number .ensures,
+            c .before .if1 .left,
+            c .with-span-counted .ensures .0 rows (start .args .v) (beside .there) inside,
+          ),
+      omega arith,
+    )
+
+pub span-step-spec : {M : Type 1} → statement M
+span-step-spec =
+    tie.close
+    (tie.spec
+    sub-k
+    mul-c
+    element-copy-out-c
+    span-refusal-requires
+    returns
+    with-span-counted-requires
+    returns-2)
