@@ -9,6 +9,7 @@ use machine::model::Model;
 use steps::step::made;
 ghost use mathlib.Core.Path.{_≡_};
 ghost use mathlib.Core.Bool.{true};
+ghost use lib.Dec.{eqb};
 ghost use Prim.Native.Nat.{_+_, _≤_};
 ghost use Rattle.machine.specs.Time.{last-tick, tick};
 ghost use Rattle.machine.specs.Model.{trimmed};
@@ -33,6 +34,13 @@ fn refusal_of(m: Model, h: u64) -> u64
     22
 }
 
+// Whether a round at `h` that came to `least` changed nothing.
+fn changed_nothing(least: u64, h: u64) -> bool
+    ensures { λ r. ⌜ r ≡ eqb least h ⌝ }
+{
+    least == h
+}
+
 // The answer to a call that nothing bars: rounds lower h under a ceiling until one changes nothing; the
 // step is then refused, or made on trial, and an objection to the trial halves the ceiling.
 pub fn searched_answer(m: Model, w: u64) -> Answer
@@ -49,7 +57,7 @@ pub fn searched_answer(m: Model, w: u64) -> Answer
         loop {
             let least = round_of(m, h);
             rounds += 1;
-            if least == h {
+            if changed_nothing(least, h) {
                 let number = refusal_of(m, h);
                 if number != 0 {
                     break 'ceilings Answer {

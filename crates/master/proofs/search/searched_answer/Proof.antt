@@ -3,7 +3,10 @@
 use Prim.Native.Nat.{ℕ, _+_, _≤_, _<_}
 use native.Mathlib.Omega.{arith}
 use mathlib.Core.Path.{_≡_, sym, ap, subst, _∙_}
-use mathlib.Core.Bool.{true}
+use mathlib.Core.Bool.{Bool, true, false}
+use lib.Dec.{eqb}
+use borrow.Author.Needs.{needs}
+use borrow.Author.Tests.{eqb-true, eqb-false}
 use Rattle.machine.specs.declared.model.Model.{Model}
 use Rattle.machine.specs.Time.{tick, last-tick}
 use Rattle.machine.specs.Model.{trimmed}
@@ -36,6 +39,13 @@ unfolding trimmed
 trial-sound m is-sound w h n within far none trial is =
     ap sound is ∙ step-sound (trimmed m) h is-sound (omega arith) (may-step m is-sound h none)
 
+-- what a round that changed nothing came to, and one that changed h
+kept : (least h k : ℕ) (test : Bool) → least ≡ k → test ≡ eqb least h → test ≡ true → k ≡ h
+kept least h k test is tests taken = sym is ∙ eqb-true least h (sym tests ∙ taken)
+
+changed : (least h k : ℕ) (test : Bool) → least ≡ k → test ≡ eqb least h → test ≡ false → k ≡ h → ⊥
+changed least h k test is tests left e = eqb-false least h (sym tests ∙ left) (is ∙ e)
+
 ceilings-holds : tie.Need-ceilings-holds Inv-loop μ-loop Inv-ceilings μ-ceilings
 ceilings-holds c =
     (left-start (trimmed (c .args .m)) (c .args .w), omega arith, omega arith)
@@ -59,13 +69,16 @@ add-rounds c =
     let within = c .before .loop .inv .1 in
     omega (arith, small, within)
 
+changed-nothing-requires : tie.Need-changed-nothing-requires Inv-loop μ-loop Inv-ceilings μ-ceilings
+changed-nothing-requires c κs = search needs
+
 refusal-of-requires : tie.Need-refusal-of-requires Inv-loop μ-loop Inv-ceilings μ-ceilings
 refusal-of-requires c κs =
-    c .before .before .before .before .pre .0
+    c .before .before .before .before .before .pre .0
 
 made-requires : tie.Need-made-requires Inv-loop μ-loop Inv-ceilings μ-ceilings
 made-requires c κs =
-    let at = c .before .before .before .before in
+    let at = c .before .before .before .before .before in
     let s = at .before .before in
     let far = s .pre .1 .1 in
     let small = s .pre .1 .0 in
@@ -75,7 +88,7 @@ made-requires c κs =
 
 any-objects-of-requires : tie.Need-any-objects-of-requires Inv-loop μ-loop Inv-ceilings μ-ceilings
 any-objects-of-requires c κs =
-    let at = c .before .before .before .before .before in
+    let at = c .before .before .before .before .before .before in
     let s = at .before .before in
     let m = s .args .m in
     let h = at .loop .h in
@@ -84,18 +97,24 @@ any-objects-of-requires c κs =
 
 loop-less : tie.Need-loop-less Inv-loop μ-loop Inv-ceilings μ-ceilings
 loop-less c =
-    let at = c .before .before in
-    let s = at .before .before in
-    rw (c .before .round-of .ensures) (lower-below (trimmed (s .args .m)) (s .pre .0) (at .loop .h) (λ e. c .if1 .left (c .before .round-of .ensures ∙ e)))
-
-loop-again : tie.Need-loop-again Inv-loop μ-loop Inv-ceilings μ-ceilings
-loop-again c =
-    let at = c .before .before in
+    let rounds = c .before .before in
+    let at = rounds .before in
     let s = at .before .before in
     let m = trimmed (s .args .m) in
     let h = at .loop .h in
-    let is = c .before .round-of .ensures in
-    let other : round m h ≡ h → ⊥ = λ e. c .if1 .left (is ∙ e) in
+    let is = rounds .round-of .ensures in
+    let other : round m h ≡ h → ⊥ = changed (rounds .round-of .result) h (round m h) _ is (c .before .changed-nothing .ensures) (c .if1 .left) in
+    rw is (lower-below m (s .pre .0) h other)
+
+loop-again : tie.Need-loop-again Inv-loop μ-loop Inv-ceilings μ-ceilings
+loop-again c =
+    let rounds = c .before .before in
+    let at = rounds .before in
+    let s = at .before .before in
+    let m = trimmed (s .args .m) in
+    let h = at .loop .h in
+    let is = rounds .round-of .ensures in
+    let other : round m h ≡ h → ⊥ = changed (rounds .round-of .result) h (round m h) _ is (c .before .changed-nothing .ensures) (c .if1 .left) in
     let below : round m h < h = lower-below m (s .pre .0) h other in
     let inv = at .loop .inv in (
       subst (λ (l : ℕ). Left m (s .args .w) (at .before .ceilings .ceiling) l (at .loop .rounds + 1) (at .before .ceilings .revisions)) (sym is)
@@ -107,7 +126,7 @@ loop-again c =
 
 add-revisions : tie.Need-add-revisions Inv-loop μ-loop Inv-ceilings μ-ceilings
 add-revisions c =
-    let at = c .before .before .before .before .before .before .before in
+    let at = c .before .before .before .before .before .before .before .before in
     let s = at .before .before in
     let small = s .pre .1 .0 in
     let within = at .loop .inv .2 in
@@ -117,11 +136,13 @@ ceilings-less : tie.Need-ceilings-less Inv-loop μ-loop Inv-ceilings μ-ceilings
 ceilings-less c =
     let after = c .before .before in
     let refuses = after .before .before in
-    let at = refuses .before .before .before in
+    let rounds = refuses .before .before .before in
+    let at = rounds .before in
     let s = at .before .before in
     let m = s .args .m in
     let h = at .loop .h in
-    let same : round (trimmed m) h ≡ h = sym (refuses .before .before .round-of .ensures) ∙ refuses .before .if1 .taken in
+    let same : round (trimmed m) h ≡ h =
+    kept (rounds .round-of .result) h (round (trimmed m) h) _ (rounds .round-of .ensures) (refuses .before .before .changed-nothing .ensures) (refuses .before .if1 .taken) in
     let none : refusal (trimmed m) h ≡ 0 = sym (refuses .refusal-of .ensures) ∙ after .before .if2 .left in
     let some : any-objects h (step-made (trimmed m) h) ≡ true =
     ap (any-objects h) (sym (after .made .ensures .0)) ∙ sym (c .before .any-objects-of .ensures) ∙ c .if3 .taken in
@@ -133,11 +154,13 @@ ceilings-again : tie.Need-ceilings-again Inv-loop μ-loop Inv-ceilings μ-ceilin
 ceilings-again c =
     let after = c .before .before in
     let refuses = after .before .before in
-    let at = refuses .before .before .before in
+    let rounds = refuses .before .before .before in
+    let at = rounds .before in
     let s = at .before .before in
     let m = s .args .m in
     let h = at .loop .h in
-    let same : round (trimmed m) h ≡ h = sym (refuses .before .before .round-of .ensures) ∙ refuses .before .if1 .taken in
+    let same : round (trimmed m) h ≡ h =
+    kept (rounds .round-of .result) h (round (trimmed m) h) _ (rounds .round-of .ensures) (refuses .before .before .changed-nothing .ensures) (refuses .before .if1 .taken) in
     let none : refusal (trimmed m) h ≡ 0 = sym (refuses .refusal-of .ensures) ∙ after .before .if2 .left in
     let some : any-objects h (step-made (trimmed m) h) ≡ true =
     ap (any-objects h) (sym (after .made .ensures .0)) ∙ sym (c .before .any-objects-of .ensures) ∙ c .if3 .taken in
@@ -151,11 +174,13 @@ ceilings-again c =
 returns : tie.Need-returns Inv-loop μ-loop Inv-ceilings μ-ceilings
 returns c =
     let refuses = c .before in
-    let at = refuses .before .before .before in
+    let rounds = refuses .before .before .before in
+    let at = rounds .before in
     let s = at .before .before in
     let m = s .args .m in
     let h = at .loop .h in
-    let same : round (trimmed m) h ≡ h = sym (refuses .before .before .round-of .ensures) ∙ refuses .before .if1 .taken in
+    let same : round (trimmed m) h ≡ h =
+    kept (rounds .round-of .result) h (round (trimmed m) h) _ (rounds .round-of .ensures) (refuses .before .before .changed-nothing .ensures) (refuses .before .if1 .taken) in
     refused-answer m (s .pre .0) (s .args .w) (at .before .ceilings .ceiling) h (at .loop .rounds) (at .before .ceilings .revisions) (refuses .refusal-of .result)
     (at .loop .inv .0) same (refuses .refusal-of .ensures) (c .if2 .taken)
 
@@ -163,11 +188,13 @@ returns-2 : tie.Need-returns-2 Inv-loop μ-loop Inv-ceilings μ-ceilings
 returns-2 c =
     let after = c .before .before in
     let refuses = after .before .before in
-    let at = refuses .before .before .before in
+    let rounds = refuses .before .before .before in
+    let at = rounds .before in
     let s = at .before .before in
     let m = s .args .m in
     let h = at .loop .h in
-    let same : round (trimmed m) h ≡ h = sym (refuses .before .before .round-of .ensures) ∙ refuses .before .if1 .taken in
+    let same : round (trimmed m) h ≡ h =
+    kept (rounds .round-of .result) h (round (trimmed m) h) _ (rounds .round-of .ensures) (refuses .before .before .changed-nothing .ensures) (refuses .before .if1 .taken) in
     let none : refusal (trimmed m) h ≡ 0 = sym (refuses .refusal-of .ensures) ∙ after .before .if2 .left in
     committed-answer m (s .pre .0) (after .made .result) (s .args .w) (at .before .ceilings .ceiling) h (at .loop .rounds) (at .before .ceilings .revisions)
     (at .loop .inv .0) same none (sym (c .before .any-objects-of .ensures) ∙ c .if3 .left) (after .made .ensures .0) (after .made .ensures .1)
@@ -184,6 +211,7 @@ searched-answer-spec =
     loop-holds
     round-of-requires
     add-rounds
+    changed-nothing-requires
     refusal-of-requires
     made-requires
     any-objects-of-requires
