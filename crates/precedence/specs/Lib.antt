@@ -3,3 +3,4 @@ pub mod Turns
 pub mod Times
 pub mod Links
 pub mod Passed
+pub mod Sourced
