@@ -5,10 +5,9 @@ use native.Mathlib.Numerals.{add-one}
 use mathlib.Core.Path.{_≡_}
 use mathlib.Core.Bool.{Bool, true, _&&_}
 use mathlib.Core.List.{List}
-use lib.Dec.{eqb}
 use lib.ListN.{length, getD, drop, drop-of-length-le}
 use lib.Seq.{drop-cons}
-use Rattle.machine.specs.Lists.{every, same}
+use Rattle.machine.specs.Lists.{every}
 use Rattle.machine.specs.Time.{larger, master-magnitude}
 
 module _ {ℓ} {A : Type ℓ} where
@@ -19,16 +18,6 @@ module _ {ℓ} {A : Type ℓ} where
   pub every-end : (f : A → Bool) (l : List A) (i : ℕ) → length l ≤ i → every f (drop i l) ≡ true
   unfolding every
   every-end f l i h = rw (drop-of-length-le l h)
-
-pub same-on :
-    (k l : List ℕ) (i : ℕ) → i < length k → i < length l →
-    same (drop i k) (drop i l) ≡ (eqb (getD k i 0) (getD l i 0) && same (drop (i + 1) k) (drop (i + 1) l))
-unfolding same
-same-on k l i h g = rw (drop-cons k i 0 h, drop-cons l i 0 g, add-one)
-
-pub same-end : (k l : List ℕ) (i : ℕ) → length k ≤ i → length l ≤ i → same (drop i k) (drop i l) ≡ true
-unfolding same
-same-end k l i h g = rw (drop-of-length-le k h, drop-of-length-le l g)
 
 pub magnitude-on :
     (e : ℕ) (l : List ℕ) (i : ℕ) → i < length l → master-magnitude e (drop i l) ≡ master-magnitude (larger e (getD l i 0)) (drop (i + 1) l)

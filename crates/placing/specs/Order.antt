@@ -37,7 +37,7 @@ port-placed marks true s = refl
 port-placed marks false s = refl
 
 -- a component is ready where both its direct sources are placed
-ready-direct : (marks : List Bool) (c : Component) → ready marks c ≡ both-placed marks (direct-of c)
+pub ready-direct : (marks : List Bool) (c : Component) → ready marks c ≡ both-placed marks (direct-of c)
 unfolding ready both-placed direct-of
 ready-direct marks c =
     ap₂ _&&_ (port-placed marks (direct0 (c .kind)) (c .port0)) (port-placed marks (direct1 (c .kind)) (c .port1))

@@ -22,9 +22,9 @@ pub struct Placed {
 }
 
 // The direct sources of a part: what each port is wired to if it is direct, else nothing.
-struct Direct {
-    port0: Source,
-    port1: Source,
+pub struct Direct {
+    pub port0: Source,
+    pub port1: Source,
 }
 
 // What is found: a part, by its number, or nothing.
@@ -41,7 +41,7 @@ fn if_direct(direct: bool, source: Source) -> Source
 }
 
 // The direct sources of a part.
-fn direct_sources(part: Component) -> Direct
+pub fn direct_sources(part: Component) -> Direct
     ensures { λ r. ⌜ r ≡ direct-of part ⌝ }
 {
     let kind = part.kind;
