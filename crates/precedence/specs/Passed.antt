@@ -13,6 +13,7 @@ use lib.Dec.{leb}
 use borrow.Author.Tests.{le-leb, lt-leb, lt-ltb, le-ltb, leb-true, leb-false}
 use Rattle.machine.specs.declared.part.Component.{Component}
 use Rattle.machine.specs.Lists.{same}
+use Rattle.machine.specs.Model.{most-parts}
 use Rattle.machine.specs.Table.{ordered, part-order}
 use Rattle.laws.specs.Bools.{either}
 use Rattle.placing.specs.declared.Direct.{Direct}
@@ -24,14 +25,14 @@ use Rattle.precedence.specs.Links.{Link, Links, WalkedBack, links-more}
 -- the places before i of an order ks of n parts are passed
 pub record Passed (n : ℕ) (ds : List Direct) (ks after links : List ℕ) (i : ℕ) : Type 0 where
   pub few : i ≤ n
-  pub numbered : length after ≡ 32
-  pub room : length links ≡ 32
+  pub numbered : length after ≡ most-parts
+  pub room : length links ≡ most-parts
   pub turns : (j : ℕ) → j < i → InTurn n ds ks j
   pub placed : PlacedAfter n ks after i
   pub linked : Links ks links i
 
 -- at first none is
-pub none-passed : (n : ℕ) (ds : List Direct) (ks links : List ℕ) → n ≤ 32 → length links ≡ 32 → Passed n ds ks (replicate 32 33) links 0
+pub none-passed : (n : ℕ) (ds : List Direct) (ks links : List ℕ) → n ≤ most-parts → length links ≡ most-parts → Passed n ds ks (replicate most-parts (suc most-parts)) links 0
 none-passed n ds ks links few room =
     record {
       few = omega arith;
@@ -90,7 +91,7 @@ module _ (n : ℕ) (ds : List Direct) (ks after links : List ℕ) (i : ℕ) (pas
         }
 
     -- and it is passed
-    pub one-passed : i < n → n ≤ 32 → n ≤ length ks → Passed n ds ks (set after (getD ks i 0) (suc i)) (set links i l) (suc i)
+    pub one-passed : i < n → n ≤ most-parts → n ≤ length ks → Passed n ds ks (set after (getD ks i 0) (suc i)) (set links i l) (suc i)
     one-passed more few long =
         record {
           few = more;
@@ -118,6 +119,7 @@ module _
     (long : n ≤ length ks)
     (cs : List Component)
     (of-parts : map direct-of cs ≡ take n ds) where
+  -- they are n
   counted : length cs ≡ n
   counted = sym (length-map cs direct-of) ∙ ap length of-parts ∙ length-take-le n ds sourced
 

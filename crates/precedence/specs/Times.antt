@@ -1,6 +1,6 @@
 -- When parts are placed: of each part, how many parts are placed once it is. By these numbers the direct sources of a part are placed after p places
 -- exactly where the larger of their numbers is at most p. Assumes nothing.
-use Prim.Native.Nat.{ℕ, zero, suc, _+_, _≤_, _<_, max}
+use Prim.Native.Nat.{ℕ, suc, _≤_, _<_, max}
 use native.Mathlib.Omega.{arith}
 use native.Mathlib.Nat.{eq-or-lt-of-le}
 use mathlib.Core.Path.{_≡_, refl, sym, ap₂, _∙_}
@@ -13,6 +13,7 @@ use lib.Dec.{eqb, leb, ltb}
 use borrow.Author.Tests.{eqb-true, eqb-false, leb-true, leb-false, le-leb, lt-leb, lt-ltb, le-ltb, ltb-true, ltb-false}
 use Rattle.machine.specs.declared.part.Source.{Source}
 use Rattle.machine.specs.declared.part.Source.the-variants.{Unwired, From}
+use Rattle.machine.specs.Model.{most-parts}
 use Rattle.machine.specs.Table.{source-placed}
 use Rattle.laws.specs.Bools.{either}
 use Rattle.laws.specs.Marks.{cleared, clear-set}
@@ -30,10 +31,10 @@ unfoldable pub ready-after : List ℕ → ℕ → Direct → ℕ
 ready-after after n d = max (source-after after n (d .port0)) (source-after after n (d .port1))
 
 -- the numbers of n parts, the first i places of the order ks being passed: they say which parts are marked after each of these places, and a part
--- that has no place yet has a number above 32
+-- that has no place yet has a number above the most parts
 pub record PlacedAfter (n : ℕ) (ks after : List ℕ) (i : ℕ) : Type 0 where
   pub marked : (p k : ℕ) → p ≤ i → k < n → getD (marks-at n ks p) k false ≡ ltb p (getD after k 0)
-  pub known : (k : ℕ) → k < n → (getD after k 0 ≤ i) ⊎ (32 < getD after k 0)
+  pub known : (k : ℕ) → k < n → (getD after k 0 ≤ i) ⊎ (most-parts < getD after k 0)
 
 -- as many marks as parts
 length-cleared : (marks : List Bool) (ks : List ℕ) → length (cleared marks ks) ≡ length marks
@@ -82,31 +83,32 @@ module _ (n : ℕ) (ks after : List ℕ) (i : ℕ) (placed : PlacedAfter n ks af
       ap₂ _&&_ (source-by (d .port0)) (source-by (d .port1)) ∙ and-leb (source-after after n (d .port0)) (source-after after n (d .port1)) p
 
 -- at first no part has a place
-pub none-placed : (n : ℕ) (ks : List ℕ) → n ≤ 32 → PlacedAfter n ks (replicate 32 33) 0
+pub none-placed : (n : ℕ) (ks : List ℕ) → n ≤ most-parts → PlacedAfter n ks (replicate most-parts (suc most-parts)) 0
 unfolding marks-at cleared
 none-placed n ks few =
-    let unplaced : ℕ = 33 in
-    let never : (k : ℕ) → k < n → getD (replicate 32 unplaced) k 0 ≡ unplaced = λ k h. getD-replicate 32 k unplaced 0 (omega arith) in
+    let unplaced : ℕ = suc most-parts in
+    let never : (k : ℕ) → k < n → getD (replicate most-parts unplaced) k 0 ≡ unplaced = λ k h. getD-replicate most-parts k unplaced 0 (omega arith) in
     record {
       marked =
           λ p k le h.
           let first : p ≡ 0 = omega arith in
-          rw (first, getD-replicate n k true false h, lt-ltb 0 (getD (replicate 32 unplaced) k 0) (omega (arith, never k h)));
+          rw (first, getD-replicate n k true false h, lt-ltb 0 (getD (replicate most-parts unplaced) k 0) (omega (arith, never k h)));
       known = λ k h. inr (omega (arith, never k h));
     }
 
--- the part at place i, which had none, is placed
+-- the part at place i, which had no place, gets it
 module _
     (n : ℕ)
     (ks after : List ℕ)
     (i : ℕ)
     (placed : PlacedAfter n ks after i)
-    (room : i < 32)
+    (room : i < most-parts)
     (there : i < length ks)
     (part : getD ks i 0 < n)
     (numbered : getD ks i 0 < length after)
     (new : i < getD after (getD ks i 0) 0) where
-  never-before : 32 < getD after (getD ks i 0) 0
+  -- its number said that it had none
+  never-before : most-parts < getD after (getD ks i 0) 0
   never-before = ⊎-elim (λ le. omega arith) (λ lt. lt) (placed .known (getD ks i 0) part)
 
   -- its own number, and those of the others
@@ -131,7 +133,7 @@ module _
   marked-here : (k : ℕ) → k < n → getD (marks-at n ks (suc i)) k false ≡ ltb (suc i) (getD (set after (getD ks i 0) (suc i)) k 0)
   marked-here k h = rw (marks-next n ks i there) (by-part (either (eqb k (getD ks i 0))))
     where
-      later : (getD after k 0 ≤ i) ⊎ (32 < getD after k 0) → ltb i (getD after k 0) ≡ ltb (suc i) (getD after k 0)
+      later : (getD after k 0 ≤ i) ⊎ (most-parts < getD after k 0) → ltb i (getD after k 0) ≡ ltb (suc i) (getD after k 0)
       later (inl le) = rw (le-ltb i (getD after k 0) le, le-ltb (suc i) (getD after k 0) (omega arith))
       later (inr lt) = rw (lt-ltb i (getD after k 0) (omega arith), lt-ltb (suc i) (getD after k 0) (omega arith))
 
@@ -144,15 +146,17 @@ module _
           rw (other k apart, getD-set-other (marks-at n ks i) (getD ks i 0) k false false apart)
           (placed .marked i k (omega arith) h ∙ later (placed .known k h))
 
-  known-here : (k : ℕ) → k < n → (getD (set after (getD ks i 0) (suc i)) k 0 ≤ suc i) ⊎ (32 < getD (set after (getD ks i 0) (suc i)) k 0)
+  -- each part has a number of at most i + 1, or no place yet
+  known-here : (k : ℕ) → k < n → (getD (set after (getD ks i 0) (suc i)) k 0 ≤ suc i) ⊎ (most-parts < getD (set after (getD ks i 0) (suc i)) k 0)
   known-here k h = by-part (either (eqb k (getD ks i 0)))
     where
       by-part : (eqb k (getD ks i 0) ≡ true) ⊎ (eqb k (getD ks i 0) ≡ false) →
-          (getD (set after (getD ks i 0) (suc i)) k 0 ≤ suc i) ⊎ (32 < getD (set after (getD ks i 0) (suc i)) k 0)
+          (getD (set after (getD ks i 0) (suc i)) k 0 ≤ suc i) ⊎ (most-parts < getD (set after (getD ks i 0) (suc i)) k 0)
       by-part (inl t) = inl (rw (eqb-true k (getD ks i 0) t, own) (omega arith))
       by-part (inr t) =
           rw (other k (eqb-false k (getD ks i 0) t)) (⊎-elim (λ le. inl (omega arith)) (λ lt. inr lt) (placed .known k h))
 
+  -- so the numbers are right for one place more
   pub one-placed : PlacedAfter n ks (set after (getD ks i 0) (suc i)) (suc i)
   one-placed =
       record {

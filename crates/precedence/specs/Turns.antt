@@ -21,7 +21,7 @@ use Rattle.machine.specs.Table.{component-at, ready, lowest-ready, placed, part
 use Rattle.laws.specs.Bools.{either, and-left, and-right, and-intro}
 use Rattle.laws.specs.Lists.{equal-same, getD-map-in, same-equal}
 use Rattle.laws.specs.Marks.{cleared, left, left-replicate, left-set, marked-before}
-use Rattle.ordering.specs.Order.{Found, Lowest, Placing, lowest-first, lowest-found, may-go, order-length}
+use Rattle.ordering.specs.Order.{Found, Lowest, Placing, lowest-first, lowest-found}
 use Rattle.placing.specs.declared.Direct.{Direct}
 use Rattle.placing.specs.Direct.{both-placed, direct-of}
 use Rattle.placing.specs.Order.{ready-direct}
@@ -171,6 +171,7 @@ module _ (cs : List Component) (ds : List Direct) (of-parts : take (length cs) d
               rw (← at) (lower-later p i le last (rw at lt));
         }
 
+    -- so from place i on the parts are placed as the part order places them
     placing-from : (m i : ℕ) → i + m ≡ length cs → Placing cs (marks-at (length cs) ks i) (take m (drop i ks))
     placing-from zero i e = tt
     placing-from (suc m) i e =

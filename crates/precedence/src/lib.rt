@@ -32,7 +32,7 @@ ghost use Rattle.precedence.specs.Times.{source-after, ready-after};
 ghost use Rattle.precedence.specs.Links.{Links, WalkedBack};
 
 // The number of a part that has no place yet.
-const UNPLACED: usize = 33;
+const UNPLACED: usize = PARTS + 1;
 
 // How many parts are placed once the source is. A source that is none of the parts keeps no part waiting.
 fn source_after(after: &[usize; PARTS], count: usize, source: Source) -> usize

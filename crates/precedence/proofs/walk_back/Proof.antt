@@ -3,7 +3,7 @@ use Prim.Native.Nat.{suc, _-_}
 use native.Mathlib.Omega.{arith}
 use mathlib.Core.Path.{_≡_}
 use lib.ListN.{getD}
-use Rattle.precedence.specs.Links.{Link, WalkedBack, link-none, link-more}
+use Rattle.precedence.specs.Links.{Link, link-none, link-more}
 use Rattle.precedence.proofs.walk_back.Statement.{statement}
 use Rattle.precedence.proofs.walk_back.Tie as tie
 

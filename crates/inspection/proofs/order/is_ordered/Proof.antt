@@ -1,11 +1,9 @@
 -- `is_ordered` asks whether the model's order follows from the direct sources of its parts. Trimming a component changes none of them, so they are those
 -- of the trimmed model's components.
-use Prim.Native.Nat.{ℕ}
 use mathlib.Core.Path.{_≡_, _∙_, sym, ap}
 use mathlib.Core.List.{List, map, map-map}
 use lib.ListN.{take}
 use borrow.Author.Needs.{needs}
-use Rattle.machine.specs.declared.part.Component.{Component}
 use Rattle.machine.specs.declared.part.Part.{Part}
 use Rattle.machine.specs.declared.model.Model.{Model}
 use Rattle.machine.specs.Model.{trimmed, trimmed-component}
