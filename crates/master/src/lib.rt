@@ -20,7 +20,7 @@ mod search;
 // Copies of the model are what a call costs, since a struct handed over by value is copied. Compiled, a call
 // that commits its first trial after one round copies about sixteen models' worth of bytes: six of them to
 // test that the model is sound, one for the round, the others to make the step, ask for objections and
-// answer. Each further round is one copy more.
+// answer. Each further round is one copy more, and each trial that is dropped seven.
 pub fn advance(m: Model, w: u64) -> Answer
     ensures { λ r. ⌜ Advanced m w r ⌝ }
 {
