@@ -1,0 +1,4 @@
+-- What the contracts and proofs of this crate cite beside `machine`'s definitions.
+pub mod Places
+pub mod Blank
+pub mod Ending
