@@ -8,7 +8,3 @@ pub mod Tests
 pub mod Steps
 pub mod Wired
 pub mod Spanned
-pub mod Turning
-pub mod Concluded
-pub mod Stands
-pub mod Kept

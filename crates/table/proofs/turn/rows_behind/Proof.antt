@@ -1,10 +1,10 @@
 -- `rows_behind` is the definition, by whether the command is a Span.
 use native.Mathlib.Omega.{arith}
 use borrow.Author.Tests.{eq-eqb, ne-eqb}
-use Rattle.reading.specs.Turning.{rows-behind}
+use Rattle.table.specs.Turning.{rows-behind}
 use borrow.Author.Needs.{needs}
-use Rattle.reading.proofs.table.rows_behind.Statement.{statement}
-use Rattle.reading.proofs.table.rows_behind.Tie as tie
+use Rattle.table.proofs.turn.rows_behind.Statement.{statement}
+use Rattle.table.proofs.turn.rows_behind.Tie as tie
 
 returns : tie.Need-returns
 unfolding rows-behind

@@ -1,10 +1,10 @@
 -- `nothing_read` is the definition: no part is in use.
 use native.Mathlib.Omega.{arith}
 use mathlib.Core.Path.{refl}
 use Rattle.reading.specs.Progress.{joined, reading-of}
 use borrow.Author.Needs.{needs}
-use Rattle.reading.proofs.table.nothing_read.Statement.{statement}
-use Rattle.reading.proofs.table.nothing_read.Tie as tie
+use Rattle.table.proofs.table.nothing_read.Statement.{statement}
+use Rattle.table.proofs.table.nothing_read.Tie as tie
 
 blank-component-requires : tie.Need-blank-component-requires
 blank-component-requires c κs = search needs

@@ -1,8 +1,8 @@
 -- `refused_read` has the number and the position given.
 use mathlib.Core.Path.{refl}
 use borrow.Author.Needs.{needs}
-use Rattle.reading.proofs.table.refused_read.Statement.{statement}
-use Rattle.reading.proofs.table.refused_read.Tie as tie
+use Rattle.table.proofs.table.refused_read.Statement.{statement}
+use Rattle.table.proofs.table.refused_read.Tie as tie
 
 blank-component-requires : tie.Need-blank-component-requires
 blank-component-requires c κs = search needs

@@ -1,15 +1,18 @@
 -- What reading a table up to its End concludes: document 01's loading, where End is still to be judged. Assumes nothing.
 use Prim.Native.Nat.{ℕ, _≤_}
 use mathlib.Core.Path.{_≡_}
-use mathlib.Core.Bool.{cond}
+use mathlib.Core.Bool.{true, cond}
 use mathlib.Core.List.{map}
 use lib.ListN.{take}
 use lib.Dec.{eqb}
 use Rattle.machine.specs.declared.model.Loaded.{Loaded}
+use Rattle.machine.specs.Lists.{All}
+use Rattle.machine.specs.Time.{magnitude-known}
 use Rattle.machine.specs.Model.{trimmed-component}
 use Rattle.machine.specs.Table.{Table}
 use Rattle.machine.specs.Load.{accepted, end-refusal, refused}
-use Rattle.reading.specs.declared.table.TableRead.{TableRead}
+use Rattle.soundness.specs.Facts.{ComponentFits}
+use Rattle.table.specs.declared.table.TableRead.{TableRead}
 
 -- End at a position, behind this table
 unfoldable pub end-loaded : ℕ → Table → Loaded
@@ -34,3 +37,9 @@ pub record EndedRead (at : ℕ) (t : Table) (r : TableRead) : Type 0 where
   pub position : r .position ≡ at
   pub table : table-read r ≡ t
   pub few : r .count ≤ 32
+
+-- what holds of a table whose End was reached: its magnitude is known, and its components fit a table of so many parts
+pub record Ended (r : TableRead) : Type 0 where
+  pub few : r .count ≤ 32
+  pub magnitude : magnitude-known (r .magnitude) ≡ true
+  pub components : All (ComponentFits (r .count)) (table-read r .parts)

@@ -1,11 +1,11 @@
 -- `ended_read` has the progress's table: its parts with their rows.
 use native.Mathlib.Omega.{arith}
 use mathlib.Core.Path.{refl}
-use Rattle.reading.specs.Concluded.{table-read}
+use Rattle.table.specs.Concluded.{table-read}
 use Rattle.reading.specs.Progress.{reading-of}
 use borrow.Author.Needs.{needs}
-use Rattle.reading.proofs.table.ended_read.Statement.{statement}
-use Rattle.reading.proofs.table.ended_read.Tie as tie
+use Rattle.table.proofs.table.ended_read.Statement.{statement}
+use Rattle.table.proofs.table.ended_read.Tie as tie
 
 with-rows-requires : tie.Need-with-rows-requires
 with-rows-requires c κs = search needs

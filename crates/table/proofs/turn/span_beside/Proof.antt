@@ -1,8 +1,8 @@
 -- `span_beside` is `span` with the last span of the last part's row, which stands beside the progress.
 use native.Mathlib.Omega.{arith}
 use borrow.Author.Needs.{needs}
-use Rattle.reading.proofs.table.span_beside.Statement.{statement}
-use Rattle.reading.proofs.table.span_beside.Tie as tie
+use Rattle.table.proofs.turn.span_beside.Statement.{statement}
+use Rattle.table.proofs.turn.span_beside.Tie as tie
 
 sub-k : tie.Need-sub-k
 sub-k c = search needs

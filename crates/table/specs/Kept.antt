@@ -12,12 +12,12 @@ use Rattle.machine.specs.Load.{is-drive, known-command}
 use Rattle.laws.specs.Lists.{all-at}
 use Rattle.soundness.specs.Facts.{ComponentFits}
 use Rattle.soundness.specs.Accepted.{Readable}
 use Rattle.reading.specs.declared.progress.Progress.{Progress}
 use Rattle.reading.specs.Progress.{with-row, reading-of}
 use Rattle.reading.specs.Refusals.{command-number, placed}
 use Rattle.reading.specs.Rows.{joined-at, length-reading}
 use Rattle.reading.specs.Spanned.{last-place, span-count}
-use Rattle.reading.specs.Turning.{Spannable}
+use Rattle.table.specs.Turning.{Spannable}
 
 -- a Span that is in place follows a drive or its span
 span-placed : (begun spannable : Bool) (b : ℕ) → b ≡ 3 → command-number begun spannable b ≡ 0 → spannable ≡ true

@@ -6,10 +6,10 @@ use mathlib.Core.List.{List, [], _∷_, map}
 use lib.ListN.{length, getD, set, take}
 use Rattle.machine.specs.declared.part.Component.{Component}
 use Rattle.machine.specs.Model.{trimmed-component, blank-component}
 use Rattle.reading.specs.Progress.{with-row, joined}
 use borrow.Author.Needs.{needs}
-use Rattle.reading.proofs.table.with_rows.Statement.{statement}
-use Rattle.reading.proofs.table.with_rows.Tie as tie
+use Rattle.table.proofs.table.with_rows.Statement.{statement}
+use Rattle.table.proofs.table.with_rows.Tie as tie
 
 -- a component with a whole row
 abbrev with-spans : Component → List ℕ → Component

@@ -4,15 +4,15 @@ use native.Mathlib.Omega.{arith}
 use mathlib.Core.Path.{_≡_}
 use mathlib.Core.List.{List}
 use Rattle.machine.specs.Load.{begin-read, command-width, part-command, span-command, whole-command, wire-command}
 use Rattle.reading.specs.declared.command.Step.{Step}
 use Rattle.reading.specs.declared.progress.Progress.{Progress}
 use Rattle.reading.specs.Progress.{reading-of}
 use Rattle.reading.specs.Spanned.{last-place, row-with, span-count}
 use Rattle.reading.specs.Steps.{step-of, uncut}
-use Rattle.reading.specs.Turning.{rows-behind, sized-command}
+use Rattle.table.specs.Turning.{rows-behind, sized-command}
 use borrow.Author.Needs.{needs}
-use Rattle.reading.proofs.table.command.Statement.{statement}
-use Rattle.reading.proofs.table.command.Tie as tie
+use Rattle.table.proofs.turn.command.Statement.{statement}
+use Rattle.table.proofs.turn.command.Tie as tie
 
 -- a Span, a Begin, a Part and a Wire, by their bytes
 span-as : (bs : List ℕ) (at : ℕ) (progress : Progress) (rows : List (List ℕ)) (b v : ℕ) (step : Step) → b ≡ 3 →

@@ -1,8 +1,8 @@
 -- `blank_component` is the definition, with places for spans.
 use mathlib.Core.Path.{refl}
 use Rattle.machine.specs.Model.{trimmed-component}
-use Rattle.reading.proofs.table.blank_component.Statement.{statement}
-use Rattle.reading.proofs.table.blank_component.Tie as tie
+use Rattle.table.proofs.table.blank_component.Statement.{statement}
+use Rattle.table.proofs.table.blank_component.Tie as tie
 
 returns : tie.Need-returns
 unfolding trimmed-component

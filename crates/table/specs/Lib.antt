@@ -1,0 +1,5 @@
+-- What reading a table's commands in turn comes to, up to its End.
+pub mod Turning
+pub mod Concluded
+pub mod Stands
+pub mod Kept
