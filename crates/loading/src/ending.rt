@@ -10,15 +10,16 @@ use machine::time::Point;
 use placing::place;
 use reading::refusal::first_of;
 use reading::refusal::refusal;
-use reading::table::TableRead;
 use steps::start::started;
+use table::table::TableRead;
 ghost use mathlib.Core.Path.{_≡_};
+ghost use Prim.Native.Nat.{_<_};
 ghost use Rattle.machine.specs.Load.{accepted};
 ghost use Rattle.machine.specs.Model.{trimmed, trimmed-loaded};
 ghost use Rattle.steps.specs.Start.{unfilled};
-ghost use Rattle.reading.specs.Concluded.{concluded, table-read};
+ghost use Rattle.table.specs.Concluded.{Ended, concluded, table-read};
 ghost use Rattle.loading.specs.Blank.{blank-model};
-ghost use Rattle.loading.specs.Ending.{Acceptable, Ended, Judged, end-number};
+ghost use Rattle.loading.specs.Ending.{Acceptable, Judged, end-number, last-place};
 
 // The refusal at an End behind `count` parts, by whether every P fits, and how many parts could be placed.
 fn end_refusal(count: usize, fit: bool, placed: usize) -> u64
@@ -90,6 +91,7 @@ fn accept(read: TableRead, ending: Ending) -> Loaded
 // What loading comes to, by what reading the table came to.
 pub fn finished(read: TableRead) -> Loaded
     requires { ⌜ (read .number ≡ 0 → Ended read) ⌝ }
+    requires { ⌜ (read .number ≡ 0 → read .position < last-place) ⌝ }
     ensures { λ r. ⌜ trimmed-loaded r ≡ concluded read ⌝ }
     ensures refused { λ r. ⌜ ((r .number ≡ 0 → ⊥) → r .model ≡ blank-model) ⌝ }
 {

@@ -1,26 +1,25 @@
+-- `accept` fills the start point of the table's model, which is then the fresh model; it stands at the position after End.
+use mathlib.Core.Path.{refl}
+use Rattle.machine.specs.Load.{accepted}
+use Rattle.machine.specs.Model.{trimmed-loaded}
 use borrow.Author.Needs.{needs}
 use Rattle.loading.proofs.ending.accept.Statement.{statement}
 use Rattle.loading.proofs.ending.accept.Tie as tie
-use Rattle.loading.proofs.ending.accept.Reads as reads
-use Rattle.loading.proofs.ending.accept.Lts as lts
-use Rattle.loading.proofs.ending.unfilled_model.Reads as unfilled-model-reads
-use Rattle.steps.proofs.start.started.Reads as started-reads
 
--- src/ending.rt:81:9
 unfilled-model-requires : tie.Need-unfilled-model-requires
 unfilled-model-requires c κs = search needs
 
--- src/ending.rt:82:9
 started-requires : tie.Need-started-requires
-started-requires c κs = search needs
+started-requires c κs =
+    let acceptable = c .before .pre in
+    record { table = _; fits = acceptable .fits; is = c .unfilled-model .ensures }
 
--- src/ending.rt:85:19
 add-t5 : tie.Need-add-t5
 add-t5 c = search needs
 
--- src/ending.rt:77:1
 returns : tie.Need-returns
-returns c = ?
+unfolding trimmed-loaded accepted
+returns c = rw (c .before .started .ensures _ (c .before .before .unfilled-model .ensures))
 
 pub accept-spec : {M : Type 1} → statement M
 accept-spec = tie.close (tie.spec unfilled-model-requires started-requires add-t5 returns)
