@@ -2,3 +2,4 @@
 pub mod Places
 pub mod Blank
 pub mod Ending
+pub mod Owed
