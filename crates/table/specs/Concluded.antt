@@ -3,8 +3,9 @@ use Prim.Native.Nat.{ℕ, _≤_}
 use mathlib.Core.Path.{_≡_}
 use mathlib.Core.Bool.{true, cond}
 use mathlib.Core.List.{map}
-use lib.ListN.{take}
+use lib.ListN.{length, take}
 use lib.Dec.{eqb}
+use borrow.Author.Tests.{ne-eqb}
 use Rattle.machine.specs.declared.model.Loaded.{Loaded}
 use Rattle.machine.specs.Lists.{All}
 use Rattle.machine.specs.Time.{magnitude-known}
@@ -36,6 +37,7 @@ pub record EndedRead (at : ℕ) (t : Table) (r : TableRead) : Type 0 where
   pub number : r .number ≡ 0
   pub position : r .position ≡ at
   pub table : table-read r ≡ t
+  pub counted : length (t .parts) ≡ r .count
   pub few : r .count ≤ 32
 
 -- what holds of a table whose End was reached: its magnitude is known, and its components fit a table of so many parts
@@ -43,3 +45,13 @@ pub record Ended (r : TableRead) : Type 0 where
   pub few : r .count ≤ 32
   pub magnitude : magnitude-known (r .magnitude) ≡ true
   pub components : All (ComponentFits (r .count)) (table-read r .parts)
+
+-- a refusal is what loading comes to
+pub refused-concluded : (n at : ℕ) (r : TableRead) → (n ≡ 0 → ⊥) → RefusedRead n at r → concluded r ≡ refused n at
+unfolding concluded
+refused-concluded n at r some h = rw (h .number, h .position, ne-eqb n 0 some)
+
+-- End is judged behind the table that was read
+pub ended-concluded : (at : ℕ) (t : Table) (r : TableRead) → EndedRead at t r → concluded r ≡ end-loaded at t
+unfolding concluded
+ended-concluded at t r h = rw (h .table, h .number, h .position)

@@ -27,7 +27,7 @@ span-placed true false b e h = absurd (omega (arith, rw e at h))
 span-placed false spannable b e h = absurd (omega (arith, rw e at h))
 
 -- the last part counts as many spans as in the reading
-counts-as : (progress : Progress) (rows : List (List ℕ)) → 0 < progress .count → progress .count ≤ length (progress .parts) →
+pub counts-as : (progress : Progress) (rows : List (List ℕ)) → 0 < progress .count → progress .count ≤ length (progress .parts) →
     component-at (reading-of progress rows .table .parts) (last-place progress) .«span_count» ≡ span-count progress
 unfolding reading-of with-row
 counts-as progress rows some few =

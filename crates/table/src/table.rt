@@ -1,4 +1,6 @@
 // A table's commands in turn, up to its End. Its contracts cite `specs/Concluded.antt`.
+use crate::turn::rows_behind;
+use crate::turn::turn_at;
 use machine::model::PARTS;
 use machine::part::Component;
 use machine::part::Kind;
@@ -8,11 +10,11 @@ use reading::progress::Progress;
 ghost use Prim.Native.Nat.{ℕ, _≤_};
 ghost use mathlib.Core.Path.{_≡_};
 ghost use mathlib.Core.List.{List, map};
-ghost use lib.ListN.{take};
-ghost use Rattle.machine.specs.Model.{blank-component, trimmed-component};
-ghost use Rattle.machine.specs.Load.{nothing-read};
+ghost use lib.ListN.{replicate, take};
+ghost use Rattle.machine.specs.Model.{blank-component, most-parts, most-spans, trimmed-component};
+ghost use Rattle.machine.specs.Load.{load, nothing-read};
 ghost use Rattle.reading.specs.Progress.{joined, reading-of};
-ghost use Rattle.table.specs.Concluded.{EndedRead, RefusedRead};
+ghost use Rattle.table.specs.Concluded.{Ended, EndedRead, RefusedRead, concluded};
 
 // A component with all of it 0.
 fn blank_component() -> Component
@@ -46,6 +48,13 @@ fn nothing_read() -> Progress
         count: 0,
         parts: parts,
     }
+}
+
+// The rows before any span was read.
+fn no_spans() -> [[u32; SPANS]; PARTS]
+    ensures { λ r. ⌜ r ≡ replicate most-parts (replicate most-spans 0) ⌝ }
+{
+    [[0u32; SPANS]; PARTS]
 }
 
 // The parts with their rows of spans.
@@ -102,5 +111,29 @@ fn ended_read(at: usize, progress: Progress, rows: [[u32; SPANS]; PARTS]) -> Tab
         magnitude: progress.magnitude,
         count: progress.count,
         parts: whole,
+    }
+}
+
+// The table at the start of a stream, read up to its End or to a refusal.
+pub fn read_table(s: &[u8]) -> TableRead
+    ensures { λ r. ⌜ load (now (s .entry)) ≡ concluded r ⌝ }
+    ensures kept { λ r. ⌜ (r .number ≡ 0 → Ended r) ⌝ }
+{
+    let mut at: usize = 0;
+    let mut progress = nothing_read();
+    let mut rows = no_spans();
+    loop {
+        let found = turn_at(s, at, progress, rows);
+        if found.number != 0 {
+            return refused_read(found.number, found.position);
+        }
+        if found.byte == 5 {
+            return ended_read(at, progress, rows);
+        }
+        let next = rows_behind(rows, progress, found.byte, found.span);
+        rows = next;
+        let then = found.progress;
+        progress = then;
+        at = found.position;
     }
 }
