@@ -1,5 +1,5 @@
 -- End judged: the refusals that it alone decides, and that what is accepted is a table that fits. Assumes nothing.
-use Prim.Native.Nat.{ℕ, _≤_, _<_}
+use Prim.Native.Nat.{ℕ, _+_, _≤_, _<_}
 use native.Mathlib.Omega.{arith}
 use mathlib.Core.Path.{_≡_, refl, sym, ap, _∙_}
 use mathlib.Core.Bool.{Bool, true, cond}
@@ -49,6 +49,23 @@ pub record Acceptable (read : TableRead) (e : Ending) : Type 0 where
   pub small : e .magnitude ≤ last-magnitude
   pub order : take (read .count) (e .order) ≡ part-order (table-read read .parts)
   pub within : read .position < last-place
+
+-- what loading comes to where the table was refused before its End, where End refuses it, and where End accepts it
+pub refused-before : (read : TableRead) → (read .number ≡ 0 → ⊥) → concluded read ≡ refused (read .number) (read .position)
+unfolding concluded
+refused-before read some = rw (ne-eqb (read .number) 0 some)
+
+pub refused-at-end :
+    (read : TableRead) (number : ℕ) → read .number ≡ 0 → number ≡ end-refusal (table-read read) → (number ≡ 0 → ⊥) →
+    concluded read ≡ refused number (read .position)
+unfolding concluded end-loaded
+refused-at-end read number none e some = rw (eq-eqb (read .number) 0 none, ← e, ne-eqb number 0 some)
+
+pub accepted-at-end :
+    (read : TableRead) (number : ℕ) → read .number ≡ 0 → number ≡ end-refusal (table-read read) → number ≡ 0 →
+    concluded read ≡ accepted (read .position) (table-read read)
+unfolding concluded end-loaded
+accepted-at-end read number none e nought = rw (eq-eqb (read .number) 0 none, ← e, eq-eqb number 0 nought)
 
 -- End's refusal by its three causes
 end-by : (t : Table) → end-refusal t ≡ end-number (length (t .parts)) (periods-fit t) (length (part-order (t .parts)))
@@ -132,30 +149,18 @@ module _ (read : TableRead) (few : read .count ≤ length (read .parts)) where
   unfilled-is e first a stored = rw (stored, a .order, a .magnitude, first-parts-by (table-read read), read-count)
 
   -- so a table that was read and is not refused can be accepted
-  pub acceptable : (r : Ending) → Ended read → read .position < last-place → Judged read r → r .number ≡ 0 → Acceptable read r
-  acceptable r e within j none =
+  pub acceptable :
+      (r : Ending) → Ended read → read .number ≡ 0 → (concluded read .number ≡ 0 → concluded read .position ≤ last-place) → Judged read r →
+      r .number ≡ 0 → Acceptable read r
+  unfolding accepted
+  acceptable r e ended within j none =
+      let is = accepted-at-end read (r .number) ended (j .number) none in
+      let after : read .position + 1 ≤ last-place = (rw is at within) refl in
       record {
         few = e .few;
         fits = accepted-fits e (sym (j .number) ∙ none);
         magnitude = j .magnitude;
         small = rw (j .magnitude) (magnitude-small e);
         order = j .order none;
-        within = within;
+        within = omega arith;
       }
-
--- what loading comes to where the table was refused before its End, where End refuses it, and where End accepts it
-pub refused-before : (read : TableRead) → (read .number ≡ 0 → ⊥) → concluded read ≡ refused (read .number) (read .position)
-unfolding concluded
-refused-before read some = rw (ne-eqb (read .number) 0 some)
-
-pub refused-at-end :
-    (read : TableRead) (number : ℕ) → read .number ≡ 0 → number ≡ end-refusal (table-read read) → (number ≡ 0 → ⊥) →
-    concluded read ≡ refused number (read .position)
-unfolding concluded end-loaded
-refused-at-end read number none e some = rw (eq-eqb (read .number) 0 none, ← e, ne-eqb number 0 some)
-
-pub accepted-at-end :
-    (read : TableRead) (number : ℕ) → read .number ≡ 0 → number ≡ end-refusal (table-read read) → number ≡ 0 →
-    concluded read ≡ accepted (read .position) (table-read read)
-unfolding concluded end-loaded
-accepted-at-end read number none e nought = rw (eq-eqb (read .number) 0 none, ← e, eq-eqb number 0 nought)

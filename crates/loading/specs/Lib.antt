@@ -2,4 +2,5 @@
 pub mod Places
 pub mod Blank
 pub mod Ending
+pub mod Position
 pub mod Owed

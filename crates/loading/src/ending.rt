@@ -13,7 +13,7 @@ use reading::refusal::refusal;
 use steps::start::started;
 use table::table::TableRead;
 ghost use mathlib.Core.Path.{_≡_};
-ghost use Prim.Native.Nat.{_<_};
+ghost use Prim.Native.Nat.{_≤_};
 ghost use Rattle.machine.specs.Load.{accepted};
 ghost use Rattle.machine.specs.Model.{trimmed, trimmed-loaded};
 ghost use Rattle.steps.specs.Start.{unfilled};
@@ -91,7 +91,7 @@ fn accept(read: TableRead, ending: Ending) -> Loaded
 // What loading comes to, by what reading the table came to.
 pub fn finished(read: TableRead) -> Loaded
     requires { ⌜ (read .number ≡ 0 → Ended read) ⌝ }
-    requires { ⌜ (read .number ≡ 0 → read .position < last-place) ⌝ }
+    requires { ⌜ (concluded read .number ≡ 0 → concluded read .position ≤ last-place) ⌝ }
     ensures { λ r. ⌜ trimmed-loaded r ≡ concluded read ⌝ }
     ensures refused { λ r. ⌜ ((r .number ≡ 0 → ⊥) → r .model ≡ blank-model) ⌝ }
 {

@@ -54,7 +54,7 @@ accept-requires c κs =
     let read = start .args .read in
     let ended = start .pre .0 none in
     let few : read .count ≤ length (read .parts) = omega (arith, ended .few, simp length-map at (start .good .0)) in
-    acceptable read few (judged .judged .result) ended (start .pre .1 none) (judged .judged .ensures) (c .if2 .left)
+    acceptable read few (judged .judged .result) ended none (start .pre .1) (judged .judged .ensures) (c .if2 .left)
 
 returns-3 : tie.Need-returns-3
 returns-3 c =
