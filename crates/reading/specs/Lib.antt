@@ -1,10 +1,7 @@
 -- What the reading of a table's commands comes to.
-pub mod Operands
-pub mod Refusals
 pub mod Progress
 pub mod Made
 pub mod Rows
-pub mod Tests
 pub mod Steps
 pub mod Wired
 pub mod Spanned

@@ -20,7 +20,7 @@ use Rattle.soundness.specs.Accepted.{Readable}
 use Rattle.reading.specs.declared.progress.Progress.{Progress}
 use Rattle.reading.specs.declared.command.Step.{Step}
 use Rattle.reading.specs.Progress.{reading-of}
-use Rattle.reading.specs.Refusals.{command-number, placed}
+use Rattle.operands.specs.Refusals.{command-number, placed}
 use Rattle.reading.specs.Rows.{length-reading}
 use Rattle.reading.specs.Spanned.{last-place, span-count}
 use Rattle.reading.specs.Steps.{step-of}

@@ -14,7 +14,7 @@ use Rattle.soundness.specs.Facts.{ComponentFits}
 use Rattle.soundness.specs.Accepted.{Readable}
 use Rattle.reading.specs.declared.progress.Progress.{Progress}
 use Rattle.reading.specs.Progress.{with-row, reading-of}
-use Rattle.reading.specs.Refusals.{command-number, placed}
+use Rattle.operands.specs.Refusals.{command-number, placed}
 use Rattle.reading.specs.Rows.{joined-at, length-reading}
 use Rattle.reading.specs.Spanned.{last-place, span-count}
 use Rattle.table.specs.Turning.{Spannable}

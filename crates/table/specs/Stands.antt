@@ -11,7 +11,7 @@ use Rattle.machine.specs.declared.model.Loaded.{Loaded}
 use Rattle.machine.specs.Load.{Reading, Read, onward, ended, refused, nothing-read, byte-at, known-command, in-place, command-read, read-turn, read-on, read-from, load}
 use Rattle.soundness.specs.Accepted.{Readable, Keeps, kept-nothing, kept-turn}
 use Rattle.soundness.specs.Fuel.{Later, turn-later, read-unrolled}
-use Rattle.reading.specs.Refusals.{command-number, placed}
+use Rattle.operands.specs.Refusals.{command-number, placed}
 use Rattle.table.specs.Turning.{sized-command}
 
 -- loading is reading from here on

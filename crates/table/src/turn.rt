@@ -1,13 +1,13 @@
 // One command of a table in its turn, behind the progress and the rows of spans beside it. Its contracts cite `specs/Turning.antt` and `specs/Turned.antt`.
 use machine::model::PARTS;
 use machine::part::SPANS;
+use operands::refusal::command_refusal;
 use reading::command::SpanStep;
 use reading::command::begin;
 use reading::command::part;
 use reading::command::span;
 use reading::command::wire;
 use reading::progress::Progress;
-use reading::refusal::command_refusal;
 use reading::rows::last_span;
 use reading::rows::with_span;
 ghost use Prim.Native.Nat.{_<_, _≤_};
