@@ -3,7 +3,7 @@ use Prim.Native.Nat.{ℕ}
 use mathlib.Core.Path.{_≡_, refl}
 use mathlib.Core.Bool.{Bool, true, false, cond, not}
 use lib.Dec.{eqb, leb}
-use Rattle.reading.specs.Tests.{above}
+use Rattle.operands.specs.Tests.{above}
 use Rattle.loading.specs.Ending.{end-number}
 use borrow.Author.Needs.{needs}
 use Rattle.loading.proofs.ending.end_refusal.Statement.{statement}
