@@ -28,8 +28,8 @@ use Rattle.loading.specs.declared.ending.Ending.{Ending}
 use Rattle.loading.specs.Places.{components, components-count, periods-within, periods-by, first-by, first-parts-by}
 
 -- the largest number that a usize holds
-abbrev pub last-place : ℕ
-last-place = 18446744073709551615
+abbrev pub last-position : ℕ
+last-position = 18446744073709551615
 
 -- "no parts", "some P above 10^18", "a loop exists", in this order, by how many parts there are, whether every P fits, and how many could be placed
 unfoldable pub end-number : (count : ℕ) → Bool → (placed : ℕ) → ℕ
@@ -48,7 +48,7 @@ pub record Acceptable (read : TableRead) (e : Ending) : Type 0 where
   pub magnitude : e .magnitude ≡ magnitude-of (table-read read)
   pub small : e .magnitude ≤ last-magnitude
   pub order : take (read .count) (e .order) ≡ part-order (table-read read .parts)
-  pub within : read .position < last-place
+  pub within : read .position < last-position
 
 -- what loading comes to where the table was refused before its End, where End refuses it, and where End accepts it
 pub refused-before : (read : TableRead) → (read .number ≡ 0 → ⊥) → concluded read ≡ refused (read .number) (read .position)
@@ -150,12 +150,12 @@ module _ (read : TableRead) (few : read .count ≤ length (read .parts)) where
 
   -- so a table that was read and is not refused can be accepted
   pub acceptable :
-      (r : Ending) → Ended read → read .number ≡ 0 → (concluded read .number ≡ 0 → concluded read .position ≤ last-place) → Judged read r →
+      (r : Ending) → Ended read → read .number ≡ 0 → (concluded read .number ≡ 0 → concluded read .position ≤ last-position) → Judged read r →
       r .number ≡ 0 → Acceptable read r
   unfolding accepted
   acceptable r e ended within j none =
       let is = accepted-at-end read (r .number) ended (j .number) none in
-      let after : read .position + 1 ≤ last-place = (rw is at within) refl in
+      let after : read .position + 1 ≤ last-position = (rw is at within) refl in
       record {
         few = e .few;
         fits = accepted-fits e (sym (j .number) ∙ none);

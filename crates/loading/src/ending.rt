@@ -19,7 +19,7 @@ ghost use Rattle.machine.specs.Model.{trimmed, trimmed-loaded};
 ghost use Rattle.steps.specs.Start.{unfilled};
 ghost use Rattle.table.specs.Concluded.{Ended, concluded, table-read};
 ghost use Rattle.loading.specs.Blank.{blank-model};
-ghost use Rattle.loading.specs.Ending.{Acceptable, Judged, end-number, last-place};
+ghost use Rattle.loading.specs.Ending.{Acceptable, Judged, end-number, last-position};
 
 // The refusal at an End behind `count` parts, by whether every P fits, and how many parts could be placed.
 fn end_refusal(count: usize, fit: bool, placed: usize) -> u64
@@ -91,7 +91,7 @@ fn accept(read: TableRead, ending: Ending) -> Loaded
 // What loading comes to, by what reading the table came to.
 pub fn finished(read: TableRead) -> Loaded
     requires { ⌜ (read .number ≡ 0 → Ended read) ⌝ }
-    requires { ⌜ (concluded read .number ≡ 0 → concluded read .position ≤ last-place) ⌝ }
+    requires { ⌜ (concluded read .number ≡ 0 → concluded read .position ≤ last-position) ⌝ }
     ensures { λ r. ⌜ trimmed-loaded r ≡ concluded read ⌝ }
     ensures refused { λ r. ⌜ ((r .number ≡ 0 → ⊥) → r .model ≡ blank-model) ⌝ }
 {

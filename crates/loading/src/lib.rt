@@ -8,10 +8,10 @@ ghost use Rattle.machine.specs.Load.{load};
 ghost use Rattle.machine.specs.Model.{trimmed-loaded};
 ghost use Rattle.loading.specs.Blank.{blank-model};
 
-pub mod blank;
-pub mod ending;
-pub mod first;
-pub mod ratios;
+mod blank;
+mod ending;
+mod first;
+mod ratios;
 
 // The table at the start of a stream, loaded: its fresh model and the position after its End, or the number and position of the first refusal.
 // Free are the bytes of unused places alone, which `trimmed-loaded` cuts away; of a refused load not even those are.
