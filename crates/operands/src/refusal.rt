@@ -21,7 +21,7 @@ ghost use Rattle.machine.specs.Load.{begin-refusal, known-command};
 ghost use Rattle.operands.specs.Refusals.{command-number, operands-known, part-number, placed, port-number, span-number};
 
 // A refusal's number where there is cause for it.
-fn refusal(cause: bool, number: u64) -> u64
+pub fn refusal(cause: bool, number: u64) -> u64
     ensures { λ r. ⌜ r ≡ cond cause number 0 ⌝ }
 {
     if cause {
@@ -31,7 +31,7 @@ fn refusal(cause: bool, number: u64) -> u64
 }
 
 // The first of two refusals, where there is one.
-fn first_of(first: u64, second: u64) -> u64
+pub fn first_of(first: u64, second: u64) -> u64
     ensures { λ r. ⌜ r ≡ cond (eqb first 0) second first ⌝ }
 {
     if first == 0 {
