@@ -132,7 +132,7 @@ abbrev pub answer-of : Model → (k h n v c : ℕ) → Answer
 answer-of m k h n v c = record { model = m; number = k; step = h; rounds = n; revisions = v; ceiling = c }
 
 -- the answer to a refusal has the model handed in
-answer-refused : (m : Model) (k n v c : ℕ) → (k ≡ 0 → ⊥) →
+pub answer-refused : (m : Model) (k n v c : ℕ) → (k ≡ 0 → ⊥) →
     answer-with m (record { number = k; step = 0; rounds = n; revisions = v; ceiling = c }) ≡ answer-of m k 0 n v c
 unfolding answer-with
 answer-refused m k n v c other =

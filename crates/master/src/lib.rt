@@ -1,4 +1,35 @@
-// The search for a step of one advance: rounds in which every part is asked, trials, and the answer.
-// Each public function's contract is an equation with a definition of `machine`.
-pub mod asking;
-pub mod search;
+// One advance: what bars a call, the search for a step by rounds in which every part is asked, trials, and
+// the answer. The call is `advance`; what it is made of stays within the crate.
+use crate::barring::barred_number;
+use crate::search::searched_answer;
+use inspection::is_sound;
+use machine::model::Answer;
+use machine::model::Model;
+ghost use Rattle.machine.specs.Calls.{Advanced};
+
+mod asking;
+mod barring;
+mod search;
+
+// One advance of a model by at most `w`, whatever they are: the tests 24, 20 and 23 in that order, then the
+// search. A call that is barred answers the model handed in, the number, and counts of 0.
+//
+// The contract is the machine's answer. It is the very promise that a chain of calls asks of each of its
+// answers, so that demand 3 holds of every list of these calls behind a load: `specs/EveryList.antt`.
+pub fn advance(m: Model, w: u64) -> Answer
+    ensures { λ r. ⌜ Advanced m w r ⌝ }
+{
+    let now = m.point;
+    let number = barred_number(is_sound(m), now.t.0, w);
+    if number != 0 {
+        return Answer {
+            model: m,
+            number: number,
+            step: 0,
+            rounds: 0,
+            revisions: 0,
+            ceiling: 0,
+        };
+    }
+    searched_answer(m, w)
+}

@@ -48,7 +48,7 @@ pub outcome-barred : (m : Model) (w : ℕ) → (barred m w ≡ 0 → ⊥) → ou
 unfolding outcome
 outcome-barred m w p = cond-false (eqb (barred m w) 0) _ _ (ne-eqb (barred m w) 0 p)
 
-outcome-searched : (m : Model) (w : ℕ) → barred m w ≡ 0 → outcome m w ≡ searched m w
+pub outcome-searched : (m : Model) (w : ℕ) → barred m w ≡ 0 → outcome m w ≡ searched m w
 unfolding outcome
 outcome-searched m w p = cond-true (eqb (barred m w) 0) _ _ (eq-eqb (barred m w) 0 p)
 

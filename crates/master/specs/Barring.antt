@@ -1,0 +1,48 @@
+-- What bars a call of advance, by whether the model is sound, the tick where it stands, and the wanted step; and what `advance` promises of an answer
+-- that is barred, and of one that the search gives. Assumes nothing.
+use Prim.Native.Nat.{ℕ, _+_}
+use mathlib.Core.Path.{_≡_, refl, sym, ap, _∙_}
+use mathlib.Core.Bool.{Bool, cond, _&&_}
+use lib.Dec.{leb}
+use Rattle.machine.specs.declared.model.Model.{Model}
+use Rattle.machine.specs.declared.model.Answer.{Answer}
+use Rattle.machine.specs.Time.{last-tick, tick}
+use Rattle.machine.specs.Model.{trimmed, trimmed-answer}
+use Rattle.machine.specs.Sound.{sound}
+use Rattle.machine.specs.Advance.{longest-wanted, barred, barred-outcome, answer-with, advance}
+use Rattle.machine.specs.Calls.{Advanced}
+use Rattle.stepsearch.specs.Outcomes.{outcome-barred, outcome-searched}
+use Rattle.master.specs.Searching.{Searched, answer-of, answer-refused}
+
+-- the number, by the three things that it depends on
+unfoldable pub barred-by : Bool → ℕ → ℕ → ℕ
+barred-by is-sound t w = cond is-sound (cond (leb 1 w && leb w longest-wanted) (cond (leb (t + w) last-tick) 0 23) 20) 24
+
+-- it is the machine's
+pub barred-trimmed : (m : Model) (w k : ℕ) (is-sound : Bool) → is-sound ≡ sound (trimmed m) → k ≡ barred-by is-sound (tick (m .point)) w →
+    k ≡ barred (trimmed m) w
+unfolding barred barred-by trimmed
+barred-trimmed m w k is-sound s e = e ∙ ap (λ (b : Bool). barred-by b (tick (m .point)) w) s
+
+-- the answer to a call that is barred: the model handed in, the number, and counts of 0
+pub barred-answer : (m : Model) (w k : ℕ) → k ≡ barred (trimmed m) w → (k ≡ 0 → ⊥) → Advanced m w (answer-of m k 0 0 0 0)
+unfolding advance trimmed-answer
+barred-answer m w k e other =
+    record {
+      machine =
+          sym (ap (answer-with (trimmed m)) (outcome-barred (trimmed m) w (λ z. other (e ∙ z))) ∙
+          ap (λ (n : ℕ). answer-with (trimmed m) (barred-outcome n)) (sym e) ∙
+          answer-refused (trimmed m) k 0 0 0 other);
+      unchanged = λ z. refl;
+      unused = record { orders = refl; parts = refl; spans = λ i l. refl };
+    }
+
+-- the answer to a call that nothing bars is the search's
+pub searched-advance : (m : Model) (w : ℕ) (r : Answer) → barred (trimmed m) w ≡ 0 → Searched m w r → Advanced m w r
+unfolding advance
+searched-advance m w r none found =
+    record {
+      machine = found .machine ∙ ap (answer-with (trimmed m)) (sym (outcome-searched (trimmed m) w none));
+      unchanged = found .unchanged;
+      unused = found .unused;
+    }

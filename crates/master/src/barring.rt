@@ -1,0 +1,63 @@
+// What bars a call before any round: the refusals 24, 20 and 23, by the numbers that they depend on; 0 means
+// none.
+//
+// Its contracts cite this crate's `specs/Barring.antt`.
+use machine::time::Point;
+ghost use mathlib.Core.Path.{_≡_};
+ghost use mathlib.Core.Bool.{_&&_, cond};
+ghost use lib.Dec.{eqb, leb};
+ghost use Prim.Native.Nat.{_+_};
+ghost use Rattle.machine.specs.Time.{last-tick};
+ghost use Rattle.machine.specs.Advance.{longest-wanted};
+ghost use Rattle.master.specs.Barring.{barred-by};
+
+// A refusal's number where there is cause for it.
+fn refusal(cause: bool, number: u64) -> u64
+    ensures { λ r. ⌜ r ≡ cond cause number 0 ⌝ }
+{
+    if cause {
+        return number;
+    }
+    0
+}
+
+// The first of two refusals, where there is one.
+fn first_of(first: u64, second: u64) -> u64
+    ensures { λ r. ⌜ r ≡ cond (eqb first 0) second first ⌝ }
+{
+    if first == 0 {
+        return second;
+    }
+    first
+}
+
+// Whether a wanted step is in its range.
+fn may_be_wanted(w: u64) -> bool
+    ensures { λ r. ⌜ r ≡ leb 1 w && leb w longest-wanted ⌝ }
+{
+    if w < 1 {
+        return false;
+    }
+    w <= 1_000_000_000
+}
+
+// Whether a step of `w` from the tick t stays within the time, whatever t and w are.
+fn stays_in_time(t: u64, w: u64) -> bool
+    ensures { λ r. ⌜ r ≡ leb (t + w) last-tick ⌝ }
+{
+    if t > Point::LAST.t.0 {
+        return false;
+    }
+    w <= Point::LAST.t.0 - t
+}
+
+// The number that bars a call with the wanted step `w`, of a model that is sound or not and stands at the
+// tick t.
+pub fn barred_number(sound: bool, t: u64, w: u64) -> u64
+    ensures { λ r. ⌜ r ≡ barred-by sound t w ⌝ }
+{
+    let unsound = refusal(!sound, 24);
+    let range = refusal(!may_be_wanted(w), 20);
+    let time = refusal(!stays_in_time(t, w), 23);
+    first_of(first_of(unsound, range), time)
+}
