@@ -51,9 +51,10 @@ same-length c = search needs
 returns : tie.Need-returns Inv-loop μ-loop
 returns c =
     let written = c .before .before in
-    let test = written .before .before in
-    (rw (refused-answer (test .before .before .before .args .answer) (test .if1 .taken)) (written .write-refused .ensures .0),
-    omega (arith, written .write-refused .ensures .1))
+    let test = written .before .before in (
+      rw (refused-answer (test .before .before .before .args .answer) (test .if1 .taken)) (written .write-refused .ensures .0),
+      omega (arith, written .write-refused .ensures .1),
+    )
 
 slice-aggregate-put-numbers : tie.Need-slice-aggregate-put-numbers Inv-loop μ-loop
 slice-aggregate-put-numbers c = refl
