@@ -1,14 +1,7 @@
 -- What the reading of a table's commands comes to.
-pub mod Operands
-pub mod Refusals
 pub mod Progress
 pub mod Made
 pub mod Rows
-pub mod Tests
 pub mod Steps
 pub mod Wired
 pub mod Spanned
-pub mod Turning
-pub mod Concluded
-pub mod Stands
-pub mod Kept

@@ -6,7 +6,7 @@ use Rattle.machine.specs.declared.part.Component.{Component}
 use Rattle.machine.specs.Kind.{kind-of}
 use Rattle.machine.specs.Model.{most-spans}
 use Rattle.machine.specs.Load.{signed}
-use Rattle.reading.specs.declared.operands.PartOperands.{PartOperands}
+use Rattle.operands.specs.declared.operands.PartOperands.{PartOperands}
 
 -- a component that no span or wire has reached yet
 unfoldable pub component-of : PartOperands → Component

@@ -1,9 +1,4 @@
-// Reads a table's commands from bytes up to its End. Input is any bytes: what is not a table is refused
-// with document 01's number and position.
+// Reads each command of a table from bytes, and answers its refusal or the progress behind it.
 pub mod command;
-pub mod cursor;
-pub mod operands;
 pub mod progress;
-pub mod refusal;
 pub mod rows;
-pub mod table;

@@ -1,8 +1,5 @@
 // The table as far as it has been read. Spans stand in rows of their own, beside the progress, until End is reached; a component
 // counts its spans. Its contracts cite `specs/Progress.antt`.
-use crate::cursor::signed_of;
-use crate::operands::PartOperands;
-use crate::refusal::port_refusal;
 use kinds::kind::KindFound;
 use kinds::kind::is_drive;
 use kinds::kind::kind_of;
@@ -11,6 +8,9 @@ use machine::part::Component;
 use machine::part::Kind;
 use machine::part::SPANS;
 use machine::part::Source;
+use operands::cursor::signed_of;
+use operands::operands::PartOperands;
+use operands::refusal::port_refusal;
 ghost use Prim.Native.Nat.{ℕ, _<_, _≤_};
 ghost use mathlib.Core.Path.{_≡_};
 ghost use mathlib.Core.List.{List};

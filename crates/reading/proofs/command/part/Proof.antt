@@ -6,15 +6,15 @@ use mathlib.Core.List.{List}
 use lib.ListN.{length, length-map, length-take}
 use borrow.Author.Tests.{le-leb, lt-leb}
 use Rattle.machine.specs.Load.{byte-at, word-at, part-read, part-refusal, part-command, unless-refused, with-part}
-use Rattle.reading.specs.declared.operands.PartOperands.{PartOperands}
+use Rattle.operands.specs.declared.operands.PartOperands.{PartOperands}
 use Rattle.reading.specs.declared.progress.Progress.{Progress}
 use Rattle.reading.specs.Made.{component-of}
-use Rattle.reading.specs.Operands.{PartAt}
+use Rattle.operands.specs.Operands.{PartAt}
 use Rattle.reading.specs.Progress.{reading-of}
-use Rattle.reading.specs.Refusals.{operands-known, part-number}
+use Rattle.operands.specs.Refusals.{operands-known, part-number}
 use Rattle.reading.specs.Rows.{length-joined}
 use Rattle.reading.specs.Steps.{step-of, uncut}
-use Rattle.reading.specs.Tests.{at-least-min}
+use Rattle.operands.specs.Tests.{at-least-min}
 use borrow.Author.Needs.{needs}
 use Rattle.reading.proofs.command.part.Statement.{statement}
 use Rattle.reading.proofs.command.part.Tie as tie

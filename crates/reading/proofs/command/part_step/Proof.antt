@@ -7,8 +7,8 @@ use mathlib.Core.Logic.{_⊎_, inl, inr}
 use lib.Dec.{leb}
 use borrow.Author.Tests.{leb-false, ne-eqb}
 use Rattle.laws.specs.Bools.{either}
-use Rattle.reading.specs.declared.operands.PartOperands.{PartOperands}
-use Rattle.reading.specs.Refusals.{part-number}
+use Rattle.operands.specs.declared.operands.PartOperands.{PartOperands}
+use Rattle.operands.specs.Refusals.{part-number}
 use Rattle.reading.specs.Steps.{step-of}
 use borrow.Author.Needs.{needs}
 use Rattle.reading.proofs.command.part_step.Statement.{statement}

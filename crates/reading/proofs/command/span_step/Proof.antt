@@ -15,11 +15,11 @@ use Rattle.machine.specs.Table.{component-at}
 use Rattle.machine.specs.Load.{last-span, span-refusal}
 use Rattle.reading.specs.declared.progress.Progress.{Progress}
 use Rattle.reading.specs.Progress.{with-row, reading-of}
-use Rattle.reading.specs.Refusals.{span-number}
+use Rattle.operands.specs.Refusals.{span-number}
 use Rattle.reading.specs.Rows.{joined-at}
 use Rattle.reading.specs.Spanned.{last-of, last-place, span-count, Beside}
 use Rattle.reading.specs.Steps.{step-of}
-use Rattle.reading.specs.Tests.{at-least-min}
+use Rattle.operands.specs.Tests.{at-least-min}
 use borrow.Author.Needs.{needs}
 use Rattle.reading.proofs.command.span_step.Statement.{statement}
 use Rattle.reading.proofs.command.span_step.Tie as tie

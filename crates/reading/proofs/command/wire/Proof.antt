@@ -6,8 +6,8 @@ use mathlib.Core.List.{List}
 use lib.ListN.{length}
 use borrow.Author.Tests.{le-leb, lt-leb}
 use Rattle.machine.specs.Load.{Reading, byte-at, wire-command, wire-refusal, unless-refused}
-use Rattle.reading.specs.declared.operands.WireOperands.{WireOperands}
-use Rattle.reading.specs.Operands.{WireAt}
+use Rattle.operands.specs.declared.operands.WireOperands.{WireOperands}
+use Rattle.operands.specs.Operands.{WireAt}
 use Rattle.reading.specs.Progress.{reading-of}
 use Rattle.reading.specs.Steps.{step-of, uncut}
 use Rattle.reading.specs.Wired.{wired-reading}

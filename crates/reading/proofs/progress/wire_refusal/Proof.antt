@@ -12,7 +12,7 @@ use Rattle.machine.specs.Table.{component-at}
 use Rattle.machine.specs.Load.{source-of, wire-refusal}
 use Rattle.reading.specs.declared.progress.Progress.{Progress}
 use Rattle.reading.specs.Progress.{with-row, reading-of}
-use Rattle.reading.specs.Refusals.{port-number}
+use Rattle.operands.specs.Refusals.{port-number}
 use Rattle.reading.specs.Rows.{length-reading, joined-at}
 use borrow.Author.Needs.{needs}
 use Rattle.reading.proofs.progress.wire_refusal.Statement.{statement}

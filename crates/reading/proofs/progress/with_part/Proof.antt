@@ -9,7 +9,7 @@ use lib.ListN.{length, set, length-map}
 use lib.Seq.{take-suc-set}
 use Rattle.machine.specs.declared.part.Component.{Component}
 use Rattle.machine.specs.Load.{is-drive, with-part}
-use Rattle.reading.specs.declared.operands.PartOperands.{PartOperands}
+use Rattle.operands.specs.declared.operands.PartOperands.{PartOperands}
 use Rattle.reading.specs.declared.progress.Progress.{Progress}
 use Rattle.reading.specs.Made.{component-of, made-component}
 use Rattle.reading.specs.Progress.{with-row, reading-of}

@@ -1,0 +1,60 @@
+-- `judged` makes the tests of the table's places, and the number is the definition's.
+use Prim.Native.Nat.{_≤_}
+use native.Mathlib.Omega.{arith}
+use mathlib.Core.Path.{_≡_, sym, _∙_}
+use lib.ListN.{length, length-map}
+use Rattle.machine.specs.Table.{magnitude-of}
+use Rattle.table.specs.Concluded.{table-read}
+use Rattle.loading.specs.Places.{components, table-in}
+use Rattle.loading.specs.Ending.{magnitude-small, judged-number, judged-order}
+use borrow.Author.Needs.{needs}
+use Rattle.loading.proofs.ending.judged.Statement.{statement}
+use Rattle.loading.proofs.ending.judged.Tie as tie
+
+-- the magnitude found is that of the table
+magnitude-found : (c : tie.After-master-magnitude) → c .master-magnitude .result ≡ magnitude-of (table-read (c .before .before .args .read))
+unfolding table-read table-in components
+magnitude-found c = c .master-magnitude .ensures
+
+master-magnitude-requires : tie.Need-master-magnitude-requires
+master-magnitude-requires c κs = search needs
+
+periods-fit-requires : tie.Need-periods-fit-requires
+periods-fit-requires c κs =
+    let start = c .before .before in
+    let read = start .args .read in
+    let few : read .count ≤ length (read .parts) = omega (arith, start .pre .few, simp length-map at (start .good .0)) in
+    (start .pre .few, rw (magnitude-found c) (magnitude-small read few (start .pre)))
+
+place-requires : tie.Need-place-requires
+place-requires c κs = search needs
+
+end-refusal-requires : tie.Need-end-refusal-requires
+end-refusal-requires c κs = search needs
+
+returns : tie.Need-returns
+returns c =
+    let place = c .before .before in
+    let periods = place .before in
+    let magnitude = periods .before in
+    let start = magnitude .before .before in
+    let read = start .args .read in
+    let few : read .count ≤ length (read .parts) = omega (arith, start .pre .few, simp length-map at (start .good .0)) in
+    let number =
+    judged-number read few (magnitude .master-magnitude .result) (periods .periods-fit .result) (place .place .result) (c .before .end-refusal .result)
+    (magnitude-found magnitude) (periods .periods-fit .ensures) (place .place .ensures) (c .before .end-refusal .ensures) in
+    record {
+      number = number;
+      magnitude = magnitude-found magnitude;
+      order = λ none. judged-order read few (place .place .result) (place .place .ensures) (sym number ∙ none);
+    }
+
+pub judged-spec : {M : Type 1} → statement M
+judged-spec =
+    tie.close
+    (tie.spec
+    master-magnitude-requires
+    periods-fit-requires
+    place-requires
+    end-refusal-requires
+    returns)

@@ -1,0 +1,24 @@
+-- `unfilled_model` puts the first parts and the part order into a model, which is then the definition's.
+use Prim.Native.Nat.{_≤_}
+use native.Mathlib.Omega.{arith}
+use lib.ListN.{length, length-map}
+use Rattle.machine.specs.Model.{trimmed}
+use Rattle.loading.specs.Ending.{unfilled-is}
+use borrow.Author.Needs.{needs}
+use Rattle.loading.proofs.ending.unfilled_model.Statement.{statement}
+use Rattle.loading.proofs.ending.unfilled_model.Tie as tie
+
+first-parts-requires : tie.Need-first-parts-requires
+first-parts-requires c κs = search needs
+
+returns : tie.Need-returns
+unfolding trimmed
+returns c =
+    let start = c .before .before .before in
+    let read = start .args .read in
+    let acceptable = start .pre in
+    let few : read .count ≤ length (read .parts) = omega (arith, acceptable .few, simp length-map at (start .good .0)) in
+    unfilled-is read few (start .args .ending) (c .before .first-parts .result) acceptable (c .before .first-parts .ensures)
+
+pub unfilled-model-spec : {M : Type 1} → statement M
+unfilled-model-spec = tie.close (tie.spec first-parts-requires returns)

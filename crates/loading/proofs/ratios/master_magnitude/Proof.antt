@@ -1,0 +1,75 @@
+-- `master_magnitude` is the master's magnitude of the table. The loop's invariant: it is that of what was found so far and the components from i on.
+-- The measure is what is left of the count.
+use Prim.Native.Nat.{ℕ, _+_, _-_, _≤_}
+use native.Mathlib.Omega.{arith}
+use mathlib.Core.Path.{_≡_, _∙_, refl, sym, ap}
+use mathlib.Core.List.{map}
+use lib.ListN.{length, drop}
+use Rattle.machine.specs.declared.part.Component.{Component}
+use Rattle.machine.specs.Time.{master-magnitude}
+use Rattle.machine.specs.Table.{magnitude-of}
+use Rattle.loading.specs.Places.{components, magnitude-on, magnitude-end, table-in}
+use borrow.Author.Needs.{needs}
+use Rattle.loading.proofs.ratios.master_magnitude.Statement.{statement}
+use Rattle.loading.proofs.ratios.master_magnitude.Tie as tie
+
+abbrev Inv-loop : tie.InvT-loop
+Inv-loop count default parts magnitude₀ i₀ magnitude i =
+    master-magnitude default (map (λ (c : Component). c .preference) (components count parts)) ≡
+    master-magnitude magnitude (map (λ (c : Component). c .preference) (drop i (components count parts)))
+
+abbrev μ-loop : tie.MeasureT-loop
+μ-loop count default parts magnitude₀ i₀ magnitude i = count - i
+
+loop-holds : tie.Need-loop-holds Inv-loop μ-loop
+loop-holds c = refl
+
+mul-c : tie.Need-mul-c Inv-loop μ-loop
+mul-c c = search needs
+
+array-copy-out-c : tie.Need-array-copy-out-c Inv-loop μ-loop
+array-copy-out-c c = search needs
+
+larger-of-requires : tie.Need-larger-of-requires Inv-loop μ-loop
+larger-of-requires c κs = search needs
+
+add-i : tie.Need-add-i Inv-loop μ-loop
+add-i c = search needs
+
+loop-less : tie.Need-loop-less Inv-loop μ-loop
+loop-less c = omega arith
+
+loop-again : tie.Need-loop-again Inv-loop μ-loop
+loop-again c =
+    let test = c .before .before in
+    let start = test .before .before in
+    let i = test .before .loop .i in
+    let parts = start .args .t1 in
+    let few : start .args .count ≤ length parts = omega arith in
+    test .before .loop .inv ∙ magnitude-on (start .args .count) parts few (test .before .loop .magnitude) i (test .loop-test .taken) ∙
+    ap
+    (λ (e : ℕ). master-magnitude e (map (λ (c : Component). c .preference) (drop (i + 1) (components (start .args .count) parts))))
+    (sym (c .larger-of .ensures))
+
+returns : tie.Need-returns Inv-loop μ-loop
+unfolding magnitude-of table-in
+returns c =
+    let start = c .before .before in
+    let parts = start .args .t1 in
+    let few : start .args .count ≤ length parts = omega arith in
+    sym (c .before .loop .inv ∙ magnitude-end (start .args .count) parts few (c .before .loop .magnitude) (c .before .loop .i) (c .loop-test .left))
+
+pub master-magnitude-spec : {M : Type 1} → statement M
+master-magnitude-spec =
+    tie.close
+    (tie.spec
+    Inv-loop
+    μ-loop
+    loop-holds
+    mul-c
+    array-copy-out-c
+    larger-of-requires
+    add-i
+    loop-less
+    loop-again
+    returns)

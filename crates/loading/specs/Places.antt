@@ -1,0 +1,108 @@
+-- A table whose components stand in the first places of an array: its components one by one, as a loop meets them; its periods; and its first parts.
+-- Assumes nothing.
+use Prim.Native.Nat.{ℕ, _+_, _*_, _≤_, _<_}
+use native.Mathlib.Omega.{arith}
+use native.Mathlib.Numerals.{add-one}
+use mathlib.Core.Path.{_≡_, refl, sym, ap, _∙_}
+use mathlib.Core.Bool.{Bool, true, _&&_}
+use mathlib.Core.List.{List, [], _∷_, _++_, map, map-map}
+use lib.ListN.{length, getD, take, drop, length-map, drop-of-length-le}
+use lib.Seq.{drop-cons, getD-take, length-take-le, take-at}
+use lib.Dec.{leb}
+use Rattle.machine.specs.declared.part.Component.{Component}
+use Rattle.machine.specs.declared.part.Part.{Part}
+use Rattle.machine.specs.Lists.{every}
+use Rattle.machine.specs.Time.{last-tick, larger, master-magnitude, ratio-of}
+use Rattle.machine.specs.Model.{blank-component, trimmed-component, trimmed-part}
+use Rattle.machine.specs.Table.{Table, component-at, magnitude-of, component-ratio, periods-fit}
+use Rattle.machine.specs.Fresh.{first-state, first-part, first-parts}
+use Rattle.laws.specs.Lists.{getD-map-in}
+
+-- the components in the first `count` places, without their unused places for spans
+unfoldable pub components : ℕ → List Component → List Component
+components count parts = map trimmed-component (take count parts)
+
+-- the table that they make with a default magnitude
+unfoldable pub table-in : (magnitude count : ℕ) → List Component → Table
+table-in magnitude count parts = record { magnitude = magnitude; parts = components count parts }
+
+-- no P is above 10^18, by the master's magnitude
+unfoldable pub periods-within : ℕ → List Component → Bool
+periods-within magnitude cs = every (λ (c : Component). leb (c .p * ratio-of magnitude (c .preference)) last-tick) cs
+
+-- the first part of a component, by the master's magnitude
+unfoldable pub first-by : ℕ → Component → Part
+first-by magnitude c = record { component = c; ratio = ratio-of magnitude (c .preference); state = first-state c }
+
+-- by a table's own magnitude these are the machine's
+pub periods-by : (t : Table) → periods-fit t ≡ periods-within (magnitude-of t) (t .parts)
+unfolding periods-fit periods-within component-ratio
+periods-by t = refl
+
+pub first-parts-by : (t : Table) → first-parts t ≡ map (first-by (magnitude-of t)) (t .parts)
+unfolding first-parts first-part first-by component-ratio
+first-parts-by t = refl
+
+module _ (count : ℕ) (parts : List Component) (few : count ≤ length parts) where
+  -- as many components as places
+  pub components-count : length (components count parts) ≡ count
+  unfolding components
+  components-count = length-map (take count parts) trimmed-component ∙ length-take-le count parts few
+
+  -- each is that of its place
+  component-in : (i : ℕ) → i < count → component-at (components count parts) i ≡ trimmed-component (component-at parts i)
+  unfolding components
+  component-in i h =
+      let within : i < length (take count parts) = omega (arith, length-take-le count parts few) in
+      getD-map-in trimmed-component (take count parts) i blank-component blank-component within ∙
+      ap trimmed-component (getD-take count parts i blank-component h)
+
+  -- a loop's turn: the components from i on are that of place i and those behind it
+  pub components-on :
+      (i : ℕ) → i < count →
+      drop i (components count parts) ≡ trimmed-component (component-at parts i) ∷ drop (i + 1) (components count parts)
+  components-on i h =
+      let within : i < length (components count parts) = omega (arith, components-count) in
+      rw (drop-cons (components count parts) i blank-component within, component-in i h, add-one)
+
+  -- and its end: none is left
+  pub components-end : (i : ℕ) → count ≤ i → drop i (components count parts) ≡ []
+  components-end i h =
+      let past : length (components count parts) ≤ i = omega (arith, components-count) in
+      drop-of-length-le (components count parts) past
+
+  -- a loop's turn and end, of the master's magnitude
+  pub magnitude-on :
+      (e i : ℕ) → i < count →
+      master-magnitude e (map (λ (c : Component). c .preference) (drop i (components count parts))) ≡
+      master-magnitude (larger e (component-at parts i .preference)) (map (λ (c : Component). c .preference) (drop (i + 1) (components count parts)))
+  unfolding master-magnitude trimmed-component
+  magnitude-on e i h = rw (components-on i h)
+
+  pub magnitude-end : (e i : ℕ) → count ≤ i → master-magnitude e (map (λ (c : Component). c .preference) (drop i (components count parts))) ≡ e
+  unfolding master-magnitude
+  magnitude-end e i h = rw (components-end i h)
+
+  -- of the test of the periods
+  pub periods-on :
+      (magnitude i : ℕ) → i < count →
+      periods-within magnitude (drop i (components count parts)) ≡
+      (leb (component-at parts i .p * ratio-of magnitude (component-at parts i .preference)) last-tick &&
+      periods-within magnitude (drop (i + 1) (components count parts)))
+  unfolding periods-within every trimmed-component
+  periods-on magnitude i h = rw (components-on i h)
+
+  pub periods-end : (magnitude i : ℕ) → count ≤ i → periods-within magnitude (drop i (components count parts)) ≡ true
+  unfolding periods-within every
+  periods-end magnitude i h = rw (components-end i h)
+
+  -- the first parts of the places, once all are stored, are those of the components
+  pub first-stored :
+      (magnitude : ℕ) (rest : List Part) →
+      map trimmed-part (take count (map (first-by magnitude) (take count parts) ++ rest)) ≡ map (first-by magnitude) (components count parts)
+  unfolding components trimmed-part first-by trimmed-component first-state
+  first-stored magnitude rest =
+      let front = take count parts in
+      let long : length (map (first-by magnitude) front) ≡ count = length-map front (first-by magnitude) ∙ length-take-le count parts few in
+      ap (map trimmed-part) (take-at (map (first-by magnitude) front) rest count long) ∙ map-map trimmed-part (first-by magnitude) front ∙
+      sym (map-map (first-by magnitude) trimmed-component front)

@@ -1,0 +1,74 @@
+// The parts of a table before the start point is filled. Its contracts cite the machine's `specs/Fresh.antt`, and `specs/Places.antt`.
+use crate::blank::blank_part;
+use kinds::kind::holds_number;
+use kinds::ratio::ratio_of;
+use machine::model::PARTS;
+use machine::part::Component;
+use machine::part::Kind;
+use machine::part::Mark;
+use machine::part::Part;
+use machine::part::Side;
+use machine::part::State;
+use machine::signal::Signal;
+use machine::time::LocalTicks;
+ghost use mathlib.Core.Path.{_≡_};
+ghost use mathlib.Core.Bool.{cond};
+ghost use mathlib.Core.List.{map};
+ghost use lib.IntN.{pos};
+ghost use lib.ListN.{take};
+ghost use Prim.Native.Nat.{_≤_};
+ghost use Rattle.machine.specs.Kind.{integrates};
+ghost use Rattle.machine.specs.Model.{trimmed-part};
+ghost use Rattle.machine.specs.Time.{last-magnitude};
+ghost use Rattle.loading.specs.Places.{components, first-by};
+
+// The held number of a part of this kind at the start.
+fn first_held(kind: Kind, a: i64) -> i64
+    ensures { λ r. ⌜ r ≡ cond (integrates kind) a (pos 0) ⌝ }
+{
+    if holds_number(kind) {
+        return a;
+    }
+    0
+}
+
+// The first part of a component, by the master's magnitude.
+fn first_part(c: Component, magnitude: u8) -> Part
+    requires { ⌜ magnitude ≤ last-magnitude ⌝ }
+    ensures { λ r. ⌜ r ≡ first-by magnitude c ⌝ }
+{
+    let kind = c.kind;
+    let ratio = ratio_of(magnitude, c.preference);
+    let held = first_held(kind, c.a);
+    let state = State {
+        local: LocalTicks(0),
+        held: held,
+        signal: Signal::Absent,
+        output: Signal::Absent,
+        side: Side::Unset,
+        mark: Mark::Clear,
+    };
+    Part {
+        component: c,
+        ratio: ratio,
+        state: state,
+    }
+}
+
+// The first parts of the first `count` components, by the master's magnitude. The places behind them are blank.
+pub fn first_parts(parts: [Component; PARTS], count: usize, magnitude: u8) -> [Part; PARTS]
+    requires { ⌜ count ≤ 32 ⌝ }
+    requires { ⌜ magnitude ≤ last-magnitude ⌝ }
+    ensures { λ r. ⌜ map trimmed-part (take count r) ≡ map (first-by magnitude) (components count parts) ⌝ }
+{
+    let blank = blank_part();
+    let mut all = [blank; PARTS];
+    let mut i: usize = 0;
+    while i < count {
+        let c = parts[i];
+        let part = first_part(c, magnitude);
+        all[i] = part;
+        i += 1;
+    }
+    all
+}

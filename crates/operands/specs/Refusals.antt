@@ -1,0 +1,36 @@
+-- The refusal numbers of commands as the code asks for them: by the counts, operands and sources that document 01's tests depend on. Assumes nothing.
+use Prim.Native.Nat.{ℕ}
+use mathlib.Core.Bool.{Bool, false, cond, not, _&&_}
+use lib.Dec.{eqb, leb, ltb}
+use Rattle.machine.specs.declared.part.Kind.{Kind}
+use Rattle.machine.specs.declared.part.Source.{Source}
+use Rattle.machine.specs.Kind.{kind-known, kind-of, ports, is-positive, operands-fit}
+use Rattle.machine.specs.Model.{most-parts, most-spans}
+use Rattle.machine.specs.Load.{begin-byte, span-byte, want-byte, known-command, preference-known, signed, wired}
+use Rattle.operands.specs.declared.operands.PartOperands.{PartOperands}
+
+-- a Part's operands are in their ranges, its kind and preference known
+unfoldable pub operands-known : PartOperands → Bool
+operands-known o =
+    kind-known (o .kind) && preference-known (o .preference) && operands-fit (kind-of (o .kind)) (signed (o .a)) (signed (o .b)) (o .p)
+
+-- a Part behind so many parts
+unfoldable pub part-number : ℕ → PartOperands → ℕ
+part-number count o = cond (leb most-parts count) 6 (cond (operands-known o) 0 5)
+
+-- a Span with the value v behind so many spans, the last of them given
+unfoldable pub span-number : (count last v : ℕ) → ℕ
+span-number count last v = cond (leb most-spans count) 6 (cond (is-positive v) (cond (ltb last v) 0 12) 5)
+
+-- a Wire to a port of a part of this kind, whose ports are wired so
+unfoldable pub port-number : Kind → (port0 port1 : Source) → ℕ → ℕ
+port-number kind port0 port1 port = cond (ltb port (ports kind)) (cond (wired (cond (eqb port 0) port0 port1)) 8 0) 7
+
+-- a command byte stands where it may: by whether Begin was read, and whether a span may follow
+unfoldable pub placed : (begun spannable : Bool) → ℕ → Bool
+placed begun spannable b =
+    cond (eqb b begin-byte) (not begun) (cond (eqb b span-byte) (begun && spannable) (cond (eqb b want-byte) false begun))
+
+-- a command that is unknown, or out of place
+unfoldable pub command-number : (begun spannable : Bool) → ℕ → ℕ
+command-number begun spannable b = cond (known-command b) (cond (placed begun spannable b) 0 3) 2

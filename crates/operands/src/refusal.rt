@@ -1,0 +1,141 @@
+// The refusal numbers of commands, by the numbers and operands that they depend on; 0 means none.
+// Its contracts cite `specs/Refusals.antt`, and the machine's `specs/Load.antt`.
+use crate::cursor::signed_of;
+use crate::operands::PartOperands;
+use kinds::kind::KindFound;
+use kinds::kind::kind_of;
+use kinds::operand::operands_fit;
+use kinds::port::ports_of;
+use kinds::range::is_positive;
+use kinds::range::magnitude_known;
+use kinds::range::preference_known;
+use kinds::source::is_wired;
+use machine::model::PARTS;
+use machine::part::Kind;
+use machine::part::SPANS;
+use machine::part::Source;
+ghost use mathlib.Core.Path.{_≡_};
+ghost use mathlib.Core.Bool.{cond};
+ghost use lib.Dec.{eqb};
+ghost use Rattle.machine.specs.Load.{begin-refusal, known-command};
+ghost use Rattle.operands.specs.Refusals.{command-number, operands-known, part-number, placed, port-number, span-number};
+
+// A refusal's number where there is cause for it.
+pub fn refusal(cause: bool, number: u64) -> u64
+    ensures { λ r. ⌜ r ≡ cond cause number 0 ⌝ }
+{
+    if cause {
+        return number;
+    }
+    0
+}
+
+// The first of two refusals, where there is one.
+pub fn first_of(first: u64, second: u64) -> u64
+    ensures { λ r. ⌜ r ≡ cond (eqb first 0) second first ⌝ }
+{
+    if first == 0 {
+        return second;
+    }
+    first
+}
+
+// The refusal of a Begin with this magnitude.
+pub fn begin_refusal(e: u8) -> u64
+    ensures { λ r. ⌜ r ≡ begin-refusal e ⌝ }
+{
+    if magnitude_known(e) {
+        return 0;
+    }
+    5
+}
+
+// Whether a Part's operands are in their ranges, and its kind and preference known.
+fn operands_known(o: PartOperands) -> bool
+    ensures { λ r. ⌜ r ≡ operands-known o ⌝ }
+{
+    let KindFound::Known(kind) = kind_of(o.kind) else {
+        return false;
+    };
+    if !preference_known(o.preference) {
+        return false;
+    }
+    operands_fit(kind, signed_of(o.a), signed_of(o.b), o.p)
+}
+
+// The refusal of a Part behind so many.
+pub fn part_refusal(count: usize, o: PartOperands) -> u64
+    ensures { λ r. ⌜ r ≡ part-number count o ⌝ }
+{
+    let room = refusal(count >= PARTS, 6);
+    let range = refusal(!operands_known(o), 5);
+    first_of(room, range)
+}
+
+// The refusal of a Span with the value v behind so many, the last of them given.
+pub fn span_refusal(count: usize, last: u32, v: u32) -> u64
+    ensures { λ r. ⌜ r ≡ span-number count last v ⌝ }
+{
+    let places = refusal(count >= SPANS, 6);
+    let range = refusal(!is_positive(v), 5);
+    let order = refusal(v <= last, 12);
+    first_of(first_of(places, range), order)
+}
+
+// The source of a port, of the two.
+fn source_of(port0: Source, port1: Source, port: u8) -> Source
+    ensures { λ r. ⌜ r ≡ cond (eqb port 0) port0 port1 ⌝ }
+{
+    if port == 0 {
+        return port0;
+    }
+    port1
+}
+
+// The refusal of a Wire to a port of a part of this kind, whose ports are wired so.
+pub fn port_refusal(kind: Kind, port0: Source, port1: Source, port: u8) -> u64
+    ensures { λ r. ⌜ r ≡ port-number kind port0 port1 port ⌝ }
+{
+    let source = source_of(port0, port1, port);
+    let unknown = refusal(port >= ports_of(kind), 7);
+    let taken = refusal(is_wired(source), 8);
+    first_of(unknown, taken)
+}
+
+// Whether a command byte is known.
+fn known_command(b: u8) -> bool
+    ensures { λ r. ⌜ r ≡ known-command b ⌝ }
+{
+    if b < 1 {
+        return false;
+    }
+    b <= 6
+}
+
+// Whether a command byte stands where it may.
+fn in_place(begun: bool, spannable: bool, b: u8) -> bool
+    ensures { λ r. ⌜ r ≡ placed begun spannable b ⌝ }
+{
+    if b == 1 {
+        return !begun;
+    }
+    if b == 3 {
+        if begun {
+            return spannable;
+        }
+        return false;
+    }
+    if b == 6 {
+        return false;
+    }
+    begun
+}
+
+// The refusal of a command byte: unknown, or out of place.
+pub fn command_refusal(begun: bool, spannable: bool, b: u8) -> u64
+    ensures { λ r. ⌜ r ≡ command-number begun spannable b ⌝ }
+{
+    let unknown = refusal(!known_command(b), 2);
+    let misplaced = refusal(!in_place(begun, spannable, b), 3);
+    first_of(unknown, misplaced)
+}

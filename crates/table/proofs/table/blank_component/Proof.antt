@@ -1,0 +1,12 @@
+-- `blank_component` is the definition, with places for spans.
+use mathlib.Core.Path.{refl}
+use Rattle.machine.specs.Model.{trimmed-component}
+use Rattle.table.proofs.table.blank_component.Statement.{statement}
+use Rattle.table.proofs.table.blank_component.Tie as tie
+
+returns : tie.Need-returns
+unfolding trimmed-component
+returns c = refl
+
+pub blank-component-spec : {M : Type 1} → statement M
+blank-component-spec = tie.close (tie.spec returns)

@@ -1,0 +1,127 @@
+-- `read_table` is loading, with End still to be judged. The invariant: loading is reading from this position on, behind the progress and its rows, which
+-- reading keeps readable. The measure is how many bytes are left: each turn that goes on raises the position.
+use Prim.Native.Nat.{ℕ, _-_, _≤_, _<_}
+use native.Mathlib.Omega.{arith}
+use mathlib.Core.Path.{_≡_, _∙_, sym}
+use mathlib.Core.List.{List}
+use lib.ListN.{length}
+use borrow.Author.Needs.{needs}
+use Rattle.machine.specs.Load.{load, refused}
+use Rattle.reading.specs.declared.progress.Progress.{Progress}
+use Rattle.reading.specs.Progress.{reading-of}
+use Rattle.table.specs.declared.turn.Turn.{Turn}
+use Rattle.table.specs.Concluded.{end-loaded, ended-concluded, refused-concluded}
+use Rattle.table.specs.Ending.{kept-ended}
+use Rattle.table.specs.Judged.{turn-ended, turn-onward, turn-refused}
+use Rattle.table.specs.Stands.{Stands, stands-ended, stands-first, stands-on}
+use Rattle.table.specs.Turned.{Turned}
+use Rattle.table.specs.Turning.{rows-behind}
+use Rattle.table.proofs.table.read_table.Statement.{statement}
+use Rattle.table.proofs.table.read_table.Tie as tie
+
+module _ (bs : List ℕ) (at : ℕ) (progress : Progress) (rows : List (List ℕ)) (r : Turn) (s : Stands bs at (reading-of progress rows)) (t : Turned bs at progress rows r) where
+  -- a turn that is refused is what loading comes to
+  refused-loads : (r .number ≡ 0 → ⊥) → load bs ≡ refused (r .number) (r .position)
+  refused-loads some = stands-ended bs at (reading-of progress rows) _ s (t .is ∙ turn-refused at progress rows r some)
+
+  -- a turn that is End's is judged
+  ended-loads : r .number ≡ 0 → r .byte ≡ 5 → load bs ≡ end-loaded at (reading-of progress rows .table)
+  ended-loads none end = stands-ended bs at (reading-of progress rows) _ s (t .is ∙ turn-ended at progress rows r none end)
+
+  -- a turn that reading goes on behind stands further
+  goes-further : r .number ≡ 0 → (r .byte ≡ 5 → ⊥) →
+      Stands bs (r .position) (reading-of (r .progress) (rows-behind (r .byte) progress rows (r .span))) × (at < r .position)
+  goes-further none other = stands-on bs at (r .position) (reading-of progress rows) _ s (t .is ∙ turn-onward at progress rows r none other)
+
+abbrev Inv-loop : tie.InvT-loop
+Inv-loop s at₀ progress₀ rows₀ at progress rows = (progress .count ≤ 32) × Stands s at (reading-of progress rows)
+
+abbrev μ-loop : tie.MeasureT-loop
+μ-loop s at₀ progress₀ rows₀ at progress rows = length s - at
+
+nothing-read-requires : tie.Need-nothing-read-requires Inv-loop μ-loop
+nothing-read-requires c κs = search needs
+
+no-spans-requires : tie.Need-no-spans-requires Inv-loop μ-loop
+no-spans-requires c κs = search needs
+
+loop-holds : tie.Need-loop-holds Inv-loop μ-loop
+loop-holds c =
+    let none = c .before .nothing-read .ensures in
+    (none .1, stands-first _ _ (none .0 _))
+
+turn-at-requires : tie.Need-turn-at-requires Inv-loop μ-loop
+turn-at-requires c κs = (c .loop .inv .0, c .loop .inv .1 .kept)
+
+refused-read-requires : tie.Need-refused-read-requires Inv-loop μ-loop
+refused-read-requires c κs = search needs
+
+returns : tie.Need-returns Inv-loop μ-loop
+returns c =
+    let loop = c .before .before .before .before .loop in
+    let found = c .before .before .before .turn-at in
+    let some = c .before .if1 .taken in
+    let read = c .refused-read .ensures in (
+      refused-loads _ (loop .at) (loop .progress) (loop .rows) (found .result) (loop .inv .1) (found .ensures) some ∙
+          sym (refused-concluded _ _ (c .refused-read .result) some read),
+      λ none. absurd (some (sym (read .number) ∙ none)),
+    )
+
+ended-read-requires : tie.Need-ended-read-requires Inv-loop μ-loop
+ended-read-requires c κs = c .before .before .before .before .before .loop .inv .0
+
+returns-2 : tie.Need-returns-2 Inv-loop μ-loop
+returns-2 c =
+    let loop = c .before .before .before .before .before .before .loop in
+    let found = c .before .before .before .before .before .turn-at in
+    let none = c .before .before .before .if1 .left in
+    let end = c .before .if2 .taken in
+    let read = c .ended-read .ensures in (
+      ended-loads _ (loop .at) (loop .progress) (loop .rows) (found .result) (loop .inv .1) (found .ensures) none end ∙
+          sym (ended-concluded (loop .at) _ (c .ended-read .result) read),
+      λ zero. kept-ended (loop .at) (reading-of (loop .progress) (loop .rows)) (c .ended-read .result) (loop .inv .1 .kept) read,
+    )
+
+rows-behind-requires : tie.Need-rows-behind-requires Inv-loop μ-loop
+rows-behind-requires c κs =
+    let loop = c .before .before .before .before .before .loop in
+    let found = c .before .before .before .before .turn-at in
+    (loop .inv .0, found .ensures .room (c .before .before .if1 .left))
+
+loop-less : tie.Need-loop-less Inv-loop μ-loop
+loop-less c =
+    let loop = c .before .before .before .before .before .before .before .loop in
+    let found = c .before .before .before .before .before .before .turn-at in
+    let none = c .before .before .before .before .if1 .left in
+    let here = found .ensures .here none in
+    let further =
+    goes-further _ (loop .at) (loop .progress) (loop .rows) (found .result) (loop .inv .1) (found .ensures) none (c .before .before .if2 .left) .1 in
+    omega arith
+
+loop-again : tie.Need-loop-again Inv-loop μ-loop
+loop-again c =
+    let loop = c .before .before .before .before .before .before .before .loop in
+    let found = c .before .before .before .before .before .before .turn-at in
+    let none = c .before .before .before .before .if1 .left in (
+      found .ensures .few,
+      rw (c .before .rows-behind .ensures)
+          (goes-further _ (loop .at) (loop .progress) (loop .rows) (found .result) (loop .inv .1) (found .ensures) none (c .before .before .if2 .left) .0),
+    )
+
+pub read-table-spec : {M : Type 1} → statement M
+read-table-spec =
+    tie.close
+    (tie.spec
+    Inv-loop
+    μ-loop
+    nothing-read-requires
+    no-spans-requires
+    loop-holds
+    turn-at-requires
+    refused-read-requires
+    returns
+    ended-read-requires
+    returns-2
+    rows-behind-requires
+    loop-less
+    loop-again)

@@ -1,0 +1,85 @@
+-- `turn_at` is the definition: past the stream's end it is cut; a command that is unknown or out of place is refused; any other is `placed`'s.
+use Prim.Native.Nat.{_≤_, _<_}
+use native.Mathlib.Omega.{arith}
+use mathlib.Core.Path.{_≡_, _∙_, refl, sym}
+use lib.ListN.{length, length-map}
+use borrow.Author.Needs.{needs}
+use Rattle.machine.specs.Load.{byte-at}
+use Rattle.table.specs.Stands.{turn-cut}
+use Rattle.table.specs.Kept.{span-asked}
+use Rattle.table.specs.Judged.{command-byte, judged-placed, judged-refused, placed-room, turn-refused}
+use Rattle.table.proofs.turn.turn_at.Statement.{statement}
+use Rattle.table.proofs.turn.turn_at.Tie as tie
+
+returns : tie.Need-returns
+returns c =
+    let start = c .before .before in
+    let args = start .args in
+    record {
+      is = turn-cut _ (args .at) _ (c .if1 .taken) ∙ sym (turn-refused (args .at) (args .progress) (args .rows) _ (λ none. omega arith));
+      here = λ none. absurd (omega arith);
+      room = λ none byte. absurd (omega arith);
+      few = start .pre .0;
+    }
+
+shared-slice-read-b : tie.Need-shared-slice-read-b
+shared-slice-read-b c = search needs
+
+command-refusal-requires : tie.Need-command-refusal-requires
+command-refusal-requires c κs = search needs
+
+returns-2 : tie.Need-returns-2
+unfolding byte-at
+returns-2 c =
+    let start = c .before .before .before .before .before in
+    let args = start .args in
+    let here = c .before .before .before .if1 .left in
+    let some = c .if2 .taken in
+    record {
+      is =
+          judged-refused _ (args .at) (args .progress) (args .rows) _ _ here refl (c .before .command-refusal .ensures) some ∙
+          sym (turn-refused (args .at) (args .progress) (args .rows) _ some);
+      here = λ none. here;
+      room = λ none byte. absurd (some none);
+      few = start .pre .0;
+    }
+
+placed-requires : tie.Need-placed-requires
+placed-requires c κs =
+    let start = c .before .before .before .before .before in
+    let args = start .args in
+    let many : length (args .progress .parts) ≡ 32 = omega (arith, simp length-map at (start .good .1 .1 .0)) in
+    let few : args .progress .count ≤ length (args .progress .parts) = omega arith in
+    let none = sym (c .before .command-refusal .ensures) ∙ c .if2 .left in
+    let (some, most) = command-byte (args .progress .begun) (args .progress .spannable) _ none in
+    (c .before .before .before .if1 .left, start .pre .0, some, most, span-asked (args .progress) (args .rows) _ few (start .pre .1) none)
+
+returns-3 : tie.Need-returns-3
+unfolding byte-at
+returns-3 c =
+    let start = c .before .before .before .before .before .before in
+    let args = start .args in
+    let many : length (args .progress .parts) ≡ 32 = omega (arith, simp length-map at (start .good .1 .1 .0)) in
+    let few : args .progress .count ≤ length (args .progress .parts) = omega arith in
+    let here = c .before .before .before .before .if1 .left in
+    let none = sym (c .before .before .command-refusal .ensures) ∙ c .before .if2 .left in
+    let found = c .placed .ensures in
+    record {
+      is = judged-placed _ (args .at) (args .progress) (args .rows) _ here refl none ∙ found .is;
+      here = λ zero. here;
+      room =
+          placed-room _ (args .at) (args .progress) (args .rows) _ (c .placed .result) few (start .pre .1)
+          (span-asked (args .progress) (args .rows) _ few (start .pre .1) none) found;
+      few = found .few;
+    }
+
+pub turn-at-spec : {M : Type 1} → statement M
+turn-at-spec =
+    tie.close
+    (tie.spec
+    returns
+    shared-slice-read-b
+    command-refusal-requires
+    returns-2
+    placed-requires
+    returns-3)

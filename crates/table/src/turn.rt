@@ -1,0 +1,158 @@
+// One command of a table in its turn, behind the progress and the rows of spans beside it. Its contracts cite `specs/Turning.antt` and `specs/Turned.antt`.
+use machine::model::PARTS;
+use machine::part::SPANS;
+use operands::refusal::command_refusal;
+use reading::command::SpanStep;
+use reading::command::begin;
+use reading::command::part;
+use reading::command::span;
+use reading::command::wire;
+use reading::progress::Progress;
+use reading::rows::last_span;
+use reading::rows::with_span;
+ghost use Prim.Native.Nat.{_<_, _≤_};
+ghost use mathlib.Core.Path.{_≡_};
+ghost use lib.ListN.{length};
+ghost use Rattle.machine.specs.Load.{span-command};
+ghost use Rattle.reading.specs.Progress.{reading-of};
+ghost use Rattle.reading.specs.Spanned.{last-place, row-with, span-count};
+ghost use Rattle.reading.specs.Steps.{step-of, uncut};
+ghost use Rattle.soundness.specs.Accepted.{Readable};
+ghost use Rattle.table.specs.Turned.{Placed, Turned};
+ghost use Rattle.table.specs.Turning.{Room, Spannable, rows-behind, sized-command};
+
+// The Span at a position, behind the progress and its rows.
+fn span_beside(s: &[u8], at: usize, progress: Progress, rows: [[u32; SPANS]; PARTS]) -> SpanStep
+    requires { ⌜ (at < length (now s)) × (progress .count ≤ 32) × Spannable progress ⌝ }
+    ensures { λ r. ⌜ step-of (row-with rows (last-place progress) (span-count progress) (r .span)) at (r .step) ≡
+        uncut (now (s .entry)) at 5 (span-command (now (s .entry)) at (reading-of progress rows)) ⌝ }
+    ensures few { λ r. ⌜ r .step .progress .count ≤ 32 ⌝ }
+{
+    let k = progress.count - 1;
+    let c = progress.parts[k];
+    let row = rows[k];
+    let last = last_span(row, c.span_count);
+    span(s, at, progress, last)
+}
+
+// The command with byte b at a position, behind the progress and its rows: any but End and Want.
+fn command(s: &[u8], at: usize, progress: Progress, rows: [[u32; SPANS]; PARTS], b: u8) -> SpanStep
+    requires { ⌜ (at < length (now s)) × (progress .count ≤ 32) × (0 < b) × (b < 5) × (b ≡ 3 → Spannable progress) ⌝ }
+    ensures { λ r. ⌜ step-of (rows-behind b progress rows (r .span)) at (r .step) ≡
+        sized-command (now (s .entry)) at (reading-of progress rows) b ⌝ }
+    ensures few { λ r. ⌜ r .step .progress .count ≤ 32 ⌝ }
+{
+    if b == 3 {
+        return span_beside(s, at, progress, rows);
+    }
+    if b == 1 {
+        let step = begin(s, at, progress);
+        return SpanStep {
+            span: 0,
+            step: step,
+        };
+    }
+    if b == 2 {
+        let step = part(s, at, progress);
+        return SpanStep {
+            span: 0,
+            step: step,
+        };
+    }
+    let step = wire(s, at, progress);
+    SpanStep {
+        span: 0,
+        step: step,
+    }
+}
+
+// The rows behind a command with byte b: a Span's value is in the last part's row.
+pub fn rows_behind(
+    rows: [[u32; SPANS]; PARTS],
+    progress: Progress,
+    b: u8,
+    v: u32,
+) -> [[u32; SPANS]; PARTS]
+    requires { ⌜ (progress .count ≤ 32) × (b ≡ 3 → Room progress) ⌝ }
+    ensures { λ r. ⌜ r ≡ rows-behind b progress rows v ⌝ }
+{
+    if b != 3 {
+        return rows;
+    }
+    let k = progress.count - 1;
+    let c = progress.parts[k];
+    with_span(rows, k, c.span_count, v)
+}
+
+// What a turn comes to: a refusal's number, 0 meaning none, and its position. Where there is none, the command's byte; and behind any
+// command but End the position and the progress, and the span that goes into the last part's row.
+pub struct Turn {
+    pub number: u64,
+    pub position: usize,
+    pub byte: u8,
+    pub span: u32,
+    pub progress: Progress,
+}
+
+// The turn of the command with byte b, which is known and in place.
+fn placed(s: &[u8], at: usize, progress: Progress, rows: [[u32; SPANS]; PARTS], b: u8) -> Turn
+    requires { ⌜ (at < length (now s)) × (progress .count ≤ 32) × (0 < b) × (b ≤ 5) × (b ≡ 3 → Spannable progress) ⌝ }
+    ensures { λ r. ⌜ Placed (now (s .entry)) at progress rows b r ⌝ }
+{
+    if b == 5 {
+        return Turn {
+            number: 0,
+            position: at,
+            byte: b,
+            span: 0,
+            progress: progress,
+        };
+    }
+    let found = command(s, at, progress, rows, b);
+    let step = found.step;
+    if step.number != 0 {
+        return Turn {
+            number: step.number,
+            position: at,
+            byte: b,
+            span: 0,
+            progress: progress,
+        };
+    }
+    let then = step.progress;
+    Turn {
+        number: 0,
+        position: step.next,
+        byte: b,
+        span: found.span,
+        progress: then,
+    }
+}
+
+// The turn at a position, behind the progress and its rows.
+pub fn turn_at(s: &[u8], at: usize, progress: Progress, rows: [[u32; SPANS]; PARTS]) -> Turn
+    requires { ⌜ (progress .count ≤ 32) × Readable (reading-of progress rows) ⌝ }
+    ensures { λ r. ⌜ Turned (now (s .entry)) at progress rows r ⌝ }
+{
+    if at >= s.len() {
+        return Turn {
+            number: 1,
+            position: s.len(),
+            byte: 0,
+            span: 0,
+            progress: progress,
+        };
+    }
+    let b = s[at];
+    let number = command_refusal(progress.begun, progress.spannable, b);
+    if number != 0 {
+        return Turn {
+            number: number,
+            position: at,
+            byte: b,
+            span: 0,
+            progress: progress,
+        };
+    }
+    placed(s, at, progress, rows, b)
+}
