@@ -2,3 +2,4 @@
 mod Decimal
 mod Pieces
 mod Outputs
+mod Bounds

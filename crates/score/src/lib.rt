@@ -2,4 +2,4 @@
 // they are written. Its contracts cite the machine's definitions and `specs/Written.antt`.
 pub mod command;
 pub mod line;
-mod text;
+pub mod text;

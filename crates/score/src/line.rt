@@ -106,6 +106,7 @@ fn used(count: usize) -> usize
 // The line of a refused advance.
 fn write_refused(number: u64, buf: &mut [u8]) -> Written
     ensures { λ w. ⌜ WrittenAs (refused-line number) (now (buf .entry)) (now (buf .exit)) w ⌝ }
+    ensures { λ w. ⌜ w .length ≤ 64 ⌝ }
 {
     let mut line = [0u8; REFUSAL_ROOM];
     let end = put_refused_line(&mut line, number);
@@ -115,6 +116,7 @@ fn write_refused(number: u64, buf: &mut [u8]) -> Written
 // The line of a load or score refusal, at a position of the whole stream.
 pub fn write_refused_at(number: u64, position: usize, buf: &mut [u8]) -> Written
     ensures { λ w. ⌜ WrittenAs (refused-at-line number position) (now (buf .entry)) (now (buf .exit)) w ⌝ }
+    ensures { λ w. ⌜ w .length ≤ 64 ⌝ }
 {
     let mut line = [0u8; REFUSAL_ROOM];
     let end = put_refused_at_line(&mut line, number, position as u64);
@@ -124,6 +126,7 @@ pub fn write_refused_at(number: u64, position: usize, buf: &mut [u8]) -> Written
 // The line of an answer, whatever numbers it holds.
 pub fn write_answer(answer: Answer, buf: &mut [u8]) -> Written
     ensures { λ w. ⌜ WrittenAs (answer-line (trimmed-answer answer)) (now (buf .entry)) (now (buf .exit)) w ⌝ }
+    ensures { λ w. ⌜ w .length ≤ 1024 ⌝ }
 {
     if answer.number != 0 {
         return write_refused(answer.number, buf);

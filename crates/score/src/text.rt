@@ -38,7 +38,7 @@ pub fn put_decimal(line: &mut [u8], at: usize, n: u64) -> usize
 }
 
 // How far a value lies from 0. The least one is not negated: the value above it is, and 1 added.
-fn magnitude(v: i64) -> u64
+pub fn magnitude(v: i64) -> u64
     ensures { λ r. ⌜ r ≡ natAbs v ⌝ }
 {
     if v < 0 {

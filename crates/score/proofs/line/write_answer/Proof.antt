@@ -14,6 +14,7 @@ use Rattle.machine.specs.Rehearse.{answer-line, line-feed, outputs-text}
 use Rattle.score.specs.Put.{Put, numbers-text}
 use Rattle.score.proofs.Pieces.{put-nothing, put-then, put-as}
 use Rattle.score.proofs.Outputs.{outputs-more, take-most, refused-answer, committed-answer}
+use Rattle.score.proofs.Bounds.{bounded}
 use Rattle.score.proofs.line.write_answer.Statement.{statement}
 use Rattle.score.proofs.line.write_answer.Tie as tie
 
@@ -50,8 +51,10 @@ same-length c = search needs
 returns : tie.Need-returns Inv-loop μ-loop
 returns c =
     let written = c .before .before in
-    let test = written .before .before in
-    rw (refused-answer (test .before .before .before .args .answer) (test .if1 .taken)) (written .write-refused .ensures)
+    let test = written .before .before in (
+      rw (refused-answer (test .before .before .before .args .answer) (test .if1 .taken)) (written .write-refused .ensures .0),
+      omega (arith, written .write-refused .ensures .1),
+    )
 
 slice-aggregate-put-numbers : tie.Need-slice-aggregate-put-numbers Inv-loop μ-loop
 slice-aggregate-put-numbers c = refl
@@ -123,7 +126,7 @@ returns-2 c =
     let count : loop .loop .i ≡ min (start .args .answer .model .count) 32 = omega arith in
     rw (← line-built (start .args .answer) (test .if1 .left) (parts-room start) count
     (begun .put-numbers .ensures) (loop .loop .inv .2) (ended .put-byte .ensures))
-    (written .write-text .ensures)
+    (bounded 1024 (written .write-text .ensures) (simp length-take (omega arith)))
 
 pub write-answer-spec : {M : Type 1} → statement M
 write-answer-spec =

@@ -2,6 +2,7 @@
 use native.Mathlib.Omega.{arith}
 use lib.ListN.{length-take}
 use borrow.Author.Needs.{needs}
+use Rattle.score.proofs.Bounds.{bounded}
 use Rattle.score.proofs.line.write_refused.Statement.{statement}
 use Rattle.score.proofs.line.write_refused.Tie as tie
 
@@ -27,7 +28,7 @@ returns : tie.Need-returns
 returns c =
     let written = c .before .before in
     let put = written .before .before .before .before in
-    rw (← put .put-refused-line .ensures .line) (written .write-text .ensures)
+    rw (← put .put-refused-line .ensures .line) (bounded 64 (written .write-text .ensures) (simp length-take (omega arith)))
 
 pub write-refused-spec : {M : Type 1} → statement M
 write-refused-spec =

@@ -1,0 +1,30 @@
+-- What playing a part of a score leaves: the lines of `Rehearse.antt`, of which some are in a buffer and the rest are still to come. Assumes nothing.
+use Prim.Native.Nat.{ℕ, suc, _≤_, _<_}
+use mathlib.Core.Path.{_≡_}
+use mathlib.Core.Bool.{false, cond}
+use mathlib.Core.List.{List, [], _++_}
+use lib.ListN.{length, take}
+use Rattle.machine.specs.declared.model.Model.{Model}
+use Rattle.machine.specs.Model.{trimmed}
+use Rattle.machine.specs.Rehearse.{lines-from}
+use Rattle.rehearse.specs.declared.play.Played.{Played}
+
+-- all lines of a score from a position of the stream on, with as many turns as `loaded-lines` gives
+unfoldable pub lines-at : List ℕ → ℕ → Model → List ℕ
+lines-at bs at m = lines-from (suc (length bs)) bs at (trimmed m)
+
+-- the lines still to come where a score was played so far
+unfoldable pub to-come : List ℕ → Played → List ℕ
+to-come bs r = cond (r .ended) [] (lines-at bs (r .at) (r .model))
+
+-- One score command was played: the buffer's first bytes and all lines from there on are the same text as before. Where the score did not end,
+-- the next command lies later, and the one played lay within the stream.
+pub record PlayedOne (bs : List ℕ) (at : ℕ) (m : Model) (before : List ℕ) (used : ℕ) (after : List ℕ) (r : Played) : Type 0 where
+  pub lines : take used before ++ lines-at bs at m ≡ take (r .used) after ++ to-come bs r
+  pub room : r .used ≤ length after
+  pub later : r .ended ≡ false → (at < r .at) × (at < length bs)
+
+-- Some score commands were played: all lines from a position on are those in the buffer and those still to come.
+pub record PlayedSome (bs : List ℕ) (at : ℕ) (m : Model) (buffer : List ℕ) (r : Played) : Type 0 where
+  pub lines : lines-at bs at m ≡ take (r .used) buffer ++ to-come bs r
+  pub room : r .used ≤ length buffer

@@ -1,0 +1,59 @@
+// The program `rehearse`: loads the table that its standard input holds and plays the score behind it. It
+// prints a line for each score command, and stops at a bad byte.
+use crate::play::play_some;
+use loading::load;
+use machine::model::Model;
+use score::line::write_refused_at;
+
+mod play;
+
+// How many score commands the bytes that are read may hold, and more.
+const MOST: usize = 65536;
+
+// The line of a refused load.
+fn print_refused(number: u64, position: usize) {
+    let mut line = [0u8; 64];
+    let w = write_refused_at(number, position, &mut line);
+    let n = w.length;
+    io::write_all(1, &line[..n]);
+}
+
+// The lines of a score from `position` on, as many at a time as the buffer has room for. A write that fails
+// ends it.
+fn print_score(stream: &[u8], position: usize, model: Model) {
+    let mut lines = io::large_buffer();
+    let mut at = position;
+    let mut m = model;
+    let mut left = MOST;
+    while left > 0 {
+        let played = play_some(stream, at, m, &mut lines);
+        let used = played.used;
+        if !io::write_all(1, &lines[..used]) {
+            return;
+        }
+        if played.ended {
+            return;
+        }
+        at = played.at;
+        let next = played.model;
+        m = next;
+        left -= 1;
+    }
+}
+
+// What is printed for a stream.
+fn rehearse(stream: &[u8]) {
+    let loaded = load(stream);
+    if loaded.number != 0 {
+        print_refused(loaded.number, loaded.position);
+        return;
+    }
+    let model = loaded.model;
+    print_score(stream, loaded.position, model);
+}
+
+fn main() {
+    let mut input = io::large_buffer();
+    let n = io::read_full(0, &mut input);
+    rehearse(&input[..n]);
+}

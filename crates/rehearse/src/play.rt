@@ -1,0 +1,105 @@
+// Playing a score: its commands in turn, each with its line, as many as a buffer has room for.
+use machine::model::Answer;
+use machine::model::Model;
+use machine::model::Score;
+use master::advance;
+use score::command::score_at;
+use score::line::write_answer;
+use score::line::write_refused_at;
+ghost use Prim.Native.Nat.{_+_, _≤_};
+ghost use lib.ListN.{length};
+ghost use Rattle.machine.specs.Model.{trimmed-answer};
+ghost use Rattle.machine.specs.Rehearse.{answer-line, refused-at-line};
+ghost use Rattle.score.specs.Put.{Put};
+ghost use Rattle.rehearse.specs.Playing.{PlayedOne, PlayedSome};
+
+// How many bytes every line fits.
+const LINE: usize = 1024;
+
+// How far a score was played: whether it ended, the next command's position, how many bytes the lines take, and
+// the model.
+pub struct Played {
+    pub ended: bool,
+    pub at: usize,
+    pub used: usize,
+    pub model: Model,
+}
+
+// The line of a score refusal, behind the first `used` bytes.
+fn put_refused_at(number: u64, position: usize, lines: &mut [u8], used: usize) -> usize
+    requires { ⌜ used + 1024 ≤ length (now lines) ⌝ }
+    ensures { λ r. ⌜ Put 1024 (refused-at-line number position) used (now (lines .entry)) (now (lines .exit)) r ⌝ }
+{
+    let w = write_refused_at(number, position, &mut lines[used..]);
+    used + w.length
+}
+
+// The line of an answer, behind the first `used` bytes.
+fn put_answer(answer: Answer, lines: &mut [u8], used: usize) -> usize
+    requires { ⌜ used + 1024 ≤ length (now lines) ⌝ }
+    ensures { λ r. ⌜ Put 1024 (answer-line (trimmed-answer answer)) used (now (lines .entry)) (now (lines .exit)) r ⌝ }
+{
+    let w = write_answer(answer, &mut lines[used..]);
+    used + w.length
+}
+
+// One score command, with its line behind the first `used` bytes.
+fn play_one(stream: &[u8], at: usize, model: Model, lines: &mut [u8], used: usize) -> Played
+    requires { ⌜ used + 1024 ≤ length (now lines) ⌝ }
+    ensures { λ r. ⌜ PlayedOne (now (stream .entry)) at model (now (lines .entry)) used (now (lines .exit)) r ⌝ }
+{
+    let s = score_at(stream, at);
+    match s {
+        Score::End => Played {
+            ended: true,
+            at: at,
+            used: used,
+            model: model,
+        },
+        Score::Wanted(wanted, next) => {
+            let answer = advance(model, wanted);
+            let end = put_answer(answer, lines, used);
+            let after = answer.model;
+            Played {
+                ended: false,
+                at: next,
+                used: end,
+                model: after,
+            }
+        }
+        Score::Refused(number, position) => {
+            let end = put_refused_at(number, position, lines, used);
+            Played {
+                ended: true,
+                at: at,
+                used: end,
+                model: model,
+            }
+        }
+    }
+}
+
+// The score commands from `from` on, as long as there is room for another line.
+pub fn play_some(stream: &[u8], from: usize, model: Model, lines: &mut [u8]) -> Played
+    ensures { λ r. ⌜ PlayedSome (now (stream .entry)) from model (now (lines .exit)) r ⌝ }
+{
+    let mut at = from;
+    let mut used: usize = 0;
+    let mut now = model;
+    while lines.len() - used >= LINE {
+        let played = play_one(stream, at, now, lines, used);
+        if played.ended {
+            return played;
+        }
+        at = played.at;
+        used = played.used;
+        let next = played.model;
+        now = next;
+    }
+    Played {
+        ended: false,
+        at: at,
+        used: used,
+        model: now,
+    }
+}
