@@ -196,9 +196,9 @@ fn output(
         Kind::Square { a, b, p } => {
             // At microstep 0 it still shows what it showed before the tick.
             let t = if to.n == 0 { to.t.saturating_sub(1) } else { to.t };
-            Some(if t / (u64::from(p) * part.ratio) % 2 == 0 { a } else { b })
+            Some(if (t / (u64::from(p) * part.ratio)).is_multiple_of(2) { a } else { b })
         }
-        Kind::Pulse { a, p } => (to.n == 1 && to.t > 0 && to.t % (u64::from(p) * part.ratio) == 0).then_some(a),
+        Kind::Pulse { a, p } => (to.n == 1 && to.t > 0 && to.t.is_multiple_of(u64::from(p) * part.ratio)).then_some(a),
         Kind::Delay if to.n > 0 => before(),
         Kind::Delay => None,
         Kind::Integrator { .. } | Kind::Drive { .. } => Some(held()),

@@ -133,7 +133,7 @@ impl Kind {
         let spans = if let Kind::Drive { spans, .. } = self { spans.as_slice() } else { &[] };
         is_value(self.a())
             && is_value(b)
-            && self.p().map_or(true, is_count)
+            && self.p().is_none_or(is_count)
             && spans.len() <= MOST_SPANS
             && spans.iter().all(|&span| is_count(span))
             && spans.windows(2).all(|pair| pair[0] < pair[1])
@@ -145,7 +145,7 @@ pub fn is_value(x: i32) -> bool {
 }
 
 fn is_signal(x: Signal) -> bool {
-    x.map_or(true, is_value)
+    x.is_none_or(is_value)
 }
 
 /// The range of p and of a span.
@@ -201,7 +201,7 @@ impl Part {
 
     fn is_sound(&self, parts: usize, magnitude: u8, t: u64) -> bool {
         self.kind.in_range()
-            && self.preference.map_or(true, |own| own <= LARGEST_MAGNITUDE)
+            && self.preference.is_none_or(|own| own <= LARGEST_MAGNITUDE)
             && self.inputs.iter().flatten().all(|&source| source < parts)
             && self.inputs[self.kind.ports()..].iter().all(Option::is_none)
             && self.ratio == ratio(magnitude, self.preference)

@@ -1,0 +1,215 @@
+//! Compares another program with the library, byte by byte, on named cases and on random ones with a purpose.
+//!
+//!     differ PROGRAM [--cases N] [--seed S] [--only NUMBER]
+//!
+//! Case NUMBER of seed S is the same everywhere. What differs is printed with its seed, number and bytes. The status is
+//! 0 only if nothing differs and the cases reached all they should.
+
+mod damage;
+mod draft;
+mod generate;
+mod named;
+mod program;
+mod random;
+mod seen;
+
+use program::Program;
+use random::Random;
+use seen::Seen;
+use std::process::ExitCode;
+use std::sync::atomic::{AtomicBool, AtomicU64, Ordering};
+use std::sync::Mutex;
+use std::time::{Duration, Instant};
+
+const THREADS: usize = 2;
+
+struct Arguments {
+    program: String,
+    cases: u64,
+    seed: u64,
+    only: Option<u64>,
+}
+
+fn arguments() -> Option<Arguments> {
+    let mut given = std::env::args().skip(1);
+    let mut arguments = Arguments { program: given.next()?, cases: 20_000, seed: 1, only: None };
+    while let Some(name) = given.next() {
+        let number = given.next()?.parse().ok()?;
+        match name.as_str() {
+            "--cases" => arguments.cases = number,
+            "--seed" => arguments.seed = number,
+            "--only" => arguments.only = Some(number),
+            _ => return None,
+        }
+    }
+    Some(arguments)
+}
+
+fn main() -> ExitCode {
+    let Some(arguments) = arguments() else {
+        eprintln!("usage: differ PROGRAM [--cases N] [--seed S] [--only NUMBER]");
+        return ExitCode::from(2);
+    };
+    match compare(&arguments) {
+        Ok(figures) => {
+            println!("{figures}");
+            ExitCode::SUCCESS
+        }
+        Err(what) => {
+            println!("{what}");
+            ExitCode::FAILURE
+        }
+    }
+}
+
+/// One line of figures, or what went wrong.
+fn compare(arguments: &Arguments) -> Result<String, String> {
+    let program = Program::new(&arguments.program);
+    if let Some(number) = arguments.only {
+        let stream = stream_of(arguments.seed, number);
+        return match difference(&program, number, &stream, &expected(&stream)) {
+            None => Ok(format!("case {number} of seed {}: nothing differs\n{}", arguments.seed, hexadecimal(&stream))),
+            Some(what) => Err(report(arguments.seed, number, &stream, &what)),
+        };
+    }
+    let named = named::named();
+    for (ticket, case) in named.iter().enumerate() {
+        if case.wrong_reading == Some(&case.expected) {
+            return Err(format!("{}: the case does not tell the readings apart", case.name));
+        }
+        let own = expected(&case.stream);
+        if own != case.expected.as_bytes() {
+            return Err(format!("{}: the library differs from the document", case.name));
+        }
+        if let Some(what) = difference(&program, ticket as u64, &case.stream, &own) {
+            let wrong = if what.got.is_some() && what.got.as_deref() == case.wrong_reading.map(str::as_bytes) {
+                "; this is the wrong reading"
+            } else {
+                ""
+            };
+            return Err(format!("named case '{}': {}{wrong}\n{}", case.name, what.text, hexadecimal(&case.stream)));
+        }
+    }
+
+    let start = Instant::now();
+    let seen = random_cases(arguments, &program)?;
+    let seconds = start.elapsed().as_secs_f64();
+    let missing = seen.missing();
+    if !missing.is_empty() {
+        return Err(format!(
+            "{} cases of seed {} reached too little: {}",
+            arguments.cases,
+            arguments.seed,
+            missing.join("; ")
+        ));
+    }
+    Ok(format!(
+        "differ: {} named and {} random cases of seed {} in {seconds:.1} s ({:.0} a second), nothing differs: {}",
+        named.len(),
+        arguments.cases,
+        arguments.seed,
+        arguments.cases as f64 / seconds,
+        seen.figures()
+    ))
+}
+
+struct Failure {
+    number: u64,
+    text: String,
+}
+
+fn random_cases(arguments: &Arguments, program: &Program) -> Result<Seen, String> {
+    let next = AtomicU64::new(0);
+    let stop = AtomicBool::new(false);
+    let ended = AtomicBool::new(false);
+    let failures: Mutex<Vec<Failure>> = Mutex::new(Vec::new());
+    let total = Mutex::new(Seen::default());
+    let work = || {
+        let mut seen = Seen::default();
+        // Once something differs no new cases are begun, but all earlier ones are ended: the first is found for sure.
+        while !stop.load(Ordering::SeqCst) {
+            let number = next.fetch_add(1, Ordering::SeqCst);
+            if number >= arguments.cases {
+                break;
+            }
+            let stream = stream_of(arguments.seed, number);
+            let output = expected(&stream);
+            if let Some(what) = difference(program, number, &stream, &output) {
+                let failure = Failure { number, text: report(arguments.seed, number, &stream, &what) };
+                failures.lock().unwrap().push(failure);
+                stop.store(true, Ordering::SeqCst);
+            }
+            seen.count(&stream, &output);
+        }
+        total.lock().unwrap().add(&seen);
+    };
+    let fell = std::thread::scope(|scope| {
+        let watch = scope.spawn(|| {
+            while !ended.load(Ordering::SeqCst) {
+                program.end_hanging();
+                std::thread::park_timeout(Duration::from_secs(1));
+            }
+        });
+        let workers: Vec<_> = (0..THREADS).map(|_| scope.spawn(work)).collect();
+        let fell = workers.into_iter().map(|worker| worker.join()).filter(Result::is_err).count();
+        ended.store(true, Ordering::SeqCst);
+        watch.thread().unpark();
+        fell
+    });
+    let mut failures = failures.into_inner().unwrap();
+    failures.sort_by_key(|failure| failure.number);
+    if !failures.is_empty() {
+        return Err(failures.into_iter().map(|failure| failure.text).collect::<Vec<_>>().join("\n"));
+    }
+    let seen = total.into_inner().unwrap();
+    if fell > 0 || seen.cases != arguments.cases {
+        return Err(format!("only {} of {} cases were tried: {fell} threads fell", seen.cases, arguments.cases));
+    }
+    Ok(seen)
+}
+
+fn stream_of(seed: u64, number: u64) -> Vec<u8> {
+    generate::case(&mut Random::of_case(seed, number))
+}
+
+/// What the library prints.
+fn expected(stream: &[u8]) -> Vec<u8> {
+    let mut output = Vec::new();
+    // A vector takes every write.
+    let _ = second::rehearse(stream, &mut output);
+    output
+}
+
+struct Difference {
+    text: String,
+    got: Option<Vec<u8>>,
+}
+
+fn difference(program: &Program, ticket: u64, stream: &[u8], expected: &[u8]) -> Option<Difference> {
+    match program.run(ticket, stream) {
+        Ok(got) if got == expected => None,
+        Ok(got) => Some(Difference { text: first_line_that_differs(expected, &got), got: Some(got) }),
+        Err(text) => Some(Difference { text, got: None }),
+    }
+}
+
+fn first_line_that_differs(expected: &[u8], got: &[u8]) -> String {
+    let lines = |bytes: &[u8]| -> Vec<String> {
+        bytes
+            .split_inclusive(|&byte| byte == b'\n')
+            .map(|line| format!("{:?}", String::from_utf8_lossy(line)))
+            .collect()
+    };
+    let (expected, got) = (lines(expected), lines(got));
+    let at = expected.iter().zip(&got).take_while(|(one, other)| one == other).count();
+    let line = |lines: &[String]| lines.get(at).cloned().unwrap_or("nothing".to_string());
+    format!("line {} is {} instead of {}", at + 1, line(&got), line(&expected))
+}
+
+fn report(seed: u64, number: u64, stream: &[u8], what: &Difference) -> String {
+    format!("case {number} of seed {seed} differs: {}\n{}", what.text, hexadecimal(stream))
+}
+
+fn hexadecimal(stream: &[u8]) -> String {
+    stream.iter().map(|byte| format!("{byte:02x}")).collect()
+}
