@@ -3,6 +3,7 @@
 use crate::draft::*;
 use crate::generate::{mixed, score};
 use crate::random::Random;
+use crate::swept::good_operands;
 
 /// A good table and score with one to three damages.
 pub fn damaged(draft: &Draft, random: &mut Random) -> Vec<u8> {
@@ -67,14 +68,7 @@ fn edge(random: &mut Random) -> i64 {
 
 fn any_row(random: &mut Random) -> Row {
     let kind = random.pick(&[0, 1, 2, 3, 4, 5, 6, 7, 8, 9, 10, 11, 11, 11, 11, 12, 255]);
-    let named: [bool; 3] = match kind {
-        CONSTANT | GAIN | INTEGRATOR | RESET | DRIVE => [true, false, false],
-        SQUARE => [true, true, true],
-        PULSE => [true, false, true],
-        DETECTOR => [false, false, true],
-        _ => [false; 3],
-    };
-    let mut operands = named.map(|named| if named { random.between(1, 9) } else { 0 });
+    let mut operands = good_operands(kind);
     if random.once_in(2) {
         operands[random.below(3)] = edge(random);
     }
@@ -132,7 +126,7 @@ pub fn at_fault(random: &mut Random) -> Vec<u8> {
         |spans: u32| Draft { rows: vec![], ..Draft::default() }.with_drive((1..=spans).map(|s| 10 * s).collect());
     let parts = draft.rows.len();
     let mut commands;
-    match random.below(14) {
+    match random.below(17) {
         // A part too many, with or without another fault.
         0 | 1 => {
             while !draft.is_full(1) {
@@ -231,6 +225,13 @@ pub fn at_fault(random: &mut Random) -> Vec<u8> {
             draft.renumber(random);
             commands = draft.commands(random);
             commands.extend(score(&draft, 8, random).chunks(5).map(<[u8]>::to_vec));
+        }
+        // Numbers at the edges of their ranges in an otherwise good table.
+        13..=15 => {
+            commands = vec![vec![1, random.pick(&[0, 0, 1, 15, 16, 0xFF])]];
+            commands.extend((0..1 + random.below(3)).map(|_| any_row(random).bytes()));
+            commands.push(vec![5]);
+            commands.extend(score(&draft, 3, random).chunks(5).map(<[u8]>::to_vec));
         }
         // A score that goes wrong.
         _ => {

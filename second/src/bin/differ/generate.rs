@@ -9,17 +9,17 @@ const BILLION: u64 = 1_000_000_000;
 /// The stream of one case.
 pub fn case(random: &mut Random) -> Vec<u8> {
     match random.below(200) {
-        0..=99 => stream(&mixed(random), random),
-        100..=115 => stream(&ladder(random), random),
-        116..=121 => stream(&sharp(random), random),
-        122 | 123 => stream(&steep(random), random),
-        124..=127 => restless(random),
-        128 if random.once_in(8) => overlong(random),
-        128..=163 => {
+        0..=103 => stream(&mixed(random), random),
+        104..=113 => stream(&ladder(random), random),
+        114..=119 => stream(&sharp(random), random),
+        120..=122 => stream(&steep(random), random),
+        123..=127 => restless(random),
+        128 if random.once_in(6) => overlong(random),
+        128..=161 => {
             let draft = if random.once_in(3) { ladder(random) } else { mixed(random) };
             damage::damaged(&draft, random)
         }
-        164..=187 => damage::at_fault(random),
+        162..=187 => damage::at_fault(random),
         188..=195 => damage::any_commands(random),
         _ => damage::noise(random),
     }
@@ -204,7 +204,7 @@ fn group(draft: &mut Draft, scale: Scale, random: &mut Random) {
     }
     let small =
         |random: &mut Random| if random.once_in(2) { random.between(1, 4) as u32 } else { scale.period(random) };
-    match random.below(8) {
+    match random.below(9) {
         // A source into an integrator into a detector, and what follows from its mark.
         0..=2 => {
             let level = integrator(draft, scale, random);
@@ -285,6 +285,23 @@ fn group(draft: &mut Draft, scale: Scale, random: &mut Random) {
             let level = draft.add(RESET, scale.positive(random), 0, 0);
             draft.wire(from, level, 0);
             draft.wire(detector, level, 1);
+        }
+        // A detector that reads something at times only, now on one side and now on the other.
+        7 => {
+            let kind = random.pick(&[SQUARE, SQUARE, INTEGRATOR]);
+            let level = any_part(draft, kind, scale, random);
+            let pulse = any_part(draft, PULSE, scale, random);
+            if kind == SQUARE {
+                (draft.rows[level].a, draft.rows[level].b) = (scale.positive(random), -scale.positive(random));
+            } else {
+                draft.wire(pulse, level, 0);
+            }
+            let sampler = draft.add(SAMPLER, 0, 0, 0);
+            draft.wire(level, sampler, 0);
+            draft.wire(pulse, sampler, 1);
+            let tolerance = small(random);
+            let detector = draft.add(DETECTOR, 0, 0, tolerance);
+            draft.wire(sampler, detector, 0);
         }
         // Drives behind one source.
         _ => {
@@ -408,44 +425,96 @@ fn steep(random: &mut Random) -> Draft {
     draft
 }
 
-/// A delay that stays due up to the last microstep, reached by a score of more than a thousand commands.
+/// Parts that stay due up to the last microstep or nearly so, and a score of more than a thousand commands.
 fn restless(random: &mut Random) -> Vec<u8> {
     let mut draft = Draft::default();
     let scale = Scale::any(random);
-    let from = match random.below(4) {
-        0 => draft.add(CONSTANT, scale.value(random), 0, 0),
-        1 => any_part(&mut draft, SQUARE, scale, random),
-        2 => integrator(&mut draft, scale, random),
-        // An event that a delay feeds back to itself.
-        _ => any_part(&mut draft, PULSE, scale, random),
-    };
-    let adder = draft.add(ADDER, 0, 0, 0);
-    let delay = draft.add(DELAY, 0, 0, 0);
-    draft.wire(from, adder, 0);
-    draft.wire(delay, adder, 1);
-    draft.wire(adder, delay, 0);
     if random.once_in(2) {
-        let detector = draft.add(DETECTOR, 0, 0, 1);
-        let gain = draft.add(GAIN, random.pick(&[-1, -2, 3]), 0, 0);
-        draft.wire(delay, gain, 0);
-        draft.wire(gain, detector, 0);
+        microsteps(&mut draft, random);
+    } else {
+        let from = match random.below(4) {
+            0 => draft.add(CONSTANT, scale.value(random), 0, 0),
+            1 => any_part(&mut draft, SQUARE, scale, random),
+            2 => integrator(&mut draft, scale, random),
+            // An event that a delay feeds back to itself.
+            _ => any_part(&mut draft, PULSE, scale, random),
+        };
+        let adder = draft.add(ADDER, 0, 0, 0);
+        let delay = draft.add(DELAY, 0, 0, 0);
+        draft.wire(from, adder, 0);
+        draft.wire(delay, adder, 1);
+        draft.wire(adder, delay, 0);
+        if random.once_in(2) {
+            let detector = draft.add(DETECTOR, 0, 0, 1);
+            let gain = draft.add(GAIN, random.pick(&[-1, -2, 3]), 0, 0);
+            draft.wire(delay, gain, 0);
+            draft.wire(gain, detector, 0);
+        }
     }
     if random.once_in(2) {
         draft.renumber(random);
     }
     let mut bytes = draft.commands(random).concat();
-    bytes.extend(score(&draft, 1030 + random.below(100), random));
+    let commands = 1060 + random.below(100);
+    bytes.extend(score(&draft, commands, random));
     bytes
+}
+
+/// A detector that its own marks switch to and fro at every microstep, while a number counts them, until that number
+/// stops the switching: at the last microstep or close to it. There a drive may then accept nothing.
+fn microsteps(draft: &mut Draft, random: &mut Random) {
+    let detector = draft.add(DETECTOR, 0, 0, 1);
+    let shown = draft.add(HOLD, 0, 0, 0);
+    draft.wire(detector, shown, 0);
+    let swing = random.between(990, 1001) as i32;
+    let push = draft.add(GAIN, -swing, 0, 0);
+    draft.wire(shown, push, 0);
+    // The count: one more than it was at the point before, whenever a mark was shown there.
+    let count = draft.add(RESET, 0, 0, 0);
+    let counted = draft.add(SAMPLER, 0, 0, 0);
+    draft.wire(count, counted, 0);
+    draft.wire(detector, counted, 1);
+    let before = draft.add(DELAY, 0, 0, 0);
+    draft.wire(counted, before, 0);
+    let one = draft.add(CONSTANT, 1, 0, 0);
+    let more = draft.add(SAMPLER, 0, 0, 0);
+    draft.wire(one, more, 0);
+    draft.wire(before, more, 1);
+    let sum = draft.add(ADDER, 0, 0, 0);
+    draft.wire(before, sum, 0);
+    draft.wire(more, sum, 1);
+    draft.wire(sum, count, 1);
+    // What the detector sees; the square gives the first push.
+    let period = random.between(2, 6) as u32;
+    let first = random.pick(&[1, -1, -1]);
+    let start = draft.add(SQUARE, first, -first, period);
+    let bias = draft.add(ADDER, 0, 0, 0);
+    draft.wire(start, bias, 0);
+    draft.wire(count, bias, 1);
+    let level = draft.add(ADDER, 0, 0, 0);
+    draft.wire(bias, level, 0);
+    draft.wire(push, level, 1);
+    draft.wire(level, detector, 0);
+    if !random.once_in(3) {
+        draft.add_drive(0, vec![period, period + 3]);
+    }
 }
 
 /// More bytes than the program reads, cut within a command or between two.
 fn overlong(random: &mut Random) -> Vec<u8> {
     let mut draft = Draft::default();
-    for _ in 0..1 + random.below(3) {
-        any_part(&mut draft, random.pick(&[CONSTANT, SQUARE, DRIVE, PULSE]), Scale { value: 9, period: 12 }, random);
+    for _ in 0..1 + random.below(4) {
+        any_part(
+            &mut draft,
+            random.pick(&[CONSTANT, SQUARE, DRIVE, INTEGRATOR]),
+            Scale { value: 9, period: 12 },
+            random,
+        );
     }
+    // All other commands of a table have a length of 5 × k, or there are three bytes of them: wires move the score.
+    join(&mut draft, random);
     let mut bytes = draft.commands(random).concat();
     bytes.extend(score(&draft, 13_200, random));
-    bytes.truncate(65_530 + random.below(20));
+    bytes.truncate(65_534 + random.below(10));
     bytes
 }

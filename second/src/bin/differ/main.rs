@@ -1,8 +1,8 @@
 //! Compares another program with the library, byte by byte, on named cases and on random ones with a purpose.
 //!
-//!     differ PROGRAM [--cases N] [--seed S] [--only NUMBER]
+//!     differ PROGRAM [--cases N] [--seed S] [--only NUMBER] [--unnamed 1]
 //!
-//! Case NUMBER of seed S is the same everywhere. What differs is printed with its seed, number and bytes. The status is
+//! Case NUMBER of seed S is the same everywhere; --unnamed 1 leaves the named and the swept ones out. What differs is printed with its seed, number and bytes. The status is
 //! 0 only if nothing differs and the cases reached all they should.
 
 mod damage;
@@ -12,6 +12,7 @@ mod named;
 mod program;
 mod random;
 mod seen;
+mod swept;
 
 use program::Program;
 use random::Random;
@@ -28,17 +29,19 @@ struct Arguments {
     cases: u64,
     seed: u64,
     only: Option<u64>,
+    unnamed: bool,
 }
 
 fn arguments() -> Option<Arguments> {
     let mut given = std::env::args().skip(1);
-    let mut arguments = Arguments { program: given.next()?, cases: 20_000, seed: 1, only: None };
+    let mut arguments = Arguments { program: given.next()?, cases: 20_000, seed: 1, only: None, unnamed: false };
     while let Some(name) = given.next() {
         let number = given.next()?.parse().ok()?;
         match name.as_str() {
             "--cases" => arguments.cases = number,
             "--seed" => arguments.seed = number,
             "--only" => arguments.only = Some(number),
+            "--unnamed" => arguments.unnamed = number == 1,
             _ => return None,
         }
     }
@@ -47,7 +50,7 @@ fn arguments() -> Option<Arguments> {
 
 fn main() -> ExitCode {
     let Some(arguments) = arguments() else {
-        eprintln!("usage: differ PROGRAM [--cases N] [--seed S] [--only NUMBER]");
+        eprintln!("usage: differ PROGRAM [--cases N] [--seed S] [--only NUMBER] [--unnamed 1]");
         return ExitCode::from(2);
     };
     match compare(&arguments) {
@@ -68,11 +71,11 @@ fn compare(arguments: &Arguments) -> Result<String, String> {
     if let Some(number) = arguments.only {
         let stream = stream_of(arguments.seed, number);
         return match difference(&program, number, &stream, &expected(&stream)) {
-            None => Ok(format!("case {number} of seed {}: nothing differs\n{}", arguments.seed, hexadecimal(&stream))),
-            Some(what) => Err(report(arguments.seed, number, &stream, &what)),
+            None => Ok(format!("{}: nothing differs\n{}", name_of(arguments.seed, number), hexadecimal(&stream))),
+            Some(what) => Err(report(&name_of(arguments.seed, number), &stream, &what)),
         };
     }
-    let named = named::named();
+    let (named, swept) = if arguments.unnamed { (vec![], vec![]) } else { (named::named(), swept::swept()) };
     for (ticket, case) in named.iter().enumerate() {
         if case.wrong_reading == Some(&case.expected) {
             return Err(format!("{}: the case does not tell the readings apart", case.name));
@@ -92,7 +95,7 @@ fn compare(arguments: &Arguments) -> Result<String, String> {
     }
 
     let start = Instant::now();
-    let seen = random_cases(arguments, &program)?;
+    let seen = many_cases(arguments, &program, &swept)?;
     let seconds = start.elapsed().as_secs_f64();
     let missing = seen.missing();
     if !missing.is_empty() {
@@ -104,11 +107,12 @@ fn compare(arguments: &Arguments) -> Result<String, String> {
         ));
     }
     Ok(format!(
-        "differ: {} named and {} random cases of seed {} in {seconds:.1} s ({:.0} a second), nothing differs: {}",
+        "differ: {} named, {} swept and {} random cases of seed {} in {seconds:.1} s ({:.0} a second), nothing differs: {}",
         named.len(),
+        swept.len(),
         arguments.cases,
         arguments.seed,
-        arguments.cases as f64 / seconds,
+        seen.cases as f64 / seconds,
         seen.figures()
     ))
 }
@@ -118,7 +122,9 @@ struct Failure {
     text: String,
 }
 
-fn random_cases(arguments: &Arguments, program: &Program) -> Result<Seen, String> {
+/// The swept cases, then the random ones.
+fn many_cases(arguments: &Arguments, program: &Program, swept: &[Vec<u8>]) -> Result<Seen, String> {
+    let cases = swept.len() as u64 + arguments.cases;
     let next = AtomicU64::new(0);
     let stop = AtomicBool::new(false);
     let ended = AtomicBool::new(false);
@@ -129,13 +135,19 @@ fn random_cases(arguments: &Arguments, program: &Program) -> Result<Seen, String
         // Once something differs no new cases are begun, but all earlier ones are ended: the first is found for sure.
         while !stop.load(Ordering::SeqCst) {
             let number = next.fetch_add(1, Ordering::SeqCst);
-            if number >= arguments.cases {
+            if number >= cases {
                 break;
             }
-            let stream = stream_of(arguments.seed, number);
+            let (name, stream) = match swept.get(number as usize) {
+                Some(stream) => (format!("swept case {number}"), stream.clone()),
+                None => {
+                    let number = number - swept.len() as u64;
+                    (name_of(arguments.seed, number), stream_of(arguments.seed, number))
+                }
+            };
             let output = expected(&stream);
             if let Some(what) = difference(program, number, &stream, &output) {
-                let failure = Failure { number, text: report(arguments.seed, number, &stream, &what) };
+                let failure = Failure { number, text: report(&name, &stream, &what) };
                 failures.lock().unwrap().push(failure);
                 stop.store(true, Ordering::SeqCst);
             }
@@ -162,8 +174,8 @@ fn random_cases(arguments: &Arguments, program: &Program) -> Result<Seen, String
         return Err(failures.into_iter().map(|failure| failure.text).collect::<Vec<_>>().join("\n"));
     }
     let seen = total.into_inner().unwrap();
-    if fell > 0 || seen.cases != arguments.cases {
-        return Err(format!("only {} of {} cases were tried: {fell} threads fell", seen.cases, arguments.cases));
+    if fell > 0 || seen.cases != cases {
+        return Err(format!("only {} of {cases} cases were tried: {fell} threads fell", seen.cases));
     }
     Ok(seen)
 }
@@ -206,8 +218,12 @@ fn first_line_that_differs(expected: &[u8], got: &[u8]) -> String {
     format!("line {} is {} instead of {}", at + 1, line(&got), line(&expected))
 }
 
-fn report(seed: u64, number: u64, stream: &[u8], what: &Difference) -> String {
-    format!("case {number} of seed {seed} differs: {}\n{}", what.text, hexadecimal(stream))
+fn name_of(seed: u64, number: u64) -> String {
+    format!("case {number} of seed {seed}")
+}
+
+fn report(name: &str, stream: &[u8], what: &Difference) -> String {
+    format!("{name} differs: {}\n{}", what.text, hexadecimal(stream))
 }
 
 fn hexadecimal(stream: &[u8]) -> String {
