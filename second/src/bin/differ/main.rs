@@ -20,7 +20,7 @@ use seen::Seen;
 use std::process::ExitCode;
 use std::sync::atomic::{AtomicBool, AtomicU64, Ordering};
 use std::sync::Mutex;
-use std::time::{Duration, Instant};
+use std::time::Instant;
 
 const THREADS: usize = 2;
 
@@ -67,7 +67,7 @@ fn main() -> ExitCode {
 
 /// One line of figures, or what went wrong.
 fn compare(arguments: &Arguments) -> Result<String, String> {
-    let program = Program::new(&arguments.program);
+    let program = Program::watched(&arguments.program);
     if let Some(number) = arguments.only {
         let stream = stream_of(arguments.seed, number);
         return match difference(&program, number, &stream, &expected(&stream)) {
@@ -127,7 +127,6 @@ fn many_cases(arguments: &Arguments, program: &Program, swept: &[Vec<u8>]) -> Re
     let cases = swept.len() as u64 + arguments.cases;
     let next = AtomicU64::new(0);
     let stop = AtomicBool::new(false);
-    let ended = AtomicBool::new(false);
     let failures: Mutex<Vec<Failure>> = Mutex::new(Vec::new());
     let total = Mutex::new(Seen::default());
     let work = || {
@@ -156,17 +155,8 @@ fn many_cases(arguments: &Arguments, program: &Program, swept: &[Vec<u8>]) -> Re
         total.lock().unwrap().add(&seen);
     };
     let fell = std::thread::scope(|scope| {
-        let watch = scope.spawn(|| {
-            while !ended.load(Ordering::SeqCst) {
-                program.end_hanging();
-                std::thread::park_timeout(Duration::from_secs(1));
-            }
-        });
         let workers: Vec<_> = (0..THREADS).map(|_| scope.spawn(work)).collect();
-        let fell = workers.into_iter().map(|worker| worker.join()).filter(Result::is_err).count();
-        ended.store(true, Ordering::SeqCst);
-        watch.thread().unpark();
-        fell
+        workers.into_iter().map(|worker| worker.join()).filter(Result::is_err).count()
     });
     let mut failures = failures.into_inner().unwrap();
     failures.sort_by_key(|failure| failure.number);

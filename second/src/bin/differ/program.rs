@@ -2,7 +2,8 @@
 
 use std::io::{Read, Write};
 use std::process::{Child, Command, ExitStatus, Stdio};
-use std::sync::{Mutex, MutexGuard};
+use std::sync::{Arc, Mutex, MutexGuard};
+use std::thread;
 use std::time::{Duration, Instant};
 
 /// A program that has not ended by then is taken to hang.
@@ -12,20 +13,27 @@ const PATIENCE: Duration = Duration::from_secs(30);
 const PIPE: usize = 4096;
 
 /// A program, and what runs of it now: at most one process for each thread that calls [`Program::run`].
-pub struct Program<'a> {
-    path: &'a str,
+pub struct Program {
+    path: String,
     running: Mutex<Vec<(Instant, u64, Child)>>,
 }
 
-impl<'a> Program<'a> {
-    pub fn new(path: &'a str) -> Program<'a> {
-        Program { path, running: Mutex::new(Vec::new()) }
+impl Program {
+    /// A program whose processes are ended where they hang.
+    pub fn watched(path: &str) -> Arc<Program> {
+        let program = Arc::new(Program { path: path.to_string(), running: Mutex::new(Vec::new()) });
+        let watched = Arc::clone(&program);
+        thread::spawn(move || loop {
+            watched.end_hanging();
+            thread::sleep(Duration::from_secs(1));
+        });
+        program
     }
 
     /// What the program prints for `stream`, or why there is nothing to compare. `ticket` differs for each run.
     pub fn run(&self, ticket: u64, stream: &[u8]) -> Result<Vec<u8>, String> {
         let spawned =
-            Command::new(self.path).stdin(Stdio::piped()).stdout(Stdio::piped()).stderr(Stdio::null()).spawn();
+            Command::new(&self.path).stdin(Stdio::piped()).stdout(Stdio::piped()).stderr(Stdio::null()).spawn();
         let mut child = spawned.map_err(|error| format!("{} does not start: {error}", self.path))?;
         let (Some(mut stdin), Some(mut stdout)) = (child.stdin.take(), child.stdout.take()) else {
             return Err("no pipes".to_string());
@@ -38,7 +46,7 @@ impl<'a> Program<'a> {
             drop(stdin);
             stdout.read_to_end(&mut output)
         } else {
-            std::thread::scope(|scope| {
+            thread::scope(|scope| {
                 scope.spawn(move || {
                     let _ = stdin.write_all(stream);
                 });
@@ -66,8 +74,7 @@ impl<'a> Program<'a> {
         child.wait().map_err(|error| error.to_string())
     }
 
-    /// Ends the processes that take too long; to be called now and then.
-    pub fn end_hanging(&self) {
+    fn end_hanging(&self) {
         for (since, _, child) in self.running().iter_mut() {
             if since.elapsed() > PATIENCE {
                 let _ = child.kill();
