@@ -1,0 +1,520 @@
+//! Random cases with a purpose: tables in which something happens, and scores that let it happen.
+
+use crate::damage;
+use crate::draft::*;
+use crate::random::Random;
+
+const BILLION: u64 = 1_000_000_000;
+
+/// The stream of one case.
+pub fn case(random: &mut Random) -> Vec<u8> {
+    match random.below(200) {
+        0..=103 => stream(&mixed(random), random),
+        104..=113 => stream(&ladder(random), random),
+        114..=119 => stream(&sharp(random), random),
+        120..=122 => stream(&steep(random), random),
+        123..=127 => restless(random),
+        128 if random.once_in(6) => overlong(random),
+        128..=161 => {
+            let draft = if random.once_in(3) { ladder(random) } else { mixed(random) };
+            damage::damaged(&draft, random)
+        }
+        162..=187 => damage::at_fault(random),
+        188..=195 => damage::any_commands(random),
+        _ => damage::noise(random),
+    }
+}
+
+/// A table's bytes and a score's.
+pub fn stream(draft: &Draft, random: &mut Random) -> Vec<u8> {
+    let mut bytes = draft.commands(random).concat();
+    let commands = match random.below(8) {
+        0 => random.below(8),
+        1 => 100 + random.below(300),
+        _ => 5 + random.below(70),
+    };
+    bytes.extend(score(draft, commands, random));
+    bytes
+}
+
+/// Wanted steps of the sizes that matter to the table's parts.
+pub fn score(draft: &Draft, commands: usize, random: &mut Random) -> Vec<u8> {
+    let mut telling = vec![1];
+    for (number, row) in draft.rows.iter().enumerate() {
+        let ratio = draft.ratio(number);
+        let counts = row.spans.iter().copied().chain([row.p, 1]).filter(|&count| count > 0);
+        telling.extend(counts.map(|count| u64::from(count).saturating_mul(ratio)).filter(|&w| w <= BILLION));
+    }
+    let largest = if random.once_in(4) { BILLION } else { random.pick(&telling) * 4 + 9 };
+    let steady = random.once_in(4).then(|| random.pick(&telling));
+    let mut bytes = Vec::with_capacity(5 * commands);
+    for _ in 0..commands {
+        let w = match random.below(64) {
+            0..=3 => random.pick(&[BILLION, BILLION - 1, 1, 2]),
+            4..=12 => random.between(1, 12) as u64,
+            13..=22 => random.of_any_size(largest.min(BILLION)),
+            23..=40 if steady.is_some() => steady.unwrap_or(1),
+            23..=30 => random.pick(&telling) + random.pick(&telling),
+            31..=40 => random.pick(&telling) * random.between(1, 5) as u64,
+            _ => (random.pick(&telling) + random.below(3) as u64).max(2) - 1,
+        };
+        let refused = random.once_in(64).then(|| random.pick(&[0, BILLION + 1, 0x8000_0000, 0xFFFF_FFFF]));
+        bytes.extend(wanted(refused.unwrap_or(w.min(BILLION)) as u32));
+    }
+    bytes
+}
+
+/// How large the numbers of a table are.
+#[derive(Clone, Copy)]
+struct Scale {
+    value: i64,
+    period: u64,
+}
+
+impl Scale {
+    fn any(random: &mut Random) -> Scale {
+        match random.below(8) {
+            0..=4 => Scale { value: 9, period: 12 },
+            5 => Scale { value: 100, period: 300 },
+            6 => Scale { value: 1_000_000, period: 100_000 },
+            _ => Scale { value: BILLION as i64, period: BILLION },
+        }
+    }
+
+    fn value(self, random: &mut Random) -> i32 {
+        random.between(-self.value, self.value) as i32
+    }
+
+    fn positive(self, random: &mut Random) -> i32 {
+        random.between(1, self.value) as i32
+    }
+
+    fn period(self, random: &mut Random) -> u32 {
+        random.of_any_size(self.period) as u32
+    }
+
+    fn spans(self, random: &mut Random) -> Vec<u32> {
+        let mut spans: Vec<u32> = (0..random.below(9)).map(|_| self.period(random)).collect();
+        spans.sort_unstable();
+        spans.dedup();
+        spans
+    }
+}
+
+/// Groups of parts that work together, some parts at random, and some wires at random.
+pub fn mixed(random: &mut Random) -> Draft {
+    let mut draft = Draft::default();
+    let scale = Scale::any(random);
+    for _ in 0..1 + random.below(4) {
+        group(&mut draft, scale, random);
+    }
+    let extra = [0, 0, 1, 3, 8, 24][random.below(6)];
+    for _ in 0..extra {
+        if !draft.is_full(1) {
+            let kind = random.below(KINDS) as u8;
+            any_part(&mut draft, kind, scale, random);
+        }
+    }
+    join(&mut draft, random);
+    prefer(&mut draft, random);
+    if !random.once_in(3) {
+        draft.renumber(random);
+    }
+    draft
+}
+
+/// Leaves ports open, or wires them to what is there: mostly backwards, so that few tables have a loop.
+fn join(draft: &mut Draft, random: &mut Random) {
+    let often = random.below(4);
+    let loops = random.once_in(8);
+    for (reader, port) in draft.open_ports() {
+        if often == 0 || random.once_in(often + 1) {
+            continue;
+        }
+        let direct =
+            !matches!((draft.rows[reader].kind, port), (DELAY | INTEGRATOR | DETECTOR | DRIVE, _) | (RESET, 0));
+        let source = random.below(if direct && !loops { reader.max(1) } else { draft.rows.len() });
+        // A delay that always reads something would not let time go on.
+        let steady = !matches!(draft.rows[source].kind, PULSE | DETECTOR | SAMPLER | DELAY);
+        if (direct && source == reader && !loops) || (draft.rows[reader].kind == DELAY && steady && !random.once_in(12))
+        {
+            continue;
+        }
+        draft.wire(source, reader, port);
+    }
+}
+
+/// Gives magnitudes to the table and to some of its parts.
+fn prefer(draft: &mut Draft, random: &mut Random) {
+    let widest = random.pick(&[0, 0, 0, 1, 2, 2, 3, 4, 6, 9, 15]);
+    let lowest = random.pick(&[0, 0, 0, 3]).min(15 - widest);
+    draft.magnitude = (lowest + random.below(widest + 1)) as u8;
+    let rare = 1 + random.below(5);
+    for row in &mut draft.rows {
+        if widest > 0 && !random.once_in(rare) || random.once_in(10) {
+            row.preference = (lowest + random.below(widest + 1)) as u8;
+        }
+    }
+}
+
+fn any_part(draft: &mut Draft, kind: u8, scale: Scale, random: &mut Random) -> usize {
+    let (a, b, p) = (scale.value(random), scale.value(random), scale.period(random));
+    match kind {
+        CONSTANT | GAIN | INTEGRATOR | RESET => draft.add(kind, a, 0, 0),
+        SQUARE => draft.add(kind, a, b, p),
+        PULSE => draft.add(kind, a, 0, p),
+        DETECTOR => draft.add(kind, 0, 0, p),
+        DRIVE => {
+            let spans = scale.spans(random);
+            draft.add_drive(a, spans)
+        }
+        _ => draft.add(kind, 0, 0, 0),
+    }
+}
+
+/// Something to integrate or to sample.
+fn source(draft: &mut Draft, scale: Scale, random: &mut Random) -> usize {
+    let kind = random.pick(&[CONSTANT, CONSTANT, SQUARE, SQUARE, PULSE]);
+    let number = any_part(draft, kind, scale, random);
+    if kind == PULSE && random.once_in(2) {
+        let hold = draft.add(HOLD, 0, 0, 0);
+        draft.wire(number, hold, 0);
+        return hold;
+    }
+    number
+}
+
+/// Parts that integrate a source from the other side of 0.
+fn integrator(draft: &mut Draft, scale: Scale, random: &mut Random) -> usize {
+    let from = source(draft, scale, random);
+    let kind = random.pick(&[INTEGRATOR, INTEGRATOR, RESET, DRIVE]);
+    let number = any_part(draft, kind, scale, random);
+    if random.once_in(2) {
+        let rate = draft.rows[from].a;
+        draft.rows[number].a =
+            (-i64::from(rate) * random.between(0, 6) - random.between(-1, 1)).clamp(-scale.value, scale.value) as i32;
+    }
+    draft.wire(from, number, 0);
+    number
+}
+
+fn group(draft: &mut Draft, scale: Scale, random: &mut Random) {
+    if draft.is_full(8) {
+        return;
+    }
+    let small =
+        |random: &mut Random| if random.once_in(2) { random.between(1, 4) as u32 } else { scale.period(random) };
+    match random.below(9) {
+        // A source into an integrator into a detector, and what follows from its mark.
+        0..=2 => {
+            let level = integrator(draft, scale, random);
+            let tolerance = small(random);
+            let detector = draft.add(DETECTOR, 0, 0, tolerance);
+            draft.wire(level, detector, 0);
+            match random.below(5) {
+                0 => {
+                    let gain = draft.add(GAIN, scale.value(random), 0, 0);
+                    draft.wire(detector, gain, 0);
+                    draft.wire(gain, level, if draft.rows[level].kind == RESET { 1 } else { 0 });
+                }
+                1 => {
+                    let constant = draft.add(CONSTANT, scale.value(random), 0, 0);
+                    let sampler = draft.add(SAMPLER, 0, 0, 0);
+                    draft.wire(constant, sampler, 0);
+                    draft.wire(detector, sampler, 1);
+                    if draft.rows[level].kind == RESET {
+                        draft.wire(sampler, level, 1);
+                    }
+                }
+                2 => {
+                    let delay = draft.add(DELAY, 0, 0, 0);
+                    draft.wire(detector, delay, 0);
+                }
+                3 => {
+                    let hold = draft.add(HOLD, 0, 0, 0);
+                    draft.wire(detector, hold, 0);
+                }
+                _ => {}
+            }
+        }
+        // Samples of a moving number, held and added up.
+        3 => {
+            let level = integrator(draft, scale, random);
+            let pulse = any_part(draft, PULSE, scale, random);
+            let sampler = draft.add(SAMPLER, 0, 0, 0);
+            draft.wire(level, sampler, 0);
+            draft.wire(pulse, sampler, 1);
+            let hold = draft.add(HOLD, 0, 0, 0);
+            draft.wire(sampler, hold, 0);
+            let adder = draft.add(ADDER, 0, 0, 0);
+            draft.wire(hold, adder, 0);
+            draft.wire(level, adder, 1);
+        }
+        // An event through a chain of delays.
+        4 => {
+            let mut last = any_part(draft, PULSE, scale, random);
+            for _ in 0..1 + random.below(4) {
+                let delay = draft.add(DELAY, 0, 0, 0);
+                draft.wire(last, delay, 0);
+                last = delay;
+            }
+            let kind = random.pick(&[ADDER, HOLD, RESET, GAIN]);
+            let end = any_part(draft, kind, scale, random);
+            draft.wire(last, end, if kind == RESET { 1 } else { 0 });
+        }
+        // Two integrators that drive each other to and fro.
+        5 => {
+            let x = any_part(draft, random.pick(&[INTEGRATOR, RESET, DRIVE]), scale, random);
+            let y = any_part(draft, INTEGRATOR, scale, random);
+            let gain = draft.add(GAIN, random.pick(&[-1, -1, -2, 1]), 0, 0);
+            draft.wire(y, x, 0);
+            draft.wire(x, gain, 0);
+            draft.wire(gain, y, 0);
+            let tolerance = small(random);
+            let detector = draft.add(DETECTOR, 0, 0, tolerance);
+            draft.wire(random.pick(&[x, y]), detector, 0);
+        }
+        // A detector on a source that switches or shows up at times only.
+        6 => {
+            let from = source(draft, scale, random);
+            let gain = draft.add(GAIN, scale.value(random), 0, 0);
+            draft.wire(from, gain, 0);
+            let tolerance = small(random);
+            let detector = draft.add(DETECTOR, 0, 0, tolerance);
+            draft.wire(gain, detector, 0);
+            let level = draft.add(RESET, scale.positive(random), 0, 0);
+            draft.wire(from, level, 0);
+            draft.wire(detector, level, 1);
+        }
+        // A detector that reads something at times only, now on one side and now on the other.
+        7 => {
+            let kind = random.pick(&[SQUARE, SQUARE, INTEGRATOR]);
+            let level = any_part(draft, kind, scale, random);
+            let pulse = any_part(draft, PULSE, scale, random);
+            if kind == SQUARE {
+                (draft.rows[level].a, draft.rows[level].b) = (scale.positive(random), -scale.positive(random));
+            } else {
+                draft.wire(pulse, level, 0);
+            }
+            let sampler = draft.add(SAMPLER, 0, 0, 0);
+            draft.wire(level, sampler, 0);
+            draft.wire(pulse, sampler, 1);
+            let tolerance = small(random);
+            let detector = draft.add(DETECTOR, 0, 0, tolerance);
+            draft.wire(sampler, detector, 0);
+        }
+        // Drives behind one source.
+        _ => {
+            let from = source(draft, scale, random);
+            let common = scale.spans(random);
+            for _ in 0..1 + random.below(3) {
+                let mut spans = scale.spans(random);
+                spans.extend(common.iter().filter(|_| random.once_in(2)));
+                spans.sort_unstable();
+                spans.dedup();
+                spans.truncate(8);
+                let drive = draft.add_drive(scale.value(random), spans);
+                draft.wire(from, drive, 0);
+            }
+        }
+    }
+}
+
+/// Drives whose spans alternate, so that each round takes back a little, and sometimes a detector that halves.
+pub fn ladder(random: &mut Random) -> Draft {
+    let mut draft = Draft::default();
+    let scale = Scale::any(random);
+    let high = if random.once_in(3) { BILLION } else { 100 };
+    let mut rungs: Vec<u32> = (0..17).map(|_| random.of_any_size(high) as u32).collect();
+    rungs.sort_unstable();
+    rungs.dedup();
+    let from = source(&mut draft, scale, random);
+    let crowd = random.pick(&[2, 2, 3, 5, 8, 30]);
+    for number in 0..crowd {
+        // Of each two neighbours at least one, and of 16 at most eight.
+        let mut spans: Vec<u32> = rungs.chunks(2).take(8).map(|pair| pair[number % 2 % pair.len()]).collect();
+        if random.once_in(3) {
+            let at = random.below(spans.len());
+            spans.remove(at);
+        }
+        if random.once_in(3) {
+            spans.extend(rungs.first());
+            spans.sort_unstable();
+            spans.dedup();
+            spans.truncate(8);
+        }
+        let drive = draft.add_drive(scale.value(random), spans);
+        if random.once_in(2) {
+            draft.wire(from, drive, 0);
+        }
+        if draft.is_full(2) {
+            break;
+        }
+    }
+    if random.once_in(2) && !draft.is_full(1) {
+        let detector = draft.add(DETECTOR, 0, 0, random.between(1, 9) as u32);
+        let watched = random.below(detector);
+        draft.wire(watched, detector, 0);
+    }
+    if random.once_in(3) {
+        prefer(&mut draft, random);
+    }
+    if random.once_in(2) {
+        draft.renumber(random);
+    }
+    draft
+}
+
+/// A number that crosses 0 after a few ticks and is sent back when a detector with a small tolerance finds it.
+fn crossing(draft: &mut Draft, random: &mut Random) {
+    let rate = random.between(1, 3) as i32 * random.pick(&[1, -1]);
+    let constant = draft.add(CONSTANT, rate, 0, 0);
+    let furthest = random.pick(&[1, 3, 1000]);
+    let ticks = random.of_any_size(furthest) as i32;
+    let level = draft.add(random.pick(&[INTEGRATOR, RESET]), -rate * ticks, 0, 0);
+    draft.wire(constant, level, 0);
+    let detector = draft.add(DETECTOR, 0, 0, random.between(1, 3) as u32);
+    draft.wire(level, detector, 0);
+    if draft.rows[level].kind == RESET {
+        let gain = draft.add(GAIN, -rate * random.between(0, 50) as i32, 0, 0);
+        draft.wire(detector, gain, 0);
+        draft.wire(gain, level, 1);
+    }
+}
+
+/// Crossings soon after the start: wanted steps of 10^9 are halved 29 times.
+fn sharp(random: &mut Random) -> Draft {
+    let mut draft = Draft::default();
+    for _ in 0..1 + random.below(4) {
+        crossing(&mut draft, random);
+    }
+    for kind in [PULSE, SQUARE] {
+        if random.once_in(3) {
+            draft.add(kind, 1, 0, random.of_any_size(BILLION) as u32);
+        }
+    }
+    if random.once_in(4) {
+        prefer(&mut draft, random);
+    }
+    if random.once_in(2) {
+        draft.renumber(random);
+    }
+    draft
+}
+
+/// As many rounds as drives can ask for, and then as many revisions as are left: spans of drives that count slowly
+/// alternate down from 10^9, and once they agree a detector halves what they leave.
+fn steep(random: &mut Random) -> Draft {
+    let slow = random.between(3, 7) as u8;
+    let lowest = random.pick(&[0, 0, 1, 8]);
+    let mut draft = Draft { magnitude: lowest + slow, ..Draft::default() };
+    crossing(&mut draft, random);
+    let high = 10i64.pow(9 - u32::from(slow));
+    let mut rungs: Vec<u32> = (0..40).map(|_| random.between(high / 2, high - 1) as u32).collect();
+    rungs.sort_unstable();
+    rungs.dedup();
+    rungs.truncate(15);
+    for number in 0..2 + random.below(3) {
+        let spans = rungs.iter().enumerate().filter(|&(at, _)| at == 0 || at % 2 == number % 2).map(|(_, &rung)| rung);
+        let drive = draft.add_drive(1, spans.take(8).collect());
+        draft.rows[drive].preference = lowest;
+    }
+    if random.once_in(2) {
+        draft.renumber(random);
+    }
+    draft
+}
+
+/// Parts that stay due up to the last microstep or nearly so, and a score of more than a thousand commands.
+fn restless(random: &mut Random) -> Vec<u8> {
+    let mut draft = Draft::default();
+    let scale = Scale::any(random);
+    if random.once_in(2) {
+        microsteps(&mut draft, random);
+    } else {
+        let from = match random.below(4) {
+            0 => draft.add(CONSTANT, scale.value(random), 0, 0),
+            1 => any_part(&mut draft, SQUARE, scale, random),
+            2 => integrator(&mut draft, scale, random),
+            // An event that a delay feeds back to itself.
+            _ => any_part(&mut draft, PULSE, scale, random),
+        };
+        let adder = draft.add(ADDER, 0, 0, 0);
+        let delay = draft.add(DELAY, 0, 0, 0);
+        draft.wire(from, adder, 0);
+        draft.wire(delay, adder, 1);
+        draft.wire(adder, delay, 0);
+        if random.once_in(2) {
+            let detector = draft.add(DETECTOR, 0, 0, 1);
+            let gain = draft.add(GAIN, random.pick(&[-1, -2, 3]), 0, 0);
+            draft.wire(delay, gain, 0);
+            draft.wire(gain, detector, 0);
+        }
+    }
+    if random.once_in(2) {
+        draft.renumber(random);
+    }
+    let mut bytes = draft.commands(random).concat();
+    let commands = 1060 + random.below(100);
+    bytes.extend(score(&draft, commands, random));
+    bytes
+}
+
+/// A detector that its own marks switch to and fro at every microstep, while a number counts them, until that number
+/// stops the switching: at the last microstep or close to it. There a drive may then accept nothing.
+fn microsteps(draft: &mut Draft, random: &mut Random) {
+    let detector = draft.add(DETECTOR, 0, 0, 1);
+    let shown = draft.add(HOLD, 0, 0, 0);
+    draft.wire(detector, shown, 0);
+    let swing = random.between(990, 1001) as i32;
+    let push = draft.add(GAIN, -swing, 0, 0);
+    draft.wire(shown, push, 0);
+    // The count: one more than it was at the point before, whenever a mark was shown there.
+    let count = draft.add(RESET, 0, 0, 0);
+    let counted = draft.add(SAMPLER, 0, 0, 0);
+    draft.wire(count, counted, 0);
+    draft.wire(detector, counted, 1);
+    let before = draft.add(DELAY, 0, 0, 0);
+    draft.wire(counted, before, 0);
+    let one = draft.add(CONSTANT, 1, 0, 0);
+    let more = draft.add(SAMPLER, 0, 0, 0);
+    draft.wire(one, more, 0);
+    draft.wire(before, more, 1);
+    let sum = draft.add(ADDER, 0, 0, 0);
+    draft.wire(before, sum, 0);
+    draft.wire(more, sum, 1);
+    draft.wire(sum, count, 1);
+    // What the detector sees; the square gives the first push.
+    let period = random.between(2, 6) as u32;
+    let first = random.pick(&[1, -1, -1]);
+    let start = draft.add(SQUARE, first, -first, period);
+    let bias = draft.add(ADDER, 0, 0, 0);
+    draft.wire(start, bias, 0);
+    draft.wire(count, bias, 1);
+    let level = draft.add(ADDER, 0, 0, 0);
+    draft.wire(bias, level, 0);
+    draft.wire(push, level, 1);
+    draft.wire(level, detector, 0);
+    if !random.once_in(3) {
+        draft.add_drive(0, vec![period, period + 3]);
+    }
+}
+
+/// More bytes than the program reads, cut within a command or between two.
+fn overlong(random: &mut Random) -> Vec<u8> {
+    let mut draft = Draft::default();
+    for _ in 0..1 + random.below(4) {
+        any_part(
+            &mut draft,
+            random.pick(&[CONSTANT, SQUARE, DRIVE, INTEGRATOR]),
+            Scale { value: 9, period: 12 },
+            random,
+        );
+    }
+    // All other commands of a table have a length of 5 × k, or there are three bytes of them: wires move the score.
+    join(&mut draft, random);
+    let mut bytes = draft.commands(random).concat();
+    bytes.extend(score(&draft, 13_200, random));
+    bytes.truncate(65_534 + random.below(10));
+    bytes
+}

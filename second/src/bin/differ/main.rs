@@ -1,0 +1,221 @@
+//! Compares another program with the library, byte by byte, on named cases and on random ones with a purpose.
+//!
+//!     differ PROGRAM [--cases N] [--seed S] [--only NUMBER] [--unnamed 1]
+//!
+//! Case NUMBER of seed S is the same everywhere; --unnamed 1 leaves the named and the swept ones out. What differs is printed with its seed, number and bytes. The status is
+//! 0 only if nothing differs and the cases reached all they should.
+
+mod damage;
+mod draft;
+mod generate;
+mod named;
+mod program;
+mod random;
+mod seen;
+mod swept;
+
+use program::Program;
+use random::Random;
+use seen::Seen;
+use std::process::ExitCode;
+use std::sync::atomic::{AtomicBool, AtomicU64, Ordering};
+use std::sync::Mutex;
+use std::time::Instant;
+
+const THREADS: usize = 2;
+
+struct Arguments {
+    program: String,
+    cases: u64,
+    seed: u64,
+    only: Option<u64>,
+    unnamed: bool,
+}
+
+fn arguments() -> Option<Arguments> {
+    let mut given = std::env::args().skip(1);
+    let mut arguments = Arguments { program: given.next()?, cases: 20_000, seed: 1, only: None, unnamed: false };
+    while let Some(name) = given.next() {
+        let number = given.next()?.parse().ok()?;
+        match name.as_str() {
+            "--cases" => arguments.cases = number,
+            "--seed" => arguments.seed = number,
+            "--only" => arguments.only = Some(number),
+            "--unnamed" => arguments.unnamed = number == 1,
+            _ => return None,
+        }
+    }
+    Some(arguments)
+}
+
+fn main() -> ExitCode {
+    let Some(arguments) = arguments() else {
+        eprintln!("usage: differ PROGRAM [--cases N] [--seed S] [--only NUMBER] [--unnamed 1]");
+        return ExitCode::from(2);
+    };
+    match compare(&arguments) {
+        Ok(figures) => {
+            println!("{figures}");
+            ExitCode::SUCCESS
+        }
+        Err(what) => {
+            println!("{what}");
+            ExitCode::FAILURE
+        }
+    }
+}
+
+/// One line of figures, or what went wrong.
+fn compare(arguments: &Arguments) -> Result<String, String> {
+    let program = Program::watched(&arguments.program);
+    if let Some(number) = arguments.only {
+        let stream = stream_of(arguments.seed, number);
+        return match difference(&program, number, &stream, &expected(&stream)) {
+            None => Ok(format!("{}: nothing differs\n{}", name_of(arguments.seed, number), hexadecimal(&stream))),
+            Some(what) => Err(report(&name_of(arguments.seed, number), &stream, &what)),
+        };
+    }
+    let (named, swept) = if arguments.unnamed { (vec![], vec![]) } else { (named::named(), swept::swept()) };
+    for (ticket, case) in named.iter().enumerate() {
+        if case.wrong_reading == Some(&case.expected) {
+            return Err(format!("{}: the case does not tell the readings apart", case.name));
+        }
+        let own = expected(&case.stream);
+        if own != case.expected.as_bytes() {
+            return Err(format!("{}: the library differs from the document", case.name));
+        }
+        if let Some(what) = difference(&program, ticket as u64, &case.stream, &own) {
+            let wrong = if what.got.is_some() && what.got.as_deref() == case.wrong_reading.map(str::as_bytes) {
+                "; this is the wrong reading"
+            } else {
+                ""
+            };
+            return Err(format!("named case '{}': {}{wrong}\n{}", case.name, what.text, hexadecimal(&case.stream)));
+        }
+    }
+
+    let start = Instant::now();
+    let seen = many_cases(arguments, &program, &swept)?;
+    let seconds = start.elapsed().as_secs_f64();
+    let missing = seen.missing();
+    if !missing.is_empty() {
+        return Err(format!(
+            "{} cases of seed {} reached too little: {}",
+            arguments.cases,
+            arguments.seed,
+            missing.join("; ")
+        ));
+    }
+    Ok(format!(
+        "differ: {} named, {} swept and {} random cases of seed {} in {seconds:.1} s ({:.0} a second), nothing differs: {}",
+        named.len(),
+        swept.len(),
+        arguments.cases,
+        arguments.seed,
+        seen.cases as f64 / seconds,
+        seen.figures()
+    ))
+}
+
+struct Failure {
+    number: u64,
+    text: String,
+}
+
+/// The swept cases, then the random ones.
+fn many_cases(arguments: &Arguments, program: &Program, swept: &[Vec<u8>]) -> Result<Seen, String> {
+    let cases = swept.len() as u64 + arguments.cases;
+    let next = AtomicU64::new(0);
+    let stop = AtomicBool::new(false);
+    let failures: Mutex<Vec<Failure>> = Mutex::new(Vec::new());
+    let total = Mutex::new(Seen::default());
+    let work = || {
+        let mut seen = Seen::default();
+        // Once something differs no new cases are begun, but all earlier ones are ended: the first is found for sure.
+        while !stop.load(Ordering::SeqCst) {
+            let number = next.fetch_add(1, Ordering::SeqCst);
+            if number >= cases {
+                break;
+            }
+            let (name, stream) = match swept.get(number as usize) {
+                Some(stream) => (format!("swept case {number}"), stream.clone()),
+                None => {
+                    let number = number - swept.len() as u64;
+                    (name_of(arguments.seed, number), stream_of(arguments.seed, number))
+                }
+            };
+            let output = expected(&stream);
+            if let Some(what) = difference(program, number, &stream, &output) {
+                let failure = Failure { number, text: report(&name, &stream, &what) };
+                failures.lock().unwrap().push(failure);
+                stop.store(true, Ordering::SeqCst);
+            }
+            seen.count(&stream, &output);
+        }
+        total.lock().unwrap().add(&seen);
+    };
+    let fell = std::thread::scope(|scope| {
+        let workers: Vec<_> = (0..THREADS).map(|_| scope.spawn(work)).collect();
+        workers.into_iter().map(|worker| worker.join()).filter(Result::is_err).count()
+    });
+    let mut failures = failures.into_inner().unwrap();
+    failures.sort_by_key(|failure| failure.number);
+    if !failures.is_empty() {
+        return Err(failures.into_iter().map(|failure| failure.text).collect::<Vec<_>>().join("\n"));
+    }
+    let seen = total.into_inner().unwrap();
+    if fell > 0 || seen.cases != cases {
+        return Err(format!("only {} of {cases} cases were tried: {fell} threads fell", seen.cases));
+    }
+    Ok(seen)
+}
+
+fn stream_of(seed: u64, number: u64) -> Vec<u8> {
+    generate::case(&mut Random::of_case(seed, number))
+}
+
+/// What the library prints.
+fn expected(stream: &[u8]) -> Vec<u8> {
+    let mut output = Vec::new();
+    // A vector takes every write.
+    let _ = second::rehearse(stream, &mut output);
+    output
+}
+
+struct Difference {
+    text: String,
+    got: Option<Vec<u8>>,
+}
+
+fn difference(program: &Program, ticket: u64, stream: &[u8], expected: &[u8]) -> Option<Difference> {
+    match program.run(ticket, stream) {
+        Ok(got) if got == expected => None,
+        Ok(got) => Some(Difference { text: first_line_that_differs(expected, &got), got: Some(got) }),
+        Err(text) => Some(Difference { text, got: None }),
+    }
+}
+
+fn first_line_that_differs(expected: &[u8], got: &[u8]) -> String {
+    let lines = |bytes: &[u8]| -> Vec<String> {
+        bytes
+            .split_inclusive(|&byte| byte == b'\n')
+            .map(|line| format!("{:?}", String::from_utf8_lossy(line)))
+            .collect()
+    };
+    let (expected, got) = (lines(expected), lines(got));
+    let at = expected.iter().zip(&got).take_while(|(one, other)| one == other).count();
+    let line = |lines: &[String]| lines.get(at).cloned().unwrap_or("nothing".to_string());
+    format!("line {} is {} instead of {}", at + 1, line(&got), line(&expected))
+}
+
+fn name_of(seed: u64, number: u64) -> String {
+    format!("case {number} of seed {seed}")
+}
+
+fn report(name: &str, stream: &[u8], what: &Difference) -> String {
+    format!("{name} differs: {}\n{}", what.text, hexadecimal(stream))
+}
+
+fn hexadecimal(stream: &[u8]) -> String {
+    stream.iter().map(|byte| format!("{byte:02x}")).collect()
+}

@@ -1,0 +1,146 @@
+//! Cases with answers worked out by hand: the played examples of the document, and the readings that miss. For these
+//! the answer of the wrong reading is written down too, so that the case is seen to tell the two apart.
+
+use crate::draft::*;
+
+pub struct Named {
+    pub name: &'static str,
+    pub stream: Vec<u8>,
+    pub expected: String,
+    pub wrong_reading: Option<&'static str>,
+}
+
+struct Table(Draft);
+
+impl Table {
+    fn new(magnitude: u8) -> Table {
+        Table(Draft { magnitude, ..Draft::default() })
+    }
+
+    fn part(self, kind: u8, a: i32, b: i32, p: u32) -> Table {
+        self.preferring(NO_PREFERENCE, kind, a, b, p)
+    }
+
+    fn preferring(mut self, preference: u8, kind: u8, a: i32, b: i32, p: u32) -> Table {
+        let number = self.0.add(kind, a, b, p);
+        self.0.rows[number].preference = preference;
+        self
+    }
+
+    fn spans(mut self, spans: &[u32]) -> Table {
+        if let Some(row) = self.0.rows.last_mut() {
+            row.spans = spans.to_vec();
+        }
+        self
+    }
+
+    fn wire(mut self, source: usize, reader: usize, port: u8) -> Table {
+        self.0.wire(source, reader, port);
+        self
+    }
+
+    /// The table's bytes and a score's.
+    fn score(self, steps: &[u32]) -> Vec<u8> {
+        let mut bytes = vec![1, self.0.magnitude];
+        for row in &self.0.rows {
+            bytes.extend(row.bytes());
+            bytes.extend(row.spans.iter().flat_map(|&s| span(s)));
+        }
+        bytes.extend(self.0.wires.iter().flat_map(|&(source, reader, port)| [4, source as u8, reader as u8, port]));
+        bytes.push(5);
+        bytes.extend(steps.iter().flat_map(|&w| wanted(w)));
+        bytes
+    }
+}
+
+pub fn named() -> Vec<Named> {
+    let mut all = Vec::new();
+    let mut add = |name, stream, expected: &str, wrong_reading| {
+        all.push(Named { name, stream, expected: expected.to_string(), wrong_reading });
+    };
+
+    add(
+        "missed: each step divided by r instead of the whole time",
+        Table::new(2).part(CONSTANT, 1, 0, 0).preferring(0, INTEGRATOR, 0, 0, 0).wire(0, 1, 0).score(&[40, 40, 40]),
+        "40 0 40 1 0 1 0\n80 0 40 1 0 1 0\n120 0 40 1 0 1 1\n",
+        Some("40 0 40 1 0 1 0\n80 0 40 1 0 1 0\n120 0 40 1 0 1 0\n"),
+    );
+    add(
+        "missed: the least reply after one round only",
+        Table::new(0).part(DRIVE, 0, 0, 0).spans(&[3, 8]).part(DRIVE, 0, 0, 0).spans(&[3, 5]).score(&[9]),
+        "3 0 3 3 0 0 0\n",
+        Some("5 0 5 1 0 0 0\n"),
+    );
+    add(
+        "missed: a detector's side changed after a dropped trial",
+        Table::new(0)
+            .part(CONSTANT, 2, 0, 0)
+            .part(INTEGRATOR, -7, 0, 0)
+            .part(DETECTOR, 0, 0, 1)
+            .wire(0, 1, 0)
+            .wire(1, 2, 0)
+            .score(&[8, 8, 8, 8]),
+        "2 0 2 3 2 2 -3 -\n3 0 1 4 3 2 -1 -\n4 0 1 4 3 2 1 -\n4 1 0 2 0 2 1 1\n",
+        Some("4 0 4 2 1 2 1 -\n12 0 8 1 0 2 17 -\n20 0 8 1 0 2 33 -\n28 0 8 1 0 2 49 -\n"),
+    );
+    add(
+        "missed: from (k × P, 0) past the pulse",
+        Table::new(0).part(PULSE, 7, 0, 4).score(&[10, 10, 10, 10]),
+        "4 0 4 2 0 -\n4 1 0 2 0 7\n8 0 4 2 0 -\n8 1 0 2 0 7\n",
+        Some("4 0 4 2 0 -\n8 0 4 2 0 -\n12 0 4 2 0 -\n16 0 4 2 0 -\n"),
+    );
+
+    add(
+        "played: the program's example",
+        Table::new(0).part(CONSTANT, 1, 0, 0).part(DRIVE, 0, 0, 0).spans(&[2, 5]).wire(0, 1, 0).score(&[7, 4, 1]),
+        "5 0 5 2 0 1 5\n7 0 2 2 0 1 7\nrefused 22\n",
+        None,
+    );
+    add(
+        "played: ratio 10, span {2}, at tick 7",
+        Table::new(1).part(CONSTANT, 1, 0, 0).preferring(0, DRIVE, 0, 0, 0).spans(&[2]).wire(0, 1, 0).score(&[7, 50]),
+        "7 0 7 1 0 1 0\n29 0 22 2 0 1 2\n",
+        None,
+    );
+    add(
+        "played: a square at its first edge",
+        Table::new(0).part(SQUARE, 5, -6, 4).score(&[9, 9, 9, 9]),
+        "4 0 4 2 0 5\n4 1 0 2 0 -6\n8 0 4 2 0 -6\n8 1 0 2 0 5\n",
+        None,
+    );
+    add(
+        "played: a gain wired to itself",
+        Table::new(0).part(GAIN, 2, 0, 0).wire(0, 0, 0).score(&[5]),
+        "refused 11 at 21\n",
+        None,
+    );
+    add(
+        "played: an integrator wired to itself",
+        Table::new(0).part(INTEGRATOR, 1, 0, 0).wire(0, 0, 0).score(&[5, 5]),
+        "5 0 5 1 0 6\n10 0 5 1 0 36\n",
+        None,
+    );
+    let mut restless: String = (1..=999).map(|n| format!("0 {n} 0 2 0 3 3\n")).collect();
+    restless.push_str("refused 21\nrefused 21\nrefused 20\n");
+    let mut steps = vec![1; 1001];
+    steps.push(0);
+    add(
+        "played: a constant into a delay",
+        Table::new(0).part(CONSTANT, 3, 0, 0).part(DELAY, 0, 0, 0).wire(0, 1, 0).score(&steps),
+        &restless,
+        None,
+    );
+    add("played: the empty stream", Vec::new(), "refused 1 at 0\n", None);
+    add(
+        "the longest score the program reads, cut in its last command",
+        {
+            let mut stream = Table::new(0).part(CONSTANT, 3, 0, 0).score(&vec![0; 13_200]);
+            stream.truncate(70_000);
+            stream
+        },
+        // 18 bytes of table, 13,103 commands, and three bytes of the next.
+        &("refused 20\n".repeat(13_103) + "refused 1 at 65533\n"),
+        None,
+    );
+    all
+}

@@ -1,0 +1,142 @@
+//! What the cases reached.
+
+use crate::draft::KINDS;
+use second::load;
+
+/// Refusals that a stream of at most 65,536 bytes can reach. 23 needs a tick near 10^18 and 24 a model that no load gives.
+pub const REACHABLE: [u8; 14] = [1, 2, 3, 5, 6, 7, 8, 9, 10, 11, 12, 20, 21, 22];
+
+#[derive(Default)]
+pub struct Seen {
+    pub cases: u64,
+    pub accepted: u64,
+    pub lines: u64,
+    /// By number: of loads and of advances.
+    refusals: [u64; 32],
+    /// By number: of a score's commands.
+    score_refusals: [u64; 32],
+    accepted_kinds: [u64; KINDS],
+    refused_kinds: [u64; KINDS],
+    most_rounds: u64,
+    most_revisions: u64,
+    /// Steps of 0 and longer ones.
+    steps: [u64; 2],
+}
+
+impl Seen {
+    /// Counts a case and what it was answered.
+    pub fn count(&mut self, stream: &[u8], output: &[u8]) {
+        self.cases += 1;
+        let accepted = match load(stream) {
+            Ok(accepted) => {
+                self.accepted += 1;
+                count_kinds(&mut self.accepted_kinds, &stream[..accepted.end]);
+                true
+            }
+            Err(refusal) => {
+                count_kinds(&mut self.refused_kinds, &stream[..refusal.position]);
+                false
+            }
+        };
+        for line in String::from_utf8_lossy(output).lines() {
+            self.lines += 1;
+            let words: Vec<&str> = line.split(' ').collect();
+            let number = |at: usize| words.get(at).and_then(|word| word.parse::<u64>().ok()).unwrap_or(0);
+            if words[0] == "refused" {
+                let refusals = if accepted && words.len() > 2 { &mut self.score_refusals } else { &mut self.refusals };
+                refusals[number(1) as usize % 32] += 1;
+            } else {
+                self.steps[usize::from(number(2) > 0)] += 1;
+                self.most_rounds = self.most_rounds.max(number(3));
+                self.most_revisions = self.most_revisions.max(number(4));
+            }
+        }
+    }
+
+    pub fn add(&mut self, other: &Seen) {
+        self.cases += other.cases;
+        self.accepted += other.accepted;
+        self.lines += other.lines;
+        add_each(&mut self.refusals, &other.refusals);
+        add_each(&mut self.score_refusals, &other.score_refusals);
+        add_each(&mut self.accepted_kinds, &other.accepted_kinds);
+        add_each(&mut self.refused_kinds, &other.refused_kinds);
+        add_each(&mut self.steps, &other.steps);
+        self.most_rounds = self.most_rounds.max(other.most_rounds);
+        self.most_revisions = self.most_revisions.max(other.most_revisions);
+    }
+
+    /// What was not reached and should have been.
+    pub fn missing(&self) -> Vec<String> {
+        let mut missing = Vec::new();
+        let mut must = |reached: bool, what: String| {
+            if !reached {
+                missing.push(what);
+            }
+        };
+        for number in REACHABLE {
+            must(self.refusals[usize::from(number)] > 0, format!("refusal {number}"));
+        }
+        for number in 1..=3 {
+            must(self.score_refusals[number] > 0, format!("refusal {number} of a score"));
+        }
+        for kind in 0..KINDS {
+            must(self.accepted_kinds[kind] > 0, format!("kind {kind} in an accepted table"));
+            must(self.refused_kinds[kind] > 0, format!("kind {kind} in a refused table"));
+        }
+        must(self.steps[0] > 0 && self.steps[1] > 0, "steps of 0 and longer ones".to_string());
+        must(
+            self.most_revisions == 29,
+            format!("29 revisions, and no more (at most {} were made)", self.most_revisions),
+        );
+        must(self.most_rounds > 31, format!("more than 31 rounds (at most {} were made)", self.most_rounds));
+        missing
+    }
+
+    pub fn figures(&self) -> String {
+        let numbers = |counts: &[u64]| -> String {
+            let reached = counts.iter().enumerate().filter(|(_, &count)| count > 0);
+            reached.map(|(number, count)| format!(" {number}:{count}")).collect()
+        };
+        format!(
+            "{} tables accepted, {} refused; {} lines; refusals{}; in scores{}; kinds accepted{}; kinds refused{}; \
+             steps of 0 {}, longer {}; at most {} rounds and {} revisions",
+            self.accepted,
+            self.cases - self.accepted,
+            self.lines,
+            numbers(&self.refusals),
+            numbers(&self.score_refusals),
+            numbers(&self.accepted_kinds),
+            numbers(&self.refused_kinds),
+            self.steps[0],
+            self.steps[1],
+            self.most_rounds,
+            self.most_revisions,
+        )
+    }
+}
+
+fn add_each(to: &mut [u64], from: &[u64]) {
+    for (to, from) in to.iter_mut().zip(from) {
+        *to += from;
+    }
+}
+
+/// Counts the parts of whole commands.
+fn count_kinds(counts: &mut [u64; KINDS], mut commands: &[u8]) {
+    while let Some(&code) = commands.first() {
+        if code == 2 {
+            if let Some(count) = commands.get(1).and_then(|&kind| counts.get_mut(usize::from(kind))) {
+                *count += 1;
+            }
+        }
+        let width = match code {
+            1 => 2,
+            2 => 15,
+            3 => 5,
+            4 => 4,
+            _ => 1,
+        };
+        commands = commands.get(width..).unwrap_or(&[]);
+    }
+}

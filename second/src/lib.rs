@@ -1,0 +1,15 @@
+//! A second implementation of the rehearsal master, written from the document alone and sharing nothing with the
+//! verified one. It is what the verified program is compared with, and the baseline of the benchmark.
+
+pub mod advance;
+pub mod load;
+pub mod model;
+mod order;
+pub mod rehearse;
+#[cfg(test)]
+mod tests;
+
+pub use advance::{advance, Answer};
+pub use load::{load, Accepted, Loaded, Refusal};
+pub use model::{Kind, Model, Part, Point, Side, Signal};
+pub use rehearse::{rehearse, INPUT_LIMIT};

@@ -1,0 +1,212 @@
+//! Reading a table's bytes into a model.
+
+use crate::advance::fill_start;
+use crate::model::{is_count, is_value, ratio, Kind, Model, Part, Point, LARGEST_MAGNITUDE, MOST_PARTS, MOST_SPANS};
+use crate::order::order;
+
+/// Why a stream was refused, and the position of the command at fault.
+#[derive(Clone, Copy, Debug, PartialEq, Eq)]
+pub struct Refusal {
+    pub number: u8,
+    pub position: usize,
+}
+
+/// A fresh model, and the position after End, where the score begins.
+#[derive(Clone, Debug, PartialEq, Eq)]
+pub struct Accepted {
+    pub model: Model,
+    pub end: usize,
+}
+
+pub type Loaded = Result<Accepted, Refusal>;
+
+const BEGIN: u8 = 1;
+const PART: u8 = 2;
+const SPAN: u8 = 3;
+const WIRE: u8 = 4;
+const END: u8 = 5;
+const WANTED: u8 = 6;
+
+/// A command's operands, all there.
+enum Command {
+    Begin(u8),
+    Part { kind: u8, preference: u8, a: i32, b: i32, p: u32 },
+    Span(u32),
+    Wire { source: u8, reader: u8, port: u8 },
+    End,
+}
+
+impl Command {
+    /// The operands that follow `code`, and the bytes behind them; none if they are cut.
+    fn read(code: u8, rest: &[u8]) -> Option<(Command, &[u8])> {
+        Some(match code {
+            BEGIN => {
+                let (&[e], rest) = rest.split_first_chunk()?;
+                (Command::Begin(e), rest)
+            }
+            PART => {
+                let (&[kind, preference], rest) = rest.split_first_chunk()?;
+                let (&a, rest) = rest.split_first_chunk()?;
+                let (&b, rest) = rest.split_first_chunk()?;
+                let (&p, rest) = rest.split_first_chunk()?;
+                let (a, b, p) = (i32::from_le_bytes(a), i32::from_le_bytes(b), u32::from_le_bytes(p));
+                (Command::Part { kind, preference, a, b, p }, rest)
+            }
+            SPAN => {
+                let (&span, rest) = rest.split_first_chunk()?;
+                (Command::Span(u32::from_le_bytes(span)), rest)
+            }
+            WIRE => {
+                let (&[source, reader, port], rest) = rest.split_first_chunk()?;
+                (Command::Wire { source, reader, port }, rest)
+            }
+            _ => (Command::End, rest),
+        })
+    }
+}
+
+/// A part without wires or spans, if kind, preference and operands are ones that the table allows.
+fn part(kind: u8, preference: u8, a: i32, b: i32, p: u32) -> Option<Part> {
+    let (kind, names_a, names_b, names_p) = match kind {
+        0 => (Kind::Constant { a }, true, false, false),
+        1 => (Kind::Gain { a }, true, false, false),
+        2 => (Kind::Adder, false, false, false),
+        3 => (Kind::Square { a, b, p }, true, true, true),
+        4 => (Kind::Pulse { a, p }, true, false, true),
+        5 => (Kind::Delay, false, false, false),
+        6 => (Kind::Integrator { a }, true, false, false),
+        7 => (Kind::ResetIntegrator { a }, true, false, false),
+        8 => (Kind::Detector { p }, false, false, true),
+        9 => (Kind::Hold, false, false, false),
+        10 => (Kind::Sampler, false, false, false),
+        11 => (Kind::Drive { a, spans: Vec::new() }, true, false, false),
+        _ => return None,
+    };
+    let preference = match preference {
+        0xFF => None,
+        own if own <= LARGEST_MAGNITUDE => Some(own),
+        _ => return None,
+    };
+    let allowed = |named: bool, in_range: bool, zero: bool| if named { in_range } else { zero };
+    (allowed(names_a, is_value(a), a == 0)
+        && allowed(names_b, is_value(b), b == 0)
+        && allowed(names_p, is_count(p), p == 0))
+    .then(|| Part::new(kind, preference))
+}
+
+/// Reads a table up to its End and makes the fresh model.
+pub fn load(stream: &[u8]) -> Loaded {
+    let mut default_magnitude = None;
+    let mut parts: Vec<Part> = Vec::new();
+    let mut span_may_follow = false;
+    let mut rest = stream;
+    loop {
+        let position = stream.len() - rest.len();
+        let refused = |number| Err(Refusal { number, position });
+        let Some((&code, operands)) = rest.split_first() else {
+            return refused(1);
+        };
+        if !(BEGIN..=WANTED).contains(&code) {
+            return refused(2);
+        }
+        let in_place = match code {
+            BEGIN => default_magnitude.is_none(),
+            WANTED => false,
+            SPAN => span_may_follow,
+            _ => default_magnitude.is_some(),
+        };
+        if !in_place {
+            return refused(3);
+        }
+        let Some((command, behind)) = Command::read(code, operands) else {
+            return refused(1);
+        };
+        rest = behind;
+        span_may_follow = false;
+        match command {
+            Command::Begin(e) => {
+                if e > LARGEST_MAGNITUDE {
+                    return refused(5);
+                }
+                default_magnitude = Some(e);
+            }
+            Command::Part { kind, preference, a, b, p } => {
+                if parts.len() == MOST_PARTS {
+                    return refused(6);
+                }
+                let Some(part) = part(kind, preference, a, b, p) else {
+                    return refused(5);
+                };
+                span_may_follow = matches!(part.kind, Kind::Drive { .. });
+                parts.push(part);
+            }
+            Command::Span(span) => {
+                let Some(Part { kind: Kind::Drive { spans, .. }, .. }) = parts.last_mut() else {
+                    return refused(3);
+                };
+                if spans.len() == MOST_SPANS {
+                    return refused(6);
+                }
+                if !is_count(span) {
+                    return refused(5);
+                }
+                if spans.last().is_some_and(|&before| span <= before) {
+                    return refused(12);
+                }
+                spans.push(span);
+                span_may_follow = true;
+            }
+            Command::Wire { source, reader, port } => {
+                let (source, port) = (usize::from(source), usize::from(port));
+                let count = parts.len();
+                let Some(reader) = parts.get_mut(usize::from(reader)) else {
+                    return refused(7);
+                };
+                if source >= count || port >= reader.kind.ports() {
+                    return refused(7);
+                }
+                if reader.inputs[port].is_some() {
+                    return refused(8);
+                }
+                reader.inputs[port] = Some(source);
+            }
+            Command::End => {
+                return finish(default_magnitude.unwrap_or(0), parts)
+                    .map(|model| Accepted { model, end: stream.len() - rest.len() })
+                    .or_else(refused);
+            }
+        }
+    }
+}
+
+/// What End does: ratios, the order and the start point.
+fn finish(default_magnitude: u8, parts: Vec<Part>) -> Result<Model, u8> {
+    let mut model = Model { default_magnitude, parts, order: Vec::new(), point: Point::START };
+    if model.parts.is_empty() {
+        return Err(9);
+    }
+    let magnitude = model.magnitude();
+    for part in &mut model.parts {
+        part.ratio = ratio(magnitude, part.preference);
+    }
+    if model.parts.iter().any(|part| part.kind.p().is_some() && part.checked_period().is_none()) {
+        return Err(10);
+    }
+    model.order = order(&model.parts).ok_or(11)?;
+    fill_start(&mut model);
+    Ok(model)
+}
+
+/// The next command of a score at `position`: its wanted step and the position after it, or none at the stream's end.
+pub fn wanted(stream: &[u8], position: usize) -> Result<Option<(u32, usize)>, Refusal> {
+    let refused = |number| Err(Refusal { number, position });
+    match stream.get(position..).unwrap_or(&[]).split_first() {
+        None => Ok(None),
+        Some((&WANTED, operands)) => match operands.first_chunk() {
+            Some(&w) => Ok(Some((u32::from_le_bytes(w), position + 5))),
+            None => refused(1),
+        },
+        Some((BEGIN..=END, _)) => refused(3),
+        Some(_) => refused(2),
+    }
+}

@@ -1,0 +1,66 @@
+//! The order of parts: always the lowest-numbered part whose direct sources all stand before it.
+
+use crate::model::{Part, MOST_PARTS};
+use std::cmp::Reverse;
+use std::collections::BinaryHeap;
+
+/// The order of the parts, or none if wires into direct ports close a loop. Every source is a part.
+pub(crate) fn order(parts: &[Part]) -> Option<Vec<usize>> {
+    let mut missing = vec![0; parts.len()];
+    let mut readers = vec![Vec::new(); parts.len()];
+    for (reader, part) in parts.iter().enumerate() {
+        for source in part.direct_sources() {
+            missing[reader] += 1;
+            readers[source].push(reader);
+        }
+    }
+    let mut ready: BinaryHeap<_> = (0..parts.len()).filter(|&i| missing[i] == 0).map(Reverse).collect();
+    let mut order = Vec::with_capacity(parts.len());
+    while let Some(Reverse(next)) = ready.pop() {
+        order.push(next);
+        for &reader in &readers[next] {
+            missing[reader] -= 1;
+            if missing[reader] == 0 {
+                ready.push(Reverse(reader));
+            }
+        }
+    }
+    (order.len() == parts.len()).then_some(order)
+}
+
+/// Whether `given` is what [`order`] gives for these parts, found without building it again.
+///
+/// A part must stand after its direct sources, and where a higher number stands before it, it must have been held up
+/// there: between the nearest such higher number (itself counted) and the part stands one of its direct sources.
+pub(crate) fn is_the_order(parts: &[Part], given: &[usize]) -> bool {
+    if given.len() != parts.len() || parts.len() > MOST_PARTS {
+        return false;
+    }
+    const UNPLACED: usize = usize::MAX;
+    let mut place = [UNPLACED; MOST_PARTS];
+    // Of the parts placed so far, those without a higher number after them, so in falling order.
+    let mut higher = [0; MOST_PARTS];
+    let mut height = 0;
+    for (at, &number) in given.iter().enumerate() {
+        if number >= parts.len() || place[number] != UNPLACED {
+            return false;
+        }
+        let mut last_source = None;
+        for source in parts[number].direct_sources() {
+            if place[source] == UNPLACED {
+                return false;
+            }
+            last_source = last_source.max(Some(place[source]));
+        }
+        while height > 0 && higher[height - 1] < number {
+            height -= 1;
+        }
+        if height > 0 && last_source < Some(place[higher[height - 1]]) {
+            return false;
+        }
+        higher[height] = number;
+        height += 1;
+        place[number] = at;
+    }
+    true
+}

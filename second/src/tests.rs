@@ -1,0 +1,327 @@
+//! What the program's output cannot show: refusals 23 and 24, last ceilings, and the two places where the library
+//! does not follow the document word by word (a drive's longest step, the test of an order), against ones that do.
+
+use crate::advance::{local_step, longest_of_drive};
+use crate::model::{LAST_TICK, MOST_PARTS};
+use crate::order::{is_the_order, order};
+use crate::{advance, load, rehearse, Answer, Kind, Model, Part, Point, Side};
+
+/// SplitMix64.
+struct Random(u64);
+
+impl Random {
+    fn below(&mut self, bound: u64) -> u64 {
+        self.0 = self.0.wrapping_add(0x9E37_79B9_7F4A_7C15);
+        let mut z = self.0;
+        z = (z ^ (z >> 30)).wrapping_mul(0xBF58_476D_1CE4_E5B9);
+        z = (z ^ (z >> 27)).wrapping_mul(0x94D0_49BB_1331_11EB);
+        (z ^ (z >> 31)) % bound
+    }
+}
+
+fn bytes(hexadecimal: &str) -> Vec<u8> {
+    hexadecimal.split_whitespace().map(|byte| u8::from_str_radix(byte, 16).unwrap()).collect()
+}
+
+fn part(kind: u8, preference: u8, a: i32, b: i32, p: u32) -> Vec<u8> {
+    let mut command = vec![2, kind, preference];
+    command.extend(a.to_le_bytes());
+    command.extend(b.to_le_bytes());
+    command.extend(p.to_le_bytes());
+    command
+}
+
+fn fresh(table: &[&[u8]]) -> Model {
+    load(&[&table.concat()[..], &[5]].concat()).unwrap().model
+}
+
+fn at(mut model: Model, t: u64) -> Model {
+    model.point = Point { t, n: 0 };
+    for part in &mut model.parts {
+        part.local = t / part.ratio;
+    }
+    model
+}
+
+fn counts(answer: &Answer) -> (u8, u64, u32, u32, u64) {
+    (answer.number, answer.step, answer.rounds, answer.revisions, answer.ceiling)
+}
+
+#[test]
+fn the_played_example() {
+    let stream = bytes(
+        "01 00 02 00 FF 01 00 00 00 00 00 00 00 00 00 00 00 02 0B FF 00 00 00 00 00 00 00 00 00 00 00 00 \
+         03 02 00 00 00 03 05 00 00 00 04 00 01 00 05 06 07 00 00 00 06 04 00 00 00 06 01 00 00 00",
+    );
+    let mut out = Vec::new();
+    rehearse(&stream, &mut out).unwrap();
+    assert_eq!(String::from_utf8(out).unwrap(), "5 0 5 2 0 1 5\n7 0 2 2 0 1 7\nrefused 22\n");
+}
+
+#[test]
+fn two_drives_take_three_rounds() {
+    let drive = part(11, 0xFF, 0, 0, 0);
+    let model = fresh(&[
+        &[1, 0],
+        &drive,
+        &bytes("03 03 00 00 00 03 08 00 00 00"),
+        &drive,
+        &bytes("03 03 00 00 00 03 05 00 00 00"),
+    ]);
+    assert_eq!(counts(&advance(model, 9)), (0, 3, 3, 0, 9));
+}
+
+#[test]
+fn a_detector_halves_ceilings() {
+    let mut model = fresh(&[
+        &[1, 0],
+        &part(0, 0xFF, 2, 0, 0),
+        &part(6, 0xFF, -7, 0, 0),
+        &part(8, 0xFF, 0, 0, 1),
+        &[4, 0, 1, 0, 4, 1, 2, 0],
+    ]);
+    for expected in [(0, 2, 3, 2, 2), (0, 1, 4, 3, 1), (0, 1, 4, 3, 1), (0, 0, 2, 0, 8)] {
+        let answer = advance(model, 8);
+        assert_eq!(counts(&answer), expected);
+        model = answer.model;
+    }
+    assert_eq!(model.point, Point { t: 4, n: 1 });
+    assert_eq!(model.parts[2].output, Some(1));
+}
+
+#[test]
+fn local_counts_follow_the_whole_time() {
+    let mut model = fresh(&[&[1, 2], &part(0, 0, 1, 0, 0)]);
+    for expected in [0, 0, 1] {
+        model = advance(model, 40).model;
+        assert_eq!(model.parts[0].local, expected);
+    }
+    let model = at(fresh(&[&[1, 1], &part(11, 0, 0, 0, 0), &bytes("03 02 00 00 00")]), 7);
+    let answer = advance(model, 50);
+    assert_eq!((answer.step, answer.model.parts[0].local), (22, 2));
+}
+
+#[test]
+fn a_constant_into_a_delay_ends_in_21() {
+    let mut model = fresh(&[&[1, 0], &part(0, 0xFF, 1, 0, 0), &part(5, 0xFF, 0, 0, 0), &[4, 0, 1, 0]]);
+    for _ in 0..999 {
+        let answer = advance(model, 5);
+        assert_eq!(counts(&answer), (0, 0, 2, 0, 5));
+        model = answer.model;
+    }
+    let answer = advance(model.clone(), 5);
+    assert_eq!(counts(&answer), (21, 0, 2, 0, 5));
+    assert_eq!(answer.model, model);
+}
+
+#[test]
+fn the_last_tick_is_reached_and_not_passed() {
+    let billion = 1_000_000_000;
+    let model = at(fresh(&[&[1, 0], &part(0, 0xFF, 1, 0, 0)]), LAST_TICK - billion);
+    let answer = advance(model.clone(), billion);
+    assert_eq!(counts(&answer), (0, billion, 1, 0, billion));
+    assert_eq!(answer.model.point.t, LAST_TICK);
+    let model = at(model, LAST_TICK - billion + 1);
+    let answer = advance(model.clone(), billion);
+    assert_eq!(counts(&answer), (23, 0, 0, 0, 0));
+    assert_eq!(answer.model, model);
+    assert_eq!(counts(&advance(model.clone(), 0)), (20, 0, 0, 0, 0));
+    assert_eq!(counts(&advance(model, u64::MAX)), (20, 0, 0, 0, 0));
+}
+
+/// One of every kind, all ports wired, three ratios.
+fn everything() -> Model {
+    fresh(&[
+        &[1, 1],
+        &part(0, 0xFF, 3, 0, 0),
+        &part(1, 2, -2, 0, 0),
+        &part(2, 1, 0, 0, 0),
+        &part(3, 0, 5, -5, 4),
+        &part(4, 1, 7, 0, 3),
+        &part(5, 0, 0, 0, 0),
+        &part(6, 1, 9, 0, 0),
+        &part(7, 2, -9, 0, 0),
+        &part(8, 0, 0, 0, 6),
+        &part(9, 0xFF, 0, 0, 0),
+        &part(10, 0xFF, 0, 0, 0),
+        &part(11, 1, 1, 0, 0),
+        &bytes("03 01 00 00 00 03 02 00 00 00 03 10 00 00 00"),
+        &bytes("04 00 01 00 04 01 02 00 04 03 02 01 04 04 05 00 04 03 06 00 04 03 07 00 04 08 07 01"),
+        &bytes("04 06 08 00 04 05 09 00 04 07 0A 00 04 04 0A 01 04 02 0B 00"),
+    ])
+}
+
+#[test]
+fn unsound_models_get_24_and_come_back_unchanged() {
+    let good = everything();
+    assert!(good.sound());
+    type Edit = (&'static str, fn(&mut Model));
+    let edits: &[Edit] = &[
+        ("no parts", |m| m.parts.clear()),
+        ("no parts and no order", |m| (m.parts, m.order) = (vec![], vec![])),
+        ("too many parts", |m| {
+            m.parts = vec![Part::new(Kind::Constant { a: 0 }, None); MOST_PARTS + 1];
+            m.order = (0..MOST_PARTS + 1).collect();
+        }),
+        ("default magnitude", |m| m.default_magnitude = 16),
+        ("preference", |m| m.parts[1].preference = Some(16)),
+        ("no preference but a ratio", |m| m.parts[3].preference = None),
+        ("ratio", |m| m.parts[0].ratio = 10),
+        ("ratio 0", |m| m.parts[0].ratio = 0),
+        ("operand a", |m| m.parts[0].kind = Kind::Constant { a: 1_000_000_001 }),
+        ("operand b", |m| m.parts[3].kind = Kind::Square { a: 5, b: i32::MIN, p: 4 }),
+        ("operand p 0", |m| m.parts[8].kind = Kind::Detector { p: 0 }),
+        ("operand p", |m| m.parts[8].kind = Kind::Detector { p: 1_000_000_001 }),
+        ("P", |m| {
+            m.default_magnitude = 15;
+            for part in &mut m.parts {
+                part.preference = None;
+                part.ratio = 1;
+            }
+            m.parts[3].preference = Some(5);
+            m.parts[3].ratio = 10_000_000_000;
+            m.parts[3].kind = Kind::Square { a: 0, b: 0, p: 100_000_001 };
+        }),
+        ("span 0", |m| m.parts[11].kind = Kind::Drive { a: 1, spans: vec![0] }),
+        ("span", |m| m.parts[11].kind = Kind::Drive { a: 1, spans: vec![1_000_000_001] }),
+        ("equal spans", |m| m.parts[11].kind = Kind::Drive { a: 1, spans: vec![2, 2] }),
+        ("nine spans", |m| m.parts[11].kind = Kind::Drive { a: 1, spans: (1..10).collect() }),
+        ("unknown source", |m| m.parts[6].inputs[0] = Some(12)),
+        ("unknown source far off", |m| m.parts[1].inputs[0] = Some(usize::MAX)),
+        ("port 0 of a constant", |m| m.parts[0].inputs[0] = Some(1)),
+        ("port 1 of an integrator", |m| m.parts[6].inputs[1] = Some(1)),
+        ("loop", |m| m.parts[1].inputs[0] = Some(2)),
+        ("order short", |m| m.order.truncate(11)),
+        ("order long", |m| m.order.push(0)),
+        ("order twice", |m| m.order[0] = m.order[1]),
+        ("order unknown", |m| m.order[0] = 12),
+        ("order swapped", |m| m.order.swap(0, 3)),
+        ("t", |m| *m = at(m.clone(), LAST_TICK + 1)),
+        ("n", |m| m.point.n = 1000),
+        ("local count", |m| m.parts[0].local = 1),
+        ("local count far off", |m| m.parts[3].local = u64::MAX),
+        ("local count behind", |m| m.point.t = 100),
+        ("output", |m| m.parts[0].output = Some(-1_000_000_001)),
+        ("held number", |m| m.parts[7].held = i32::MAX),
+        ("held number of a kind that holds none", |m| m.parts[0].held = i32::MIN),
+        ("held signal", |m| m.parts[9].kept = Some(1_000_000_001)),
+        ("held signal of a kind that holds none", |m| m.parts[0].kept = Some(1_000_000_001)),
+    ];
+    for (name, edit) in edits {
+        let mut model = good.clone();
+        edit(&mut model);
+        assert_ne!(model, good, "{name}");
+        for w in [0, 1, u64::MAX] {
+            let answer = advance(model.clone(), w);
+            assert_eq!(counts(&answer), (24, 0, 0, 0, 0), "{name}");
+            assert_eq!(answer.model, model, "{name}");
+        }
+    }
+}
+
+#[test]
+fn sound_models_that_no_run_reaches_are_accepted() {
+    let edits: &[fn(&mut Model)] = &[
+        |m| m.parts[0].output = Some(-1_000_000_000),
+        |m| m.parts[3].output = None,
+        |m| m.parts[0].mark = Some(Side::Negative),
+        |m| m.parts[8].mark = Some(Side::Negative),
+        |m| m.parts[8].side = None,
+        |m| m.parts[9].kept = Some(1_000_000_000),
+        |m| m.parts[0].held = -1_000_000_000,
+        |m| *m = at(m.clone(), LAST_TICK - 10),
+        |m| m.point.n = 999,
+    ];
+    for edit in edits {
+        let mut model = everything();
+        edit(&mut model);
+        let answer = advance(model, 10);
+        assert!(matches!(answer.number, 0 | 21 | 22));
+        assert!(answer.model.sound());
+    }
+}
+
+#[test]
+fn what_loading_and_advancing_give_is_sound() {
+    let mut random = Random(1);
+    let mut model = everything();
+    for _ in 0..2000 {
+        let w = 1 + random.below(60);
+        let answer = advance(model, w);
+        assert!(answer.model.sound());
+        model = answer.model;
+    }
+    assert!(model.point.t > 1000);
+}
+
+#[test]
+fn a_drives_longest_step_is_the_first_accepted_from_above() {
+    let mut random = Random(2);
+    for _ in 0..20_000 {
+        let mut spans: Vec<u32> = (0..random.below(9)).map(|_| 1 + random.below(40) as u32).collect();
+        spans.sort_unstable();
+        spans.dedup();
+        let ratio = [1, 10, 100][random.below(3) as usize];
+        let t = random.below(5000);
+        let mut drive = Part::new(Kind::Drive { a: 0, spans: spans.clone() }, Some(0));
+        (drive.ratio, drive.local) = (ratio, t / ratio);
+        let h = random.below(60 * ratio);
+        let accepts = |&step: &u64| {
+            let d = local_step(&drive, t, step);
+            d == 0 || spans.iter().any(|&span| u64::from(span) == d)
+        };
+        let tried = (0..=h).rev().find(accepts).unwrap();
+        assert_eq!(longest_of_drive(&drive, t, h), tried, "{drive:?} at {t}, {h}");
+    }
+}
+
+#[test]
+fn a_drive_of_the_largest_numbers_is_asked_without_a_fault() {
+    let mut drive = Part::new(Kind::Drive { a: 0, spans: vec![1, 1_000_000_000] }, Some(0));
+    drive.ratio = 1_000_000_000_000_000;
+    for t in [0, 1, LAST_TICK - 1_000_000_000] {
+        drive.local = t / drive.ratio;
+        assert_eq!(longest_of_drive(&drive, t, 1_000_000_000), 1_000_000_000);
+    }
+}
+
+#[test]
+fn an_order_is_recognised_exactly_where_it_is_the_one_built() {
+    let mut random = Random(3);
+    let (mut accepted, mut loops) = (0, 0);
+    for _ in 0..3000 {
+        let count = 1 + random.below(6) as usize;
+        let mut parts = vec![Part::new(Kind::Adder, None); count];
+        for part in &mut parts {
+            for input in &mut part.inputs {
+                *input = (random.below(3) == 0).then(|| random.below(count as u64) as usize);
+            }
+        }
+        let built = order(&parts);
+        loops += usize::from(built.is_none());
+        let mut given: Vec<usize> = (0..count).collect();
+        for_each_permutation(&mut given, 0, &mut |given| {
+            let same = built.as_deref() == Some(given);
+            accepted += usize::from(same);
+            assert_eq!(is_the_order(&parts, given), same, "{given:?}, not {built:?}");
+        });
+    }
+    assert!(accepted > 1000 && loops > 100);
+}
+
+fn for_each_permutation(items: &mut Vec<usize>, from: usize, see: &mut impl FnMut(&[usize])) {
+    if from == items.len() {
+        return see(items);
+    }
+    for i in from..items.len() {
+        items.swap(from, i);
+        for_each_permutation(items, from + 1, see);
+        items.swap(from, i);
+    }
+}
+
+#[test]
+fn points_order_by_tick_then_microstep() {
+    assert!(Point::START < Point { t: 0, n: 1 } && Point { t: 0, n: 999 } < Point { t: 1, n: 0 });
+    assert!(Point { t: LAST_TICK, n: 998 } < Point::LAST);
+}
