@@ -9,7 +9,7 @@ use lib.Dec.{eqb}
 use borrow.Author.Tests.{le-leb}
 use Rattle.machine.specs.declared.model.Loaded.{Loaded}
 use Rattle.machine.specs.Table.{Table}
-use Rattle.machine.specs.Load.{Reading, Read, ended, end-command, end-refusal, command-width, whole-command}
+use Rattle.machine.specs.Load.{Reading, ended, end-command, end-refusal, command-width, whole-command}
 use Rattle.soundness.specs.Accepted.{Readable}
 use Rattle.table.specs.declared.table.TableRead.{TableRead}
 use Rattle.table.specs.Concluded.{Ended, EndedRead, end-loaded, table-read}

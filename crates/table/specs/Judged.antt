@@ -2,7 +2,7 @@
 -- free. Assumes nothing.
 use Prim.Native.Nat.{ℕ, _+_, _-_, _≤_, _<_}
 use native.Mathlib.Omega.{arith}
-use mathlib.Core.Path.{_≡_, refl, _∙_, sym, ap}
+use mathlib.Core.Path.{_≡_, _∙_, sym, ap}
 use mathlib.Core.Bool.{Bool, true, false, cond, and-eq-true-iff}
 use mathlib.Core.List.{List}
 use mathlib.Core.Logic.{_⊎_, inl, inr}
@@ -18,13 +18,11 @@ use Rattle.laws.specs.Lists.{all-at}
 use Rattle.soundness.specs.Facts.{ComponentFits}
 use Rattle.soundness.specs.Accepted.{Readable}
 use Rattle.reading.specs.declared.progress.Progress.{Progress}
-use Rattle.reading.specs.declared.command.Step.{Step}
 use Rattle.reading.specs.Progress.{reading-of}
 use Rattle.operands.specs.Refusals.{command-number, placed}
 use Rattle.reading.specs.Rows.{length-reading}
-use Rattle.reading.specs.Spanned.{last-place, span-count}
-use Rattle.reading.specs.Steps.{step-of}
-use Rattle.table.specs.declared.turn.Turn.{Turn}
+use Rattle.reading.specs.Spanned.{last-place}
+use Rattle.table.specs.declared.turn.TurnRead.{TurnRead}
 use Rattle.table.specs.Concluded.{end-loaded}
 use Rattle.table.specs.Turning.{Room, Spannable, rows-behind, sized-command}
 use Rattle.table.specs.Turned.{Placed, turn-of}
@@ -60,7 +58,7 @@ pub judged-placed : (bs : List ℕ) (at : ℕ) (progress : Progress) (rows : Lis
 unfolding reading-of
 judged-placed bs at progress rows b here byte none = turn-judged bs at (reading-of progress rows) here ∙ rw (← byte, none)
 
-module _ (at : ℕ) (progress : Progress) (rows : List (List ℕ)) (r : Turn) where
+module _ (at : ℕ) (progress : Progress) (rows : List (List ℕ)) (r : TurnRead) where
   -- a turn that is refused
   pub turn-refused : (r .number ≡ 0 → ⊥) → turn-of at progress rows r ≡ ended (refused (r .number) (r .position))
   unfolding turn-of
@@ -76,16 +74,6 @@ module _ (at : ℕ) (progress : Progress) (rows : List (List ℕ)) (r : Turn) wh
       turn-of at progress rows r ≡ onward (r .position) (reading-of (r .progress) (rows-behind (r .byte) progress rows (r .span)))
   unfolding turn-of
   turn-onward none other = rw (eq-eqb (r .number) 0 none, ne-eqb (r .byte) 5 other)
-
--- the step of a command that is refused, and of one that reading goes on behind
-pub step-refused : (rows : List (List ℕ)) (at : ℕ) (step : Step) → (step .number ≡ 0 → ⊥) → step-of rows at step ≡ ended (refused (step .number) at)
-unfolding step-of
-step-refused rows at step some = rw (ne-eqb (step .number) 0 some)
-
-pub step-onward : (rows : List (List ℕ)) (at : ℕ) (step : Step) → step .number ≡ 0 →
-    step-of rows at step ≡ onward (step .next) (reading-of (step .progress) rows)
-unfolding step-of
-step-onward rows at step none = rw (eq-eqb (step .number) 0 none)
 
 -- reading goes on where there is no refusal
 goes-on : (n at next : ℕ) (rd : Reading) (further : ℕ) (then : Reading) → unless-refused n at next rd ≡ onward further then → n ≡ 0
@@ -136,7 +124,7 @@ span-room bs at progress rows further then few kept some h =
     record { some = some; left = omega arith }
 
 -- the place that a turn's Span asks for
-pub placed-room : (bs : List ℕ) (at : ℕ) (progress : Progress) (rows : List (List ℕ)) (b : ℕ) (r : Turn) →
+pub placed-room : (bs : List ℕ) (at : ℕ) (progress : Progress) (rows : List (List ℕ)) (b : ℕ) (r : TurnRead) →
     progress .count ≤ length (progress .parts) → Readable (reading-of progress rows) → (b ≡ 3 → Spannable progress) →
     Placed bs at progress rows b r → r .number ≡ 0 → r .byte ≡ 3 → Room progress
 placed-room bs at progress rows b r few kept asked p none e =

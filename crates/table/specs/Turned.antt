@@ -8,12 +8,12 @@ use lib.Dec.{eqb}
 use Rattle.machine.specs.Load.{Read, onward, ended, refused, end-byte, span-byte, read-turn}
 use Rattle.reading.specs.declared.progress.Progress.{Progress}
 use Rattle.reading.specs.Progress.{reading-of}
-use Rattle.table.specs.declared.turn.Turn.{Turn}
+use Rattle.table.specs.declared.turn.TurnRead.{TurnRead}
 use Rattle.table.specs.Concluded.{end-loaded}
 use Rattle.table.specs.Turning.{Room, rows-behind, sized-command}
 
 -- the turn is refused, or is End's, or reading goes on behind the command
-unfoldable pub turn-of : ℕ → Progress → List (List ℕ) → Turn → Read
+unfoldable pub turn-of : ℕ → Progress → List (List ℕ) → TurnRead → Read
 turn-of at progress rows r =
     cond (eqb (r .number) 0)
     (cond (eqb (r .byte) end-byte)
@@ -22,13 +22,13 @@ turn-of at progress rows r =
     (ended (refused (r .number) (r .position)))
 
 -- the answer to the command with byte b, which is known and in place
-pub record Placed (bs : List ℕ) (at : ℕ) (progress : Progress) (rows : List (List ℕ)) (b : ℕ) (r : Turn) : Type 0 where
+pub record Placed (bs : List ℕ) (at : ℕ) (progress : Progress) (rows : List (List ℕ)) (b : ℕ) (r : TurnRead) : Type 0 where
   pub is : sized-command bs at (reading-of progress rows) b ≡ turn-of at progress rows r
   pub byte : r .byte ≡ b
   pub few : r .progress .count ≤ 32
 
 -- the answer of a turn; where it is not refused there is a byte, and a Span's place is left
-pub record Turned (bs : List ℕ) (at : ℕ) (progress : Progress) (rows : List (List ℕ)) (r : Turn) : Type 0 where
+pub record Turned (bs : List ℕ) (at : ℕ) (progress : Progress) (rows : List (List ℕ)) (r : TurnRead) : Type 0 where
   pub is : read-turn bs at (reading-of progress rows) ≡ turn-of at progress rows r
   pub here : r .number ≡ 0 → at < length bs
   pub room : r .number ≡ 0 → r .byte ≡ span-byte → Room progress

@@ -84,9 +84,9 @@ pub fn rows_behind(
     with_span(rows, k, c.span_count, v)
 }
 
-// What a turn comes to: a refusal's number, 0 meaning none, and its position. Where there is none, the command's byte; and behind any
+// What a turn of reading comes to: a refusal's number, 0 meaning none, and its position. Where there is none, the command's byte; and behind any
 // command but End the position and the progress, and the span that goes into the last part's row.
-pub struct Turn {
+pub struct TurnRead {
     pub number: u64,
     pub position: usize,
     pub byte: u8,
@@ -95,12 +95,12 @@ pub struct Turn {
 }
 
 // The turn of the command with byte b, which is known and in place.
-fn placed(s: &[u8], at: usize, progress: Progress, rows: [[u32; SPANS]; PARTS], b: u8) -> Turn
+fn placed(s: &[u8], at: usize, progress: Progress, rows: [[u32; SPANS]; PARTS], b: u8) -> TurnRead
     requires { ⌜ (at < length (now s)) × (progress .count ≤ 32) × (0 < b) × (b ≤ 5) × (b ≡ 3 → Spannable progress) ⌝ }
     ensures { λ r. ⌜ Placed (now (s .entry)) at progress rows b r ⌝ }
 {
     if b == 5 {
-        return Turn {
+        return TurnRead {
             number: 0,
             position: at,
             byte: b,
@@ -111,7 +111,7 @@ fn placed(s: &[u8], at: usize, progress: Progress, rows: [[u32; SPANS]; PARTS], 
     let found = command(s, at, progress, rows, b);
     let step = found.step;
     if step.number != 0 {
-        return Turn {
+        return TurnRead {
             number: step.number,
             position: at,
             byte: b,
@@ -120,7 +120,7 @@ fn placed(s: &[u8], at: usize, progress: Progress, rows: [[u32; SPANS]; PARTS], 
         };
     }
     let then = step.progress;
-    Turn {
+    TurnRead {
         number: 0,
         position: step.next,
         byte: b,
@@ -130,12 +130,12 @@ fn placed(s: &[u8], at: usize, progress: Progress, rows: [[u32; SPANS]; PARTS], 
 }
 
 // The turn at a position, behind the progress and its rows.
-pub fn turn_at(s: &[u8], at: usize, progress: Progress, rows: [[u32; SPANS]; PARTS]) -> Turn
+pub fn turn_at(s: &[u8], at: usize, progress: Progress, rows: [[u32; SPANS]; PARTS]) -> TurnRead
     requires { ⌜ (progress .count ≤ 32) × Readable (reading-of progress rows) ⌝ }
     ensures { λ r. ⌜ Turned (now (s .entry)) at progress rows r ⌝ }
 {
     if at >= s.len() {
-        return Turn {
+        return TurnRead {
             number: 1,
             position: s.len(),
             byte: 0,
@@ -146,7 +146,7 @@ pub fn turn_at(s: &[u8], at: usize, progress: Progress, rows: [[u32; SPANS]; PAR
     let b = s[at];
     let number = command_refusal(progress.begun, progress.spannable, b);
     if number != 0 {
-        return Turn {
+        return TurnRead {
             number: number,
             position: at,
             byte: b,

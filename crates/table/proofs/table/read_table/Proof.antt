@@ -9,7 +9,7 @@ use borrow.Author.Needs.{needs}
 use Rattle.machine.specs.Load.{load, refused}
 use Rattle.reading.specs.declared.progress.Progress.{Progress}
 use Rattle.reading.specs.Progress.{reading-of}
-use Rattle.table.specs.declared.turn.Turn.{Turn}
+use Rattle.table.specs.declared.turn.TurnRead.{TurnRead}
 use Rattle.table.specs.Concluded.{end-loaded, ended-concluded, refused-concluded}
 use Rattle.table.specs.Ending.{kept-ended}
 use Rattle.table.specs.Judged.{turn-ended, turn-onward, turn-refused}
@@ -19,7 +19,7 @@ use Rattle.table.specs.Turning.{rows-behind}
 use Rattle.table.proofs.table.read_table.Statement.{statement}
 use Rattle.table.proofs.table.read_table.Tie as tie
 
-module _ (bs : List ℕ) (at : ℕ) (progress : Progress) (rows : List (List ℕ)) (r : Turn) (s : Stands bs at (reading-of progress rows)) (t : Turned bs at progress rows r) where
+module _ (bs : List ℕ) (at : ℕ) (progress : Progress) (rows : List (List ℕ)) (r : TurnRead) (s : Stands bs at (reading-of progress rows)) (t : Turned bs at progress rows r) where
   -- a turn that is refused is what loading comes to
   refused-loads : (r .number ≡ 0 → ⊥) → load bs ≡ refused (r .number) (r .position)
   refused-loads some = stands-ended bs at (reading-of progress rows) _ s (t .is ∙ turn-refused at progress rows r some)

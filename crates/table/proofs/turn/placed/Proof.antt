@@ -1,11 +1,34 @@
 -- `placed` is the definition: End is judged behind the table, and any other command is refused or leaves what its step says.
+use Prim.Native.Nat.{ℕ}
 use native.Mathlib.Omega.{arith}
-use mathlib.Core.Path.{_∙_, refl, sym}
-use borrow.Author.Needs.{needs}
+use mathlib.Core.Path.{_≡_, _∙_, refl, sym}
+use mathlib.Core.List.{List}
+use borrow.Author.Tests.{eq-eqb, ne-eqb}
+use Rattle.reading.specs.declared.command.Step.{Step}
+use Rattle.reading.specs.declared.progress.Progress.{Progress}
+use Rattle.reading.specs.Progress.{reading-of}
+use Rattle.reading.specs.Steps.{step-of}
 use Rattle.table.specs.Ending.{end-judged}
-use Rattle.table.specs.Judged.{step-onward, step-refused, turn-ended, turn-onward, turn-refused}
+use Rattle.table.specs.Judged.{turn-ended}
+use Rattle.table.specs.Turned.{turn-of}
+use Rattle.table.specs.Turning.{rows-behind, sized-command}
 use Rattle.table.proofs.turn.placed.Statement.{statement}
 use Rattle.table.proofs.turn.placed.Tie as tie
+
+-- the turn of a command that is refused, and of one that reading goes on behind
+refused-as : (bs : List ℕ) (at : ℕ) (progress then : Progress) (rows : List (List ℕ)) (b v w : ℕ) (step : Step) →
+    step-of (rows-behind b progress rows v) at step ≡ sized-command bs at (reading-of progress rows) b → (step .number ≡ 0 → ⊥) →
+    sized-command bs at (reading-of progress rows) b ≡
+    turn-of at progress rows (record { number = step .number; position = at; byte = b; span = w; progress = then })
+unfolding step-of turn-of
+refused-as bs at progress then rows b v w step h some = sym h ∙ rw (ne-eqb (step .number) 0 some)
+
+onward-as : (bs : List ℕ) (at : ℕ) (progress : Progress) (rows : List (List ℕ)) (b v : ℕ) (step : Step) →
+    step-of (rows-behind b progress rows v) at step ≡ sized-command bs at (reading-of progress rows) b → step .number ≡ 0 → (b ≡ 5 → ⊥) →
+    sized-command bs at (reading-of progress rows) b ≡
+    turn-of at progress rows (record { number = 0; position = step .next; byte = b; span = v; progress = step .progress })
+unfolding step-of turn-of
+onward-as bs at progress rows b v step h none other = sym h ∙ rw (eq-eqb (step .number) 0 none, ne-eqb b 5 other)
 
 returns : tie.Need-returns
 returns c =
@@ -27,29 +50,14 @@ command-requires c κs =
 returns-2 : tie.Need-returns-2
 returns-2 c =
     let start = c .before .before .before .before .before .before in
-    let args = start .args in
     let found = c .before .before .before .command in
-    record {
-      is =
-          sym (found .ensures .0) ∙ step-refused _ (args .at) (found .result .step) (c .if2 .taken) ∙
-          sym (turn-refused (args .at) (args .progress) (args .rows) _ (c .if2 .taken));
-      byte = refl;
-      few = start .pre .1;
-    }
+    record { is = refused-as _ _ _ _ _ _ _ _ _ (found .ensures .0) (c .if2 .taken); byte = refl; few = start .pre .1 }
 
 returns-3 : tie.Need-returns-3
 returns-3 c =
-    let start = c .before .before .before .before .before .before .before in
-    let args = start .args in
     let found = c .before .before .before .before .command in
     let other = c .before .before .before .before .before .if1 .left in
-    record {
-      is =
-          sym (found .ensures .0) ∙ step-onward _ (args .at) (found .result .step) (c .before .if2 .left) ∙
-          sym (turn-onward (args .at) (args .progress) (args .rows) _ refl other);
-      byte = refl;
-      few = found .ensures .1;
-    }
+    record { is = onward-as _ _ _ _ _ _ _ (found .ensures .0) (c .before .if2 .left) other; byte = refl; few = found .ensures .1 }
 
 pub placed-spec : {M : Type 1} → statement M
 placed-spec = tie.close (tie.spec returns command-requires returns-2 returns-3)

@@ -1,5 +1,5 @@
 -- `turn_at` is the definition: past the stream's end it is cut; a command that is unknown or out of place is refused; any other is `placed`'s.
-use Prim.Native.Nat.{_≤_, _<_}
+use Prim.Native.Nat.{_≤_}
 use native.Mathlib.Omega.{arith}
 use mathlib.Core.Path.{_≡_, _∙_, refl, sym}
 use lib.ListN.{length, length-map}
