@@ -24,7 +24,9 @@ pub record PlayedOne (bs : List ℕ) (at : ℕ) (m : Model) (before : List ℕ) 
   pub room : r .used ≤ length after
   pub later : r .ended ≡ false → (at < r .at) × (at < length bs)
 
--- Some score commands were played: all lines from a position on are those in the buffer and those still to come.
+-- Some score commands were played: all lines from a position on are those in the buffer and those still to come. Where the score did not end and the
+-- buffer has room for a line, the next command lies later, and the first one lay within the stream.
 pub record PlayedSome (bs : List ℕ) (at : ℕ) (m : Model) (buffer : List ℕ) (r : Played) : Type 0 where
   pub lines : lines-at bs at m ≡ take (r .used) buffer ++ to-come bs r
   pub room : r .used ≤ length buffer
+  pub later : r .ended ≡ false → 1024 ≤ length buffer → (at < r .at) × (at < length bs)

@@ -7,9 +7,6 @@ use score::line::write_refused_at;
 
 mod play;
 
-// How many score commands the bytes that are read may hold, and more.
-const MOST: usize = 65536;
-
 // The line of a refused load.
 fn print_refused(number: u64, position: usize) {
     let mut line = [0u8; 64];
@@ -24,8 +21,7 @@ fn print_score(stream: &[u8], position: usize, model: Model) {
     let mut lines = io::large_buffer();
     let mut at = position;
     let mut m = model;
-    let mut left = MOST;
-    while left > 0 {
+    loop {
         let played = play_some(stream, at, m, &mut lines);
         let used = played.used;
         if !io::write_all(1, &lines[..used]) {
@@ -37,7 +33,6 @@ fn print_score(stream: &[u8], position: usize, model: Model) {
         at = played.at;
         let next = played.model;
         m = next;
-        left -= 1;
     }
 }
 

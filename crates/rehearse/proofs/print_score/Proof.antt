@@ -1,15 +1,17 @@
--- `print_score` is safe and ends. The invariant: the buffer keeps its length; the measure is how many turns are left.
+-- `print_score` is safe and ends. The invariant: the buffer keeps its length; the measure is what is left of the stream, since the next command of a
+-- score that did not end lies later.
 use native.Mathlib.Omega.{arith}
+use Prim.Native.Nat.{_-_}
 use mathlib.Core.Path.{_≡_}
 use lib.ListN.{length, length-take}
 use Rattle.rehearse.proofs.print_score.Statement.{statement}
 use Rattle.rehearse.proofs.print_score.Tie as tie
 
 abbrev Inv-loop : tie.InvT-loop
-Inv-loop stream position lines₀ at₀ m₀ left₀ lines at m left = length lines ≡ 65536
+Inv-loop stream position lines₀ at₀ m₀ lines at m = length lines ≡ 65536
 
 abbrev μ-loop : tie.MeasureT-loop
-μ-loop stream position lines₀ at₀ m₀ left₀ lines at m left = left
+μ-loop stream position lines₀ at₀ m₀ lines at m = length stream - at
 
 large-buffer-requires : tie.Need-large-buffer-requires Inv-loop μ-loop
 large-buffer-requires c κs = tt
@@ -38,17 +40,14 @@ returns c = tt
 returns-2 : tie.Need-returns-2 Inv-loop μ-loop
 returns-2 c = tt
 
-sub-left : tie.Need-sub-left Inv-loop μ-loop
-sub-left c = omega arith
-
 loop-less : tie.Need-loop-less Inv-loop μ-loop
-loop-less c = omega arith
+loop-less c =
+    let call = c .before .before .before .before .before .before in
+    let later = call .play-some .ensures .later (c .before .if2 .left) (omega arith) in
+    omega (arith, later .0, later .1)
 
 loop-again : tie.Need-loop-again Inv-loop μ-loop
 loop-again c = omega arith
-
-returns-3 : tie.Need-returns-3 Inv-loop μ-loop
-returns-3 c = tt
 
 pub print-score-spec : {M : Type 1} → statement M
 print-score-spec =
@@ -65,7 +64,5 @@ print-score-spec =
     write-all-requires
     returns
     returns-2
-    sub-left
     loop-less
-    loop-again
-    returns-3)
+    loop-again)
