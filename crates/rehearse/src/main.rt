@@ -1,9 +1,9 @@
 // The program `rehearse`: loads the table that its standard input holds and plays the score behind it. It
 // prints a line for each score command, and stops at a bad byte.
 use crate::play::play_some;
+use lines::line::write_refused_at;
 use loading::load;
 use machine::model::Model;
-use score::line::write_refused_at;
 
 mod play;
 

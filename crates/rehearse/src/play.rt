@@ -1,16 +1,16 @@
 // Playing a score: its commands in turn, each with its line, as many as a buffer has room for.
+use lines::line::write_answer;
+use lines::line::write_refused_at;
 use machine::model::Answer;
 use machine::model::Model;
 use machine::model::Score;
 use master::advance;
 use score::command::score_at;
-use score::line::write_answer;
-use score::line::write_refused_at;
 ghost use Prim.Native.Nat.{_+_, _≤_};
 ghost use lib.ListN.{length};
 ghost use Rattle.machine.specs.Model.{trimmed-answer};
 ghost use Rattle.machine.specs.Rehearse.{answer-line, refused-at-line};
-ghost use Rattle.score.specs.Put.{Put};
+ghost use Rattle.lines.specs.Put.{Put};
 ghost use Rattle.rehearse.specs.Playing.{PlayedOne, PlayedSome};
 
 // How many bytes every line fits.

@@ -1,5 +1,2 @@
-// The text of a rehearsal: the score's commands as they are read, and the lines that answer them as
-// they are written. Its contracts cite the machine's definitions and `specs/Written.antt`.
+// The score behind a table: its commands as they are read. Its contract cites the machine's definitions.
 pub mod command;
-pub mod line;
-pub mod text;

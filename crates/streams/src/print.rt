@@ -1,4 +1,5 @@
 // What was loaded, as text on standard output.
+use lines::text::magnitude;
 use machine::model::Loaded;
 use machine::model::Model;
 use machine::model::PARTS;
@@ -11,7 +12,6 @@ use machine::part::Side;
 use machine::part::Source;
 use machine::part::State;
 use machine::signal::Signal;
-use score::text::magnitude;
 
 // A text.
 fn print(text: &[u8]) {

@@ -1,0 +1,11 @@
+-- What was written is as long as its text. Assumes nothing.
+use Prim.Native.Nat.{ℕ, _≤_}
+use mathlib.Core.List.{List}
+use lib.ListN.{length}
+use Rattle.lines.specs.declared.line.Written.{Written}
+use Rattle.lines.specs.Written.{WrittenAs}
+
+-- a text that is written, with a bound of its length
+pub bounded : {text before after : List ℕ} {w : Written} (n : ℕ) → WrittenAs text before after w → length text ≤ n →
+    WrittenAs text before after w × (w .length ≤ n)
+bounded n written short = (written, rw (written .answer) short)

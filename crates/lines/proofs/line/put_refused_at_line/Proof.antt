@@ -1,0 +1,47 @@
+-- `put_refused_at_line` puts what every refusal begins with, the text ` at `, the position's digits and a line feed, one behind the other.
+use mathlib.Core.List.{append-assoc}
+use borrow.Author.Needs.{needs}
+use Rattle.machine.specs.Rehearse.{refused-at-line}
+use Rattle.lines.proofs.Pieces.{put-then}
+use Rattle.lines.proofs.line.put_refused_at_line.Statement.{statement}
+use Rattle.lines.proofs.line.put_refused_at_line.Tie as tie
+
+put-refusal-requires : tie.Need-put-refusal-requires
+put-refusal-requires c κs = search needs
+
+slice-aggregate-put-text : tie.Need-slice-aggregate-put-text
+slice-aggregate-put-text c = search needs
+
+put-text-requires : tie.Need-put-text-requires
+put-text-requires c κs = search needs
+
+put-decimal-requires : tie.Need-put-decimal-requires
+put-decimal-requires c κs = search needs
+
+put-byte-requires : tie.Need-put-byte-requires
+put-byte-requires c κs = search needs
+
+same-length : tie.Need-same-length
+same-length c = search needs
+
+returns : tie.Need-returns
+unfolding refused-at-line
+returns c =
+    let last = c .before .before in
+    let third = last .before .before .before .before in
+    let second = third .before .before .before .before in
+    let first = second .before .before .before .before .before in
+    let put = put-then (put-then (put-then (first .put-refusal .ensures) (second .put-text .ensures)) (third .put-decimal .ensures)) (last .put-byte .ensures) in
+    simp append-assoc at put
+
+pub put-refused-at-line-spec : {M : Type 1} → statement M
+put-refused-at-line-spec =
+    tie.close
+    (tie.spec
+    put-refusal-requires
+    slice-aggregate-put-text
+    put-text-requires
+    put-decimal-requires
+    put-byte-requires
+    same-length
+    returns)

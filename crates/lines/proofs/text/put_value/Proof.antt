@@ -1,0 +1,80 @@
+-- `put_value` puts a hyphen before the magnitude of a negative value, and the magnitude alone of another.
+use native.Mathlib.Omega.{arith}
+use mathlib.Core.Path.{_≡_, refl}
+use mathlib.Core.Bool.{true, false, true≢false}
+use mathlib.Core.List.{_∷_}
+use lib.IntN.{ℤ, pos, negsuc, natAbs}
+use lib.Signed.{ltZ}
+use mir.Syntax.{w64}
+use mir.ValLaws.{toZ-ofZ}
+use borrow.Author.Needs.{needs}
+use borrow.Author.Tests.{ltb-true}
+use Rattle.machine.specs.Rehearse.{decimal, hyphen, signed-decimal}
+use Rattle.lines.proofs.Pieces.{put-then, put-as}
+use Rattle.lines.proofs.text.put_value.Statement.{statement}
+use Rattle.lines.proofs.text.put_value.Tie as tie
+
+-- a value's text, by its sign
+of-negative : (v : ℤ) → ltZ v (pos 0) ≡ true → signed-decimal v ≡ hyphen ∷ decimal (natAbs v)
+unfolding signed-decimal
+of-negative (pos n) negative = absurd (omega (arith, ltb-true n 0 negative))
+of-negative (negsuc n) negative = refl
+
+of-other : (v : ℤ) → ltZ v (pos 0) ≡ false → signed-decimal v ≡ decimal (natAbs v)
+unfolding signed-decimal
+of-other (pos n) left = refl
+of-other (negsuc n) left = absurd (true≢false left)
+
+put-byte-requires : tie.Need-put-byte-requires
+put-byte-requires c κs = search needs
+
+magnitude-requires : tie.Need-magnitude-requires
+magnitude-requires c κs = search needs
+
+put-decimal-requires : tie.Need-put-decimal-requires
+put-decimal-requires c κs = search needs
+
+same-length : tie.Need-same-length
+same-length c = search needs
+
+returns : tie.Need-returns
+returns c =
+    let call = c .before .before in
+    let hyphened = call .before .before .before .before .before in
+    let test = hyphened .before .before in
+    let start = test .before .before in
+    let back = toZ-ofZ w64 (start .args .v) (start .fits .v) in
+    rw (of-negative (start .args .v) (rw back at (test .if1 .taken)), ← (rw back at (call .before .magnitude .ensures)))
+    (put-then (hyphened .put-byte .ensures) (call .put-decimal .ensures))
+
+magnitude-requires-2 : tie.Need-magnitude-requires-2
+magnitude-requires-2 c κs = search needs
+
+put-decimal-requires-2 : tie.Need-put-decimal-requires-2
+put-decimal-requires-2 c κs = search needs
+
+same-length-2 : tie.Need-same-length-2
+same-length-2 c = search needs
+
+returns-2 : tie.Need-returns-2
+returns-2 c =
+    let call = c .before .before in
+    let test = call .before .before .before in
+    let start = test .before .before in
+    let back = toZ-ofZ w64 (start .args .v) (start .fits .v) in
+    rw (of-other (start .args .v) (rw back at (test .if1 .left)), ← (rw back at (call .before .magnitude2 .ensures)))
+    (put-as (call .put-decimal2 .ensures) refl (omega arith))
+
+pub put-value-spec : {M : Type 1} → statement M
+put-value-spec =
+    tie.close
+    (tie.spec
+    put-byte-requires
+    magnitude-requires
+    put-decimal-requires
+    same-length
+    returns
+    magnitude-requires-2
+    put-decimal-requires-2
+    same-length-2
+    returns-2)

@@ -1,0 +1,155 @@
+// The lines of a rehearsal, each written into a buffer that the caller lends. A line is built in an
+// array of its own, so that its length is known before the buffer is touched. The promises cite the
+// machine's `Rehearse.antt` and `specs/Written.antt`.
+use crate::text::put_byte;
+use crate::text::put_decimal;
+use crate::text::put_output;
+use crate::text::put_text;
+use machine::model::Answer;
+use machine::model::PARTS;
+ghost use mathlib.Core.Path.{_≡_};
+ghost use mathlib.Core.List.{_∷_, [], _++_};
+ghost use Prim.Native.Nat.{_+_, _≤_, min};
+ghost use lib.ListN.{length};
+ghost use Rattle.machine.specs.Model.{trimmed-answer};
+ghost use Rattle.machine.specs.Rehearse.{answer-line, blank, decimal, refused-at-line, refused-line, refused-text};
+ghost use Rattle.lines.specs.Put.{Put, numbers-text};
+ghost use Rattle.lines.specs.Written.{WrittenAs};
+
+// How many bytes a line is built in. The longest line of a committed advance has 777: five numbers of
+// 20 digits with four blanks, 32 outputs of 20 characters with a blank before each, and a line feed.
+const ROOM: usize = 1024;
+
+// How many bytes the line of a refusal is built in. The longest has 53: `refused ` and ` at `, two
+// numbers of 20 digits, and a line feed.
+const REFUSAL_ROOM: usize = 64;
+
+// What a writing call answers: 0 and the text's length, or 25 and the length that the buffer needs.
+pub struct Written {
+    pub number: u64,
+    pub length: usize,
+}
+
+// A text into the buffer, where it fits.
+fn write_text(text: &[u8], buf: &mut [u8]) -> Written
+    ensures { λ w. ⌜ WrittenAs (now (text .entry)) (now (buf .entry)) (now (buf .exit)) w ⌝ }
+{
+    if buf.len() < text.len() {
+        return Written {
+            number: 25,
+            length: text.len(),
+        };
+    }
+    Written {
+        number: 0,
+        length: put_text(buf, 0, text),
+    }
+}
+
+// `refused N`, which begins the line of every refusal.
+fn put_refusal(line: &mut [u8], number: u64) -> usize
+    requires { ⌜ 28 ≤ length (now line) ⌝ }
+    ensures { λ r. ⌜ Put 28 (refused-text ++ decimal number) 0 (now (line .entry)) (now (line .exit)) r ⌝ }
+{
+    let at = put_text(line, 0, b"refused ");
+    put_decimal(line, at, number)
+}
+
+// The line of a refused advance.
+fn put_refused_line(line: &mut [u8], number: u64) -> usize
+    requires { ⌜ 29 ≤ length (now line) ⌝ }
+    ensures { λ r. ⌜ Put 29 (refused-line number) 0 (now (line .entry)) (now (line .exit)) r ⌝ }
+{
+    let at = put_refusal(line, number);
+    put_byte(line, at, b'\n')
+}
+
+// The line of a load or score refusal.
+fn put_refused_at_line(line: &mut [u8], number: u64, position: u64) -> usize
+    requires { ⌜ 53 ≤ length (now line) ⌝ }
+    ensures { λ r. ⌜ Put 53 (refused-at-line number position) 0 (now (line .entry)) (now (line .exit)) r ⌝ }
+{
+    let at = put_refusal(line, number);
+    let at = put_text(line, at, b" at ");
+    let at = put_decimal(line, at, position);
+    put_byte(line, at, b'\n')
+}
+
+// A number and a blank.
+fn put_number(line: &mut [u8], at: usize, n: u64) -> usize
+    requires { ⌜ at + 21 ≤ length (now line) ⌝ }
+    ensures { λ r. ⌜ Put 21 (decimal n ++ (blank ∷ [])) at (now (line .entry)) (now (line .exit)) r ⌝ }
+{
+    let next = put_decimal(line, at, n);
+    put_byte(line, next, b' ')
+}
+
+// The numbers that begin the line of a committed advance.
+fn put_numbers(line: &mut [u8], t: u64, n: u64, step: u64, rounds: u64, revisions: u64) -> usize
+    requires { ⌜ 104 ≤ length (now line) ⌝ }
+    ensures { λ r. ⌜ Put 104 (numbers-text t n step rounds revisions) 0 (now (line .entry)) (now (line .exit)) r ⌝ }
+{
+    let at = put_number(line, 0, t);
+    let at = put_number(line, at, n);
+    let at = put_number(line, at, step);
+    let at = put_number(line, at, rounds);
+    put_decimal(line, at, revisions)
+}
+
+// How many of a model's places hold a part: as many as it says, or all.
+fn used(count: usize) -> usize
+    ensures { λ r. ⌜ r ≡ min count 32 ⌝ }
+{
+    if count < PARTS { count } else { PARTS }
+}
+
+// The line of a refused advance.
+fn write_refused(number: u64, buf: &mut [u8]) -> Written
+    ensures { λ w. ⌜ WrittenAs (refused-line number) (now (buf .entry)) (now (buf .exit)) w ⌝ }
+    ensures { λ w. ⌜ w .length ≤ 64 ⌝ }
+{
+    let mut line = [0u8; REFUSAL_ROOM];
+    let end = put_refused_line(&mut line, number);
+    write_text(&line[..end], buf)
+}
+
+// The line of a load or score refusal, at a position of the whole stream.
+pub fn write_refused_at(number: u64, position: usize, buf: &mut [u8]) -> Written
+    ensures { λ w. ⌜ WrittenAs (refused-at-line number position) (now (buf .entry)) (now (buf .exit)) w ⌝ }
+    ensures { λ w. ⌜ w .length ≤ 64 ⌝ }
+{
+    let mut line = [0u8; REFUSAL_ROOM];
+    let end = put_refused_at_line(&mut line, number, position as u64);
+    write_text(&line[..end], buf)
+}
+
+// The line of an answer, whatever numbers it holds.
+pub fn write_answer(answer: Answer, buf: &mut [u8]) -> Written
+    ensures { λ w. ⌜ WrittenAs (answer-line (trimmed-answer answer)) (now (buf .entry)) (now (buf .exit)) w ⌝ }
+    ensures { λ w. ⌜ w .length ≤ 1024 ⌝ }
+{
+    if answer.number != 0 {
+        return write_refused(answer.number, buf);
+    }
+    let model = answer.model;
+    let mut line = [0u8; ROOM];
+    let mut at = put_numbers(
+        &mut line,
+        model.point.t.0,
+        model.point.n,
+        answer.step,
+        answer.rounds,
+        answer.revisions,
+    );
+    let end = used(model.count);
+    let mut i = 0;
+    while i < end {
+        let part = model.parts[i];
+        let state = part.state;
+        let output = state.output;
+        at = put_output(&mut line, at, output);
+        i += 1;
+    }
+    at = put_byte(&mut line, at, b'\n');
+    write_text(&line[..at], buf)
+}
