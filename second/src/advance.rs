@@ -52,32 +52,21 @@ impl Model {
     }
 
     fn run(&mut self, w: u64) -> Outcome {
-        // Within a call the parts stay as they are, so all but the drives reply the same to every question.
-        let Limit { due, limit } = self.limit();
-        let mut drives = [0; MOST_PARTS];
-        let mut drive_count = 0;
-        for (number, part) in self.parts.iter().enumerate() {
-            if let Kind::Drive { .. } = part.kind {
-                drives[drive_count] = number;
-                drive_count += 1;
-            }
-        }
-        let drives = &drives[..drive_count];
-
+        let asked = self.asked();
         let mut made = Outcome { ceiling: w, ..Outcome::default() };
         let mut next = [None; MOST_PARTS];
         loop {
             let mut h = made.ceiling;
             loop {
                 made.rounds += 1;
-                let replies = drives.iter().map(|&number| longest_of_drive(&self.parts[number], self.point.t, h));
-                let least = replies.fold(h.min(limit), u64::min);
+                let replies = asked.drives.iter().map(|drive| longest_of_drive(&self.parts[drive], self.point.t, h));
+                let least = replies.fold(h.min(asked.limit), u64::min);
                 if least == h {
                     break;
                 }
                 h = least;
             }
-            if h == 0 && !due {
+            if h == 0 && !asked.due {
                 return Outcome { number: 22, ..made };
             }
             if h == 0 && self.point.n == LAST_MICROSTEP {
@@ -85,7 +74,7 @@ impl Model {
             }
             let to = self.point.after(h);
             self.outputs_at(to, h, &mut next);
-            if self.parts.iter().any(|part| objects(part, h, &next)) {
+            if asked.detectors.iter().any(|detector| objects(&self.parts[detector], h, &next)) {
                 made.revisions += 1;
                 made.ceiling = h / 2;
                 continue;
@@ -95,33 +84,39 @@ impl Model {
         }
     }
 
-    /// What the parts that are no drives accept together, whatever they are asked.
-    fn limit(&self) -> Limit {
+    /// Asks all parts once for a call. Within it they stay as they are, so that only drives need asking again.
+    fn asked(&self) -> Asked {
         let Point { t, n } = self.point;
-        let mut due = false;
-        let mut limit = u64::MAX;
-        for part in &self.parts {
+        let mut asked = Asked { due: false, limit: u64::MAX, drives: Numbers::none(), detectors: Numbers::none() };
+        for (number, part) in self.parts.iter().enumerate() {
             match part.kind {
                 Kind::Square { p, .. } | Kind::Pulse { p, .. } => {
-                    let period = u64::from(p) * part.ratio;
+                    let period = part.period(p);
                     let into = t % period;
                     if into == 0 && n == 0 && t > 0 {
-                        due = true;
+                        asked.due = true;
                     } else {
-                        limit = limit.min(period - into);
+                        asked.limit = asked.limit.min(period - into);
                     }
                 }
-                Kind::Delay => due |= part.inputs[0].is_some_and(|source| self.parts[source].output.is_some()),
-                Kind::Detector { .. } => due |= part.mark.is_some(),
+                Kind::Delay => asked.due |= self.read(part, 0).is_some(),
+                Kind::Detector { .. } => {
+                    asked.due |= part.mark.is_some();
+                    asked.detectors.push(number);
+                }
+                Kind::Drive { .. } => asked.drives.push(number),
                 _ => {}
             }
         }
-        Limit { due, limit: if due { 0 } else { limit } }
+        if asked.due {
+            asked.limit = 0;
+        }
+        asked
     }
 
     /// Writes the outputs at `to`, where a step of `h` leads, into `next`.
     fn outputs_at(&self, to: Point, h: u64, next: &mut [Signal; MOST_PARTS]) {
-        for &number in &self.order {
+        for number in self.order.iter().copied().map(usize::from) {
             let part = &self.parts[number];
             next[number] = output(part, to, || self.read(part, 0), || self.moved(part, h), next);
         }
@@ -129,7 +124,7 @@ impl Model {
 
     /// What a port reads at the model's point.
     fn read(&self, part: &Part, port: usize) -> Signal {
-        part.inputs[port].and_then(|source| self.parts[source].output)
+        part.inputs[port].and_then(|source| self.parts[usize::from(source)].output)
     }
 
     /// The number that an integrating part holds after a step of `h`.
@@ -142,7 +137,7 @@ impl Model {
     fn commit(&mut self, to: Point, next: &[Signal; MOST_PARTS]) {
         self.point = to;
         for (part, &output) in self.parts.iter_mut().zip(next) {
-            part.local = to.t / part.ratio;
+            part.local = part.local_at(to.t);
             part.output = output;
             match part.kind {
                 // These show the number that they hold, or hold what they show.
@@ -151,7 +146,7 @@ impl Model {
                 }
                 Kind::Hold => part.kept = output,
                 Kind::Detector { .. } => {
-                    let x = part.inputs[0].and_then(|source| next[source]);
+                    let x = port(part, 0, next);
                     part.mark = crossing(part.side, x);
                     part.side = x.map(Side::of).or(part.side);
                 }
@@ -161,15 +156,40 @@ impl Model {
     }
 }
 
-struct Limit {
+/// What a call learns from its parts before the first round.
+struct Asked {
     due: bool,
+    /// What the parts that are no drives accept together.
     limit: u64,
+    drives: Numbers,
+    detectors: Numbers,
+}
+
+/// The numbers of some parts.
+struct Numbers {
+    numbers: [u8; MOST_PARTS],
+    count: usize,
+}
+
+impl Numbers {
+    fn none() -> Numbers {
+        Numbers { numbers: [0; MOST_PARTS], count: 0 }
+    }
+
+    fn push(&mut self, number: usize) {
+        self.numbers[self.count] = number as u8;
+        self.count += 1;
+    }
+
+    fn iter(&self) -> impl Iterator<Item = usize> + '_ {
+        self.numbers[..self.count].iter().copied().map(usize::from)
+    }
 }
 
 /// Fills the start point of a model whose parts are as their commands gave them.
 pub(crate) fn fill_start(model: &mut Model) {
     let mut next = [None; MOST_PARTS];
-    for &number in &model.order {
+    for number in model.order.iter().copied().map(usize::from) {
         let part = &model.parts[number];
         next[number] = output(part, Point::START, || None, || part.held, &next);
     }
@@ -185,7 +205,7 @@ fn output(
     held: impl FnOnce() -> i32,
     now: &[Signal; MOST_PARTS],
 ) -> Signal {
-    let read = |port: usize| part.inputs[port].and_then(|source| now[source]);
+    let read = |number: usize| port(part, number, now);
     match part.kind {
         Kind::Constant { a } => Some(a),
         Kind::Gain { a } => read(0).map(|x| clamp(i64::from(a) * i64::from(x))),
@@ -196,9 +216,9 @@ fn output(
         Kind::Square { a, b, p } => {
             // At microstep 0 it still shows what it showed before the tick.
             let t = if to.n == 0 { to.t.saturating_sub(1) } else { to.t };
-            Some(if (t / (u64::from(p) * part.ratio)).is_multiple_of(2) { a } else { b })
+            Some(if (t / part.period(p)).is_multiple_of(2) { a } else { b })
         }
-        Kind::Pulse { a, p } => (to.n == 1 && to.t > 0 && to.t.is_multiple_of(u64::from(p) * part.ratio)).then_some(a),
+        Kind::Pulse { a, p } => (to.n == 1 && to.t > 0 && to.t.is_multiple_of(part.period(p))).then_some(a),
         Kind::Delay if to.n > 0 => before(),
         Kind::Delay => None,
         Kind::Integrator { .. } | Kind::Drive { .. } => Some(held()),
@@ -209,10 +229,15 @@ fn output(
     }
 }
 
+/// What a port reads where the outputs are `outputs`.
+fn port(part: &Part, number: usize, outputs: &[Signal; MOST_PARTS]) -> Signal {
+    part.inputs[number].and_then(|source| outputs[usize::from(source)])
+}
+
 /// Whether a step of `h` that leads to the outputs `next` makes a detector set a mark that it finds too late.
 fn objects(part: &Part, h: u64, next: &[Signal; MOST_PARTS]) -> bool {
     let Kind::Detector { p } = part.kind else { return false };
-    h > u64::from(p) * part.ratio && crossing(part.side, part.inputs[0].and_then(|source| next[source])).is_some()
+    h > part.period(p) && crossing(part.side, port(part, 0, next)).is_some()
 }
 
 /// The mark that a detector sets which last saw `side` and now sees `x`.
@@ -223,7 +248,7 @@ fn crossing(side: Option<Side>, x: Signal) -> Option<Side> {
 
 /// By how much a step of `h` moves a part's local count.
 pub(crate) fn local_step(part: &Part, t: u64, h: u64) -> u64 {
-    (t + h) / part.ratio - part.local
+    part.local_at(t + h) - part.local
 }
 
 /// The longest step of at most `h` that a drive accepts: `h` itself, or else the end of the highest run of ticks below

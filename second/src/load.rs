@@ -157,12 +157,12 @@ pub fn load(stream: &[u8]) -> Loaded {
                 span_may_follow = true;
             }
             Command::Wire { source, reader, port } => {
-                let (source, port) = (usize::from(source), usize::from(port));
+                let port = usize::from(port);
                 let count = parts.len();
                 let Some(reader) = parts.get_mut(usize::from(reader)) else {
                     return refused(7);
                 };
-                if source >= count || port >= reader.kind.ports() {
+                if usize::from(source) >= count || port >= reader.kind.ports() {
                     return refused(7);
                 }
                 if reader.inputs[port].is_some() {
@@ -189,7 +189,7 @@ fn finish(default_magnitude: u8, parts: Vec<Part>) -> Result<Model, u8> {
     for part in &mut model.parts {
         part.ratio = ratio(magnitude, part.preference);
     }
-    if model.parts.iter().any(|part| part.kind.p().is_some() && part.checked_period().is_none()) {
+    if model.parts.iter().any(|part| part.kind.p().is_some_and(|p| !part.is_period(p))) {
         return Err(10);
     }
     model.order = order(&model.parts).ok_or(11)?;

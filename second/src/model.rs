@@ -95,13 +95,13 @@ impl Kind {
         }
     }
 
-    /// The ports that the output reads within a point.
-    pub fn direct_ports(&self) -> &'static [usize] {
+    /// Whether the output reads a port within a point.
+    pub fn is_direct(&self, port: usize) -> bool {
         match self {
-            Kind::Gain { .. } | Kind::Hold => &[0],
-            Kind::Adder | Kind::Sampler => &[0, 1],
-            Kind::ResetIntegrator { .. } => &[1],
-            _ => &[],
+            Kind::Gain { .. } | Kind::Hold => port == 0,
+            Kind::Adder | Kind::Sampler => port < 2,
+            Kind::ResetIntegrator { .. } => port == 1,
+            _ => false,
         }
     }
 
@@ -126,18 +126,6 @@ impl Kind {
             _ => 0,
         }
     }
-
-    /// Whether every operand is in its range and spans rise.
-    fn in_range(&self) -> bool {
-        let b = if let Kind::Square { b, .. } = *self { b } else { 0 };
-        let spans = if let Kind::Drive { spans, .. } = self { spans.as_slice() } else { &[] };
-        is_value(self.a())
-            && is_value(b)
-            && self.p().is_none_or(is_count)
-            && spans.len() <= MOST_SPANS
-            && spans.iter().all(|&span| is_count(span))
-            && spans.windows(2).all(|pair| pair[0] < pair[1])
-    }
 }
 
 pub fn is_value(x: i32) -> bool {
@@ -153,13 +141,20 @@ pub fn is_count(x: u32) -> bool {
     (1..=OPERAND_LIMIT).contains(&x)
 }
 
+/// Whether a drive can have these spans.
+fn are_spans(spans: &[u32]) -> bool {
+    spans.len() <= MOST_SPANS
+        && spans.iter().all(|&span| is_count(span))
+        && spans.windows(2).all(|pair| pair[0] < pair[1])
+}
+
 /// A part: its row of the table, the ratio that loading gave it, and what it keeps from point to point.
 #[derive(Clone, Debug, PartialEq, Eq)]
 pub struct Part {
     pub kind: Kind,
     pub preference: Option<u8>,
     /// The source wired to each port.
-    pub inputs: [Option<usize>; 2],
+    pub inputs: [Option<u8>; 2],
     pub ratio: u64,
     pub local: u64,
     pub output: Signal,
@@ -188,24 +183,52 @@ impl Part {
         }
     }
 
-    /// P of a kind with an operand p, if it is one that loading accepts.
-    pub(crate) fn checked_period(&self) -> Option<u64> {
-        let period = u64::from(self.kind.p()?).checked_mul(self.ratio)?;
-        (period <= LAST_TICK).then_some(period)
+    /// P of a part with this operand p, which loading has found to be small enough.
+    pub(crate) fn period(&self, p: u32) -> u64 {
+        u64::from(p) * self.ratio
+    }
+
+    /// Whether P of a part with this operand p is small enough.
+    pub(crate) fn is_period(&self, p: u32) -> bool {
+        u64::from(p).checked_mul(self.ratio).is_some_and(|period| period <= LAST_TICK)
+    }
+
+    /// The local count at a tick.
+    pub(crate) fn local_at(&self, t: u64) -> u64 {
+        // Most parts count as the master does, and dividing is slow.
+        if self.ratio == 1 {
+            t
+        } else {
+            t / self.ratio
+        }
     }
 
     /// The sources wired to direct ports.
     pub(crate) fn direct_sources(&self) -> impl Iterator<Item = usize> + '_ {
-        self.kind.direct_ports().iter().filter_map(|&port| self.inputs[port])
+        (0..2).filter(|&port| self.kind.is_direct(port)).filter_map(|port| self.inputs[port]).map(usize::from)
     }
 
     fn is_sound(&self, parts: usize, magnitude: u8, t: u64) -> bool {
-        self.kind.in_range()
-            && self.preference.is_none_or(|own| own <= LARGEST_MAGNITUDE)
-            && self.inputs.iter().flatten().all(|&source| source < parts)
-            && self.inputs[self.kind.ports()..].iter().all(Option::is_none)
+        let operands = match self.kind {
+            Kind::Constant { a } | Kind::Gain { a } | Kind::Integrator { a } | Kind::ResetIntegrator { a } => {
+                is_value(a)
+            }
+            Kind::Square { a, b, p } => is_value(a) && is_value(b) && is_count(p) && self.is_period(p),
+            Kind::Pulse { a, p } => is_value(a) && is_count(p) && self.is_period(p),
+            Kind::Detector { p } => is_count(p) && self.is_period(p),
+            Kind::Drive { a, ref spans } => is_value(a) && are_spans(spans),
+            Kind::Adder | Kind::Delay | Kind::Hold | Kind::Sampler => true,
+        };
+        let ports = self.kind.ports();
+        let is_wire = |port: usize| match self.inputs[port] {
+            None => true,
+            Some(source) => port < ports && usize::from(source) < parts,
+        };
+        operands
+            && is_wire(0)
+            && is_wire(1)
+            // The master's magnitude is no less than any preference and at most 15.
             && self.ratio == ratio(magnitude, self.preference)
-            && (self.kind.p().is_none() || self.checked_period().is_some())
             && self.local.checked_mul(self.ratio).is_some_and(|tick| tick <= t && t - tick < self.ratio)
             && is_signal(self.output)
             && is_value(self.held)
@@ -224,7 +247,7 @@ pub struct Model {
     pub default_magnitude: u8,
     pub parts: Vec<Part>,
     /// The numbers of the parts, in the order in which outputs are taken.
-    pub order: Vec<usize>,
+    pub order: Vec<u8>,
     pub point: Point,
 }
 

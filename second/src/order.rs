@@ -5,7 +5,7 @@ use std::cmp::Reverse;
 use std::collections::BinaryHeap;
 
 /// The order of the parts, or none if wires into direct ports close a loop. Every source is a part.
-pub(crate) fn order(parts: &[Part]) -> Option<Vec<usize>> {
+pub(crate) fn order(parts: &[Part]) -> Option<Vec<u8>> {
     let mut missing = vec![0; parts.len()];
     let mut readers = vec![Vec::new(); parts.len()];
     for (reader, part) in parts.iter().enumerate() {
@@ -17,7 +17,7 @@ pub(crate) fn order(parts: &[Part]) -> Option<Vec<usize>> {
     let mut ready: BinaryHeap<_> = (0..parts.len()).filter(|&i| missing[i] == 0).map(Reverse).collect();
     let mut order = Vec::with_capacity(parts.len());
     while let Some(Reverse(next)) = ready.pop() {
-        order.push(next);
+        order.push(next as u8);
         for &reader in &readers[next] {
             missing[reader] -= 1;
             if missing[reader] == 0 {
@@ -32,35 +32,36 @@ pub(crate) fn order(parts: &[Part]) -> Option<Vec<usize>> {
 ///
 /// A part must stand after its direct sources, and where a higher number stands before it, it must have been held up
 /// there: between the nearest such higher number (itself counted) and the part stands one of its direct sources.
-pub(crate) fn is_the_order(parts: &[Part], given: &[usize]) -> bool {
+pub(crate) fn is_the_order(parts: &[Part], given: &[u8]) -> bool {
     if given.len() != parts.len() || parts.len() > MOST_PARTS {
         return false;
     }
-    const UNPLACED: usize = usize::MAX;
-    let mut place = [UNPLACED; MOST_PARTS];
+    // Where each part stands, counted from 1; 0 as long as it does not.
+    let mut place = [0u8; MOST_PARTS];
     // Of the parts placed so far, those without a higher number after them, so in falling order.
-    let mut higher = [0; MOST_PARTS];
+    let mut higher = [0u8; MOST_PARTS];
     let mut height = 0;
-    for (at, &number) in given.iter().enumerate() {
-        if number >= parts.len() || place[number] != UNPLACED {
+    for (at, &number) in (1..).zip(given) {
+        let Some(part) = parts.get(usize::from(number)) else { return false };
+        if place[usize::from(number)] != 0 {
             return false;
         }
-        let mut last_source = None;
-        for source in parts[number].direct_sources() {
-            if place[source] == UNPLACED {
+        let mut last_source = 0;
+        for source in part.direct_sources() {
+            if place[source] == 0 {
                 return false;
             }
-            last_source = last_source.max(Some(place[source]));
+            last_source = last_source.max(place[source]);
         }
         while height > 0 && higher[height - 1] < number {
             height -= 1;
         }
-        if height > 0 && last_source < Some(place[higher[height - 1]]) {
+        if height > 0 && last_source < place[usize::from(higher[height - 1])] {
             return false;
         }
         higher[height] = number;
         height += 1;
-        place[number] = at;
+        place[usize::from(number)] = at;
     }
     true
 }

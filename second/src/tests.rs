@@ -161,7 +161,7 @@ fn unsound_models_get_24_and_come_back_unchanged() {
         ("no parts and no order", |m| (m.parts, m.order) = (vec![], vec![])),
         ("too many parts", |m| {
             m.parts = vec![Part::new(Kind::Constant { a: 0 }, None); MOST_PARTS + 1];
-            m.order = (0..MOST_PARTS + 1).collect();
+            m.order = (0..=MOST_PARTS as u8).collect();
         }),
         ("default magnitude", |m| m.default_magnitude = 16),
         ("preference", |m| m.parts[1].preference = Some(16)),
@@ -187,7 +187,7 @@ fn unsound_models_get_24_and_come_back_unchanged() {
         ("equal spans", |m| m.parts[11].kind = Kind::Drive { a: 1, spans: vec![2, 2] }),
         ("nine spans", |m| m.parts[11].kind = Kind::Drive { a: 1, spans: (1..10).collect() }),
         ("unknown source", |m| m.parts[6].inputs[0] = Some(12)),
-        ("unknown source far off", |m| m.parts[1].inputs[0] = Some(usize::MAX)),
+        ("unknown source far off", |m| m.parts[1].inputs[0] = Some(u8::MAX)),
         ("port 0 of a constant", |m| m.parts[0].inputs[0] = Some(1)),
         ("port 1 of an integrator", |m| m.parts[6].inputs[1] = Some(1)),
         ("loop", |m| m.parts[1].inputs[0] = Some(2)),
@@ -294,12 +294,12 @@ fn an_order_is_recognised_exactly_where_it_is_the_one_built() {
         let mut parts = vec![Part::new(Kind::Adder, None); count];
         for part in &mut parts {
             for input in &mut part.inputs {
-                *input = (random.below(3) == 0).then(|| random.below(count as u64) as usize);
+                *input = (random.below(3) == 0).then(|| random.below(count as u64) as u8);
             }
         }
         let built = order(&parts);
         loops += usize::from(built.is_none());
-        let mut given: Vec<usize> = (0..count).collect();
+        let mut given: Vec<u8> = (0..count as u8).collect();
         for_each_permutation(&mut given, 0, &mut |given| {
             let same = built.as_deref() == Some(given);
             accepted += usize::from(same);
@@ -309,7 +309,7 @@ fn an_order_is_recognised_exactly_where_it_is_the_one_built() {
     assert!(accepted > 1000 && loops > 100);
 }
 
-fn for_each_permutation(items: &mut Vec<usize>, from: usize, see: &mut impl FnMut(&[usize])) {
+fn for_each_permutation(items: &mut Vec<u8>, from: usize, see: &mut impl FnMut(&[u8])) {
     if from == items.len() {
         return see(items);
     }

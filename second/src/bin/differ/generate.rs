@@ -94,7 +94,11 @@ impl Scale {
     }
 
     fn spans(self, random: &mut Random) -> Vec<u32> {
-        let mut spans: Vec<u32> = (0..random.below(9)).map(|_| self.period(random)).collect();
+        let mut spans: Vec<u32> = (0..random.below(8)).map(|_| self.period(random)).collect();
+        if !random.once_in(4) {
+            // Then the drive can always go on.
+            spans.push(1);
+        }
         spans.sort_unstable();
         spans.dedup();
         spans
@@ -376,9 +380,18 @@ fn crossing(draft: &mut Draft, random: &mut Random) {
     let detector = draft.add(DETECTOR, 0, 0, random.between(1, 3) as u32);
     draft.wire(level, detector, 0);
     if draft.rows[level].kind == RESET {
-        let gain = draft.add(GAIN, -rate * random.between(0, 50) as i32, 0, 0);
-        draft.wire(detector, gain, 0);
-        draft.wire(gain, level, 1);
+        let far = -rate * random.between(0, 50) as i32;
+        let back = if random.once_in(4) {
+            // Each mark sends it across again, up to the last microstep.
+            draft.add(GAIN, far, 0, 0)
+        } else {
+            let place = draft.add(CONSTANT, far, 0, 0);
+            let sampler = draft.add(SAMPLER, 0, 0, 0);
+            draft.wire(place, sampler, 0);
+            sampler
+        };
+        draft.wire(detector, back, u8::from(draft.rows[back].kind == SAMPLER));
+        draft.wire(back, level, 1);
     }
 }
 
