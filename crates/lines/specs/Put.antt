@@ -1,4 +1,4 @@
--- What the functions that build a line, which are private to this crate, promise each other. Assumes nothing.
+-- What the functions that put a piece into a line or a line into a buffer promise. Assumes nothing.
 use mathlib.Core.Path.{_≡_}
 use mathlib.Core.List.{List, _∷_, _++_}
 use Prim.Native.Nat.{ℕ, _+_, _≤_}

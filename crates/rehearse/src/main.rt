@@ -47,6 +47,7 @@ fn rehearse(stream: &[u8]) {
     print_score(stream, loaded.position, model);
 }
 
+// The first 65,536 bytes of standard input, rehearsed.
 fn main() {
     let mut input = io::large_buffer();
     let n = io::read_full(0, &mut input);

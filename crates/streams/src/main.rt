@@ -146,6 +146,7 @@ fn judge_all(text: &[u8]) {
     }
 }
 
+// All that the first 65,536 bytes of standard input spell.
 fn main() {
     let mut input = io::large_buffer();
     let n = io::read_full(0, &mut input);
