@@ -1,0 +1,2 @@
+-- What the exported calls promise.
+pub mod Exported

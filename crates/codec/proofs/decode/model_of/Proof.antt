@@ -1,0 +1,52 @@
+-- `model_of` is the definition, field by field.
+use Rattle.codec.specs.Decoded.{model-of}
+use borrow.Author.Needs.{needs}
+use Rattle.codec.proofs.decode.model_of.Statement.{statement}
+use Rattle.codec.proofs.decode.model_of.Tie as tie
+
+word-requires : tie.Need-word-requires
+word-requires c κs = search needs
+
+cast-magnitude : tie.Need-cast-magnitude
+cast-magnitude c = search needs
+
+word-requires-2 : tie.Need-word-requires-2
+word-requires-2 c κs = search needs
+
+word-requires-3 : tie.Need-word-requires-3
+word-requires-3 c κs = search needs
+
+word-requires-4 : tie.Need-word-requires-4
+word-requires-4 c κs = search needs
+
+order-at-requires : tie.Need-order-at-requires
+order-at-requires c κs = search needs
+
+parts-at-requires : tie.Need-parts-at-requires
+parts-at-requires c κs = search needs
+
+returns : tie.Need-returns
+unfolding model-of
+returns c =
+    let fourth = c .before .before in
+    rw (
+      c .parts-at .ensures,
+      c .before .order-at .ensures,
+      fourth .word4 .ensures,
+      fourth .before .word3 .ensures,
+      fourth .before .before .word2 .ensures,
+      fourth .before .before .before .word .ensures,
+    )
+
+pub model-of-spec : {M : Type 1} → statement M
+model-of-spec =
+    tie.close
+    (tie.spec
+    word-requires
+    cast-magnitude
+    word-requires-2
+    word-requires-3
+    word-requires-4
+    order-at-requires
+    parts-at-requires
+    returns)

@@ -1,0 +1,82 @@
+-- `parts_at` reads one place after the other. The loop's invariant: the first i places are the definition's; the measure is how many are left.
+use Prim.Native.Nat.{ℕ, _+_, _-_, _*_, _%_, _≤_, _<_}
+use native.Mathlib.Omega.{arith}
+use mathlib.Core.Path.{_≡_, refl, sym, ap, _∙_}
+use lib.ListN.{length, take, length-set}
+use lib.Seq.{take-all}
+use Rattle.codec.specs.Words.{table, word-in}
+use Rattle.codec.specs.Decoded.{parts-of, part-of}
+use Rattle.codec.specs.Tables.{filled-more}
+use Rattle.machine.specs.declared.part.Part.{Part}
+use borrow.Author.Needs.{needs}
+use Rattle.codec.proofs.decode.parts_at.Statement.{statement}
+use Rattle.codec.proofs.decode.parts_at.Tie as tie
+
+abbrev Inv-loop : tie.InvT-loop
+Inv-loop bytes parts₀ i₀ parts i = (i ≤ 32) × (length parts ≡ 32) × (take i parts ≡ table (λ (j : ℕ). part-of bytes (36 + 25 * j)) i)
+
+abbrev μ-loop : tie.MeasureT-loop
+μ-loop bytes parts₀ i₀ parts i = 32 - i
+
+part-at-requires : tie.Need-part-at-requires Inv-loop μ-loop
+part-at-requires c κs = search needs
+
+loop-holds : tie.Need-loop-holds Inv-loop μ-loop
+unfolding table
+loop-holds c = (omega arith, refl, refl)
+
+mul-part-at : tie.Need-mul-part-at Inv-loop μ-loop
+mul-part-at c = search needs
+
+add-part-at : tie.Need-add-part-at Inv-loop μ-loop
+add-part-at c = search needs
+
+part-at-requires-2 : tie.Need-part-at-requires-2 Inv-loop μ-loop
+part-at-requires-2 c κs = search needs
+
+mul-parts : tie.Need-mul-parts Inv-loop μ-loop
+mul-parts c = search needs
+
+array-set-from-parts : tie.Need-array-set-from-parts Inv-loop μ-loop
+array-set-from-parts c = search needs
+
+add-i : tie.Need-add-i Inv-loop μ-loop
+add-i c = search needs
+
+loop-less : tie.Need-loop-less Inv-loop μ-loop
+loop-less c = search needs
+
+loop-again : tie.Need-loop-again Inv-loop μ-loop
+loop-again c =
+    let turn = c .before .before in
+    let start = turn .before .before .before in
+    let f : ℕ → Part = (λ (j : ℕ). part-of (start .args .bytes .now) (36 + 25 * j)) in
+    let inside : turn .loop .i < length (turn .loop .parts) = omega arith in
+    (omega arith, simp length-set (turn .loop .inv .1), filled-more f (turn .loop .i) (turn .loop .parts) _ inside (turn .loop .inv .2) (c .part-at2 .ensures))
+
+returns : tie.Need-returns Inv-loop μ-loop
+unfolding parts-of
+returns c =
+    let turn = c .before in
+    let start = turn .before .before .before in
+    let f : ℕ → Part = (λ (j : ℕ). part-of (start .args .bytes .now) (36 + 25 * j)) in
+    let done : turn .loop .i ≡ 32 = omega arith in
+    sym (take-all (turn .loop .i) (turn .loop .parts) (omega arith)) ∙ turn .loop .inv .2 ∙ ap (table f) done
+
+pub parts-at-spec : {M : Type 1} → statement M
+parts-at-spec =
+    tie.close
+    (tie.spec
+    Inv-loop
+    μ-loop
+    part-at-requires
+    loop-holds
+    mul-part-at
+    add-part-at
+    part-at-requires-2
+    mul-parts
+    array-set-from-parts
+    add-i
+    loop-less
+    loop-again
+    returns)

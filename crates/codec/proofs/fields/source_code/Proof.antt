@@ -1,0 +1,27 @@
+-- `source_code` is the definition, by cases.
+use mathlib.Core.Path.{refl}
+use borrow.Author.Needs.{needs}
+use Rattle.codec.proofs.fields.source_code.Statement.{statement}
+use Rattle.codec.proofs.fields.source_code.Tie as tie
+
+enum-told : tie.Need-enum-told
+enum-told c = search needs
+
+enum-known-s : tie.Need-enum-known-s
+enum-known-s c = search needs
+
+cast-result : tie.Need-cast-result
+cast-result c = search needs
+
+add-result : tie.Need-add-result
+add-result c = search needs
+
+returns : tie.Need-returns
+returns c = search needs
+
+returns-2 : tie.Need-returns-2
+returns-2 c = rw (c .before .s .given .1) refl
+
+pub source-code-spec : {M : Type 1} → statement M
+source-code-spec =
+    tie.close (tie.spec enum-told enum-known-s cast-result add-result returns returns-2)

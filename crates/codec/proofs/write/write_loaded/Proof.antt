@@ -1,0 +1,44 @@
+-- `write_loaded` makes the definition's test, and puts the words of the definition at the buffer's front.
+use Rattle.codec.proofs.Pieces.{words-then}
+use Rattle.codec.specs.Encoded.{loaded-words, loaded-bytes}
+use Rattle.codec.specs.Widths.{loaded-wide}
+use Rattle.codec.proofs.Answers.{left-out, put-in}
+use borrow.Author.Needs.{needs}
+use Rattle.codec.proofs.write.write_loaded.Statement.{statement}
+use Rattle.codec.proofs.write.write_loaded.Tie as tie
+
+returns : tie.Need-returns
+returns c = left-out (loaded-wide _) (c .if1 .taken)
+
+put-word-requires : tie.Need-put-word-requires
+put-word-requires c κs = search needs
+
+put-word-requires-2 : tie.Need-put-word-requires-2
+put-word-requires-2 c κs = search needs
+
+put-model-requires : tie.Need-put-model-requires
+put-model-requires c κs = search needs
+
+same-length : tie.Need-same-length
+same-length c = search needs
+
+returns-2 : tie.Need-returns-2
+unfolding loaded-bytes loaded-words
+returns-2 c =
+    let model = c .before .before in
+    let position = model .before .before .before .before in
+    let number = position .before .before .before .before in
+    let test = number .before .before .before in
+    let two = words-then (number .put-word .ensures) (position .put-word2 .ensures) in
+    put-in (words-then two (model .put-model .ensures)) (test .if1 .left)
+
+pub write-loaded-spec : {M : Type 1} → statement M
+write-loaded-spec =
+    tie.close
+    (tie.spec
+    returns
+    put-word-requires
+    put-word-requires-2
+    put-model-requires
+    same-length
+    returns-2)

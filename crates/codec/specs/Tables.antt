@@ -1,0 +1,98 @@
+-- Laws of tables and rows: one more element, as a list and in an array that is filled from the front; how long they are, and what stands where.
+-- Assumes nothing.
+use Prim.Native.Nat.{ℕ, zero, suc, _+_, _*_, _<_}
+use native.Mathlib.Numerals.{add-one}
+use native.Mathlib.Omega.{arith}
+use mathlib.Core.Path.{_≡_, refl, sym, ap, ap₂, _∙_}
+use mathlib.Core.Bool.{true, false}
+use mathlib.Core.Logic.{_⊎_, inl, inr}
+use mathlib.Core.List.{List, [], _∷_, _++_}
+use lib.ListN.{length, getD, take, set, length-append, List·getD-append}
+use lib.Seq.{take-suc-set, getD-at, getD-append-add, ext-getD}
+use lib.Dec.{ltb}
+use borrow.Author.Tests.{ltb-true, ltb-false}
+use Rattle.laws.specs.Bools.{either}
+use Rattle.codec.specs.Words.{table, rows}
+
+module _ {ℓ} {A : Type ℓ} where
+  -- one element more
+  pub table-more : (f : ℕ → A) (i : ℕ) → table f i ++ (f i ∷ []) ≡ table f (i + 1)
+  unfolding table
+  table-more f i = rw add-one refl
+
+  -- as many as the table's number
+  pub length-table : (f : ℕ → A) (n : ℕ) → length (table f n) ≡ n
+  unfolding table
+  length-table f zero = refl
+  length-table f (suc n) =
+      let later = length-table f n in
+      rw (length-append (table f n) (f n ∷ [])) (omega arith)
+
+  -- the next place of an array filled
+  pub filled-more : (f : ℕ → A) (i : ℕ) (l : List A) (v : A) → i < length l → take i l ≡ table f i → v ≡ f i →
+      take (i + 1) (set l i v) ≡ table f (i + 1)
+  unfolding table
+  filled-more f i l v inside before e = rw (add-one, take-suc-set l i v inside, before, e) refl
+
+  -- what stands at a place
+  pub table-at : (f : ℕ → A) (n i : ℕ) (d : A) → i < n → getD (table f n) i d ≡ f i
+  unfolding table
+  table-at f zero i d h = absurd (omega arith)
+  table-at f (suc n) i d h = cases (either (ltb i n)) (table-at f n i d)
+    where
+      cases : (ltb i n ≡ true) ⊎ (ltb i n ≡ false) → (i < n → getD (table f n) i d ≡ f i) → getD (table f (suc n)) i d ≡ f i
+      cases (inl e) later =
+          let low = ltb-true i n e in
+          let inside : i < length (table f n) = rw (length-table f n) low in
+          List·getD-append (table f n) (f n ∷ []) d i inside ∙ later low
+      cases (inr e) later =
+          let same : i ≡ n = omega (arith, ltb-false i n e) in
+          getD-at (table f n) (f n) [] d i (length-table f n ∙ sym same) ∙ ap f (sym same)
+
+  -- tables of the same elements, and the table of a list's elements
+  pub table-same : (f g : ℕ → A) (n : ℕ) → ((i : ℕ) → i < n → f i ≡ g i) → table f n ≡ table g n
+  unfolding table
+  table-same f g zero h = refl
+  table-same f g (suc n) h =
+      ap₂ (λ (l : List A) (x : A). l ++ (x ∷ [])) (table-same f g n (λ i p. h i (omega arith))) (h n (omega arith))
+
+  pub table-list : (l : List A) (d : A) (n : ℕ) → length l ≡ n → table (λ (i : ℕ). getD l i d) n ≡ l
+  table-list l d n e =
+      let f : ℕ → A = λ (i : ℕ). getD l i d in
+      let wide = length-table f n in
+      ext-getD d (table f n) l (wide ∙ sym e) (λ i p. table-at f n i d (omega arith))
+
+-- one list more, and how many elements lists of k each have
+pub rows-more : (f : ℕ → List ℕ) (i : ℕ) → rows f i ++ f i ≡ rows f (i + 1)
+unfolding rows
+rows-more f i = rw add-one refl
+
+pub length-rows : (k : ℕ) (f : ℕ → List ℕ) (n : ℕ) → ((i : ℕ) → length (f i) ≡ k) → length (rows f n) ≡ n * k
+unfolding rows
+length-rows k f zero wide = omega arith
+length-rows k f (suc n) wide =
+    let later = length-rows k f n wide in
+    let last = wide n in
+    rw (length-append (rows f n) (f n)) (omega arith)
+
+-- what stands at a place of lists of 25 each
+pub rows-at : (f : ℕ → List ℕ) (n i j : ℕ) → ((i : ℕ) → length (f i) ≡ 25) → i < n → j < 25 → getD (rows f n) (25 * i + j) 0 ≡ getD (f i) j 0
+unfolding rows
+rows-at f zero i j wide h low = absurd (omega arith)
+rows-at f (suc n) i j wide h low = cases (either (ltb i n)) (rows-at f n i j wide)
+  where
+    cases :
+        (ltb i n ≡ true) ⊎ (ltb i n ≡ false) →
+        (i < n → j < 25 → getD (rows f n) (25 * i + j) 0 ≡ getD (f i) j 0) →
+        getD (rows f (suc n)) (25 * i + j) 0 ≡ getD (f i) j 0
+    cases (inl e) later =
+        let before = ltb-true i n e in
+        let many = length-rows 25 f n wide in
+        let inside : 25 * i + j < length (rows f n) = omega arith in
+        List·getD-append (rows f n) (f n) 0 (25 * i + j) inside ∙ later before low
+    cases (inr e) later =
+        let same : i ≡ n = omega (arith, ltb-false i n e) in
+        let many = length-rows 25 f n wide in
+        let place : 25 * i + j ≡ length (rows f n) + j = omega arith in
+        ap (λ (k : ℕ). getD (rows f n ++ f n) k 0) place ∙ getD-append-add (rows f n) (f n) j 0 ∙
+        ap (λ (k : ℕ). getD (f k) j 0) (sym same)
