@@ -7,13 +7,8 @@ use lib.ListN.{length, take, drop, length-append, take-append-drop}
 use lib.Seq.{drop-drop}
 use Rattle.lines.specs.Put.{Put}
 use Rattle.codec.specs.Words.{word-bytes, bytes-of}
+use Rattle.codec.specs.Widths.{bytes-append}
 use Rattle.codec.specs.Put.{BytesPut, WordsPut}
-
--- the bytes of words behind words
-pub bytes-append : (us vs : List ℕ) → bytes-of (us ++ vs) ≡ bytes-of us ++ bytes-of vs
-unfolding bytes-of
-bytes-append [] vs = refl
-bytes-append (u ∷ us) vs = rw (bytes-append us vs, append-assoc) refl
 
 -- what is kept behind a position is kept behind a later one
 drop-more : (p q : ℕ) (l₀ l₁ : List ℕ) → p ≤ q → drop p l₁ ≡ drop p l₀ → drop q l₁ ≡ drop q l₀

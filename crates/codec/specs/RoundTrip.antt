@@ -3,9 +3,9 @@
 use Prim.Native.Nat.{ℕ, suc, _+_, _*_, _%_, _<_}
 use native.Mathlib.Omega.{arith}
 use mathlib.Core.Path.{_≡_, refl, ap, ap₂, _∙_}
-use mathlib.Core.List.{List, [], _∷_, _++_}
-use lib.ListN.{length, getD, List·getD-append}
-use lib.Seq.{getD-append-add, getD-at}
+use mathlib.Core.List.{List, [], _∷_, _++_, append-assoc}
+use lib.ListN.{length, getD, take, drop, List·getD-append}
+use lib.Seq.{drop-at, getD-append-add, getD-at, take-at}
 use Rattle.machine.specs.declared.part.Component.{Component}
 use Rattle.machine.specs.declared.part.State.{State}
 use Rattle.machine.specs.declared.part.Part.{Part}
@@ -13,12 +13,12 @@ use Rattle.machine.specs.declared.model.Model.{Model}
 use Rattle.machine.specs.Time.{tick}
 use Rattle.machine.specs.Kind.{kind-number, kind-of}
 use Rattle.machine.specs.Model.{blank-part, part-at}
-use Rattle.codec.specs.Words.{table, word-in, signed-word, word-signed}
+use Rattle.codec.specs.Words.{table, bytes-of, word-in, signed-word, word-signed}
 use Rattle.codec.specs.Encoded.{source-code, side-code, mark-code, signal-code, signal-value, spans-words, order-words, operand-words, component-words, state-words, part-words, parts-words, model-words, model-bytes}
 use Rattle.codec.specs.Decoded.{source-of, side-coded, mark-coded, signal-of, signal-in, spans-of, component-of, state-of, part-of, order-of, parts-of, model-of}
 use Rattle.codec.specs.Sized.{SizedComponent, SizedState, SizedPart, Sized}
 use Rattle.codec.specs.Tables.{length-table, table-at, table-same, table-list, rows-at}
-use Rattle.codec.specs.Widths.{component-wide, part-wide}
+use Rattle.codec.specs.Widths.{bytes-append, length-bytes, component-wide, part-wide, model-wide}
 use Rattle.codec.specs.Fields.{in-word, word-of, signed-back, kind-back, source-back, side-back, mark-back, signal-back}
 
 -- the words of a component's spans, and of its ports
@@ -52,29 +52,29 @@ module _ (bs : List ℕ) (k : ℕ) (c : Component) (sized : SizedComponent c)
   unfolding component-words operand-words
   preference-read =
       let e : word-in bs (k + 1) ≡ in-word (c .preference) = h 1 (omega arith) in
-      let low = sized .preference in
+      let low = sized .operands .octet in
       omega arith
 
   a-read : word-signed (word-in bs (k + 2)) ≡ c .a
   unfolding component-words operand-words
-  a-read = ap word-signed (h 2 (omega arith)) ∙ signed-back (c .a) (sized .operand-a)
+  a-read = ap word-signed (h 2 (omega arith)) ∙ signed-back (c .a) (sized .operands .operand-a)
 
   b-read : word-signed (word-in bs (k + 3)) ≡ c .b
   unfolding component-words operand-words
-  b-read = ap word-signed (h 3 (omega arith)) ∙ signed-back (c .b) (sized .operand-b)
+  b-read = ap word-signed (h 3 (omega arith)) ∙ signed-back (c .b) (sized .operands .operand-b)
 
   p-read : word-in bs (k + 4) % 4294967296 ≡ c .p
   unfolding component-words operand-words
   p-read =
       let e : word-in bs (k + 4) ≡ in-word (c .p) = h 4 (omega arith) in
-      let low = sized .operand-p in
+      let low = sized .operands .operand-p in
       omega arith
 
   count-read : word-in bs (k + 5) ≡ c .«span_count»
   unfolding component-words operand-words
   count-read =
       let e : word-in bs (k + 5) ≡ in-word (c .«span_count») = h 5 (omega arith) in
-      let low = sized .count in
+      let low = sized .operands .counted in
       omega arith
 
   span-read : (i : ℕ) → i < 8 → word-in bs (k + 6 + i) % 4294967296 ≡ getD (c .spans) i 0
@@ -82,14 +82,14 @@ module _ (bs : List ℕ) (k : ℕ) (c : Component) (sized : SizedComponent c)
       let place : k + 6 + i ≡ k + (6 + i) = omega arith in
       let e : word-in bs (k + 6 + i) ≡ in-word (getD (c .spans) i 0) =
       ap (word-in bs) place ∙ h (6 + i) (omega arith) ∙ ap in-word (span-word c i inside) in
-      let low = sized .spans i inside in
+      let low = sized .spans .each i inside in
       omega arith
 
   spans-read : spans-of bs (k + 6) ≡ c .spans
   unfolding spans-of
   spans-read =
       table-same (λ (i : ℕ). word-in bs (k + 6 + i) % 4294967296) (λ (i : ℕ). getD (c .spans) i 0) 8 span-read ∙
-      table-list (c .spans) 0 8 (sized .places)
+      table-list (c .spans) 0 8 (sized .spans .places)
 
   port0-read : source-of (word-in bs (k + 14)) ≡ c .port0
   port0-read = ap source-of (h 14 (omega arith) ∙ ap in-word (port0-word c)) ∙ source-back (c .port0) (sized .port0)
@@ -231,28 +231,42 @@ module _ (m : Model) (sized : Sized m) where
   place-read i inside =
       let e : word-in (model-bytes m) (4 + i) ≡ in-word (getD (m .order) i 0) =
       word-of (model-words m) (4 + i) ∙ ap in-word (order-word m i inside) in
-      let low = sized .order i inside in
+      let low = sized .order .each i inside in
       omega arith
 
   order-read : order-of (model-bytes m) ≡ m .order
   unfolding order-of
   order-read =
       table-same (λ (i : ℕ). word-in (model-bytes m) (4 + i) % 65536) (λ (i : ℕ). getD (m .order) i 0) 32 place-read ∙
-      table-list (m .order) 0 32 (sized .order-places)
+      table-list (m .order) 0 32 (sized .order .places)
 
   part-read : (i : ℕ) → i < 32 → part-of (model-bytes m) (36 + 25 * i) ≡ part-at (m .parts) i
   unfolding model-bytes
   part-read i inside =
-      part-back (model-bytes m) (36 + 25 * i) (part-at (m .parts) i) (sized .parts i inside)
+      part-back (model-bytes m) (36 + 25 * i) (part-at (m .parts) i) (sized .parts .each i inside)
       (λ j low. word-of (model-words m) (36 + 25 * i + j) ∙ ap in-word (part-word m i j inside low))
 
   parts-read : parts-of (model-bytes m) ≡ m .parts
   unfolding parts-of
   parts-read =
       table-same (λ (i : ℕ). part-of (model-bytes m) (36 + 25 * i)) (λ (i : ℕ). part-at (m .parts) i) 32 part-read ∙
-      table-list (m .parts) blank-part 32 (sized .part-places)
+      table-list (m .parts) blank-part 32 (sized .parts .places)
 
   -- the law
   pub model-back : model-of (model-bytes m) ≡ m
   unfolding model-of
   model-back = rw (magnitude-read, parts-count-read, ticks-read, microstep-read, order-read, parts-read) refl
+
+-- a model's bytes behind other words, as in the calls' answers: taken out of a buffer they mean that model
+pub model-taken : (front : List ℕ) (m : Model) (rest : List ℕ) → Sized m →
+    model-of (take 6688 (drop (8 * length front) (bytes-of (front ++ model-words m) ++ rest))) ≡ m
+unfolding model-bytes
+model-taken front m rest sized =
+    let all = bytes-of (model-words m) in
+    let wide : length all ≡ 6688 = simp (length-bytes, model-wide) in
+    rw (
+      bytes-append front (model-words m),
+      append-assoc,
+      drop-at (bytes-of front) (all ++ rest) (8 * length front) (length-bytes front),
+      take-at all rest 6688 wide,
+    ) (model-back m sized)

@@ -1,6 +1,7 @@
 -- What the declared structs guarantee of a model: each number fits its field, and the arrays have their lengths. Assumes nothing.
 use Prim.Native.Nat.{ℕ, _<_}
 use mathlib.Core.Path.{_≡_}
+use mathlib.Core.List.{List}
 use lib.ListN.{length, getD}
 use lib.IntN.{ℤ, pos, negsuc}
 use Rattle.machine.specs.declared.signal.Signal.{Signal}
@@ -31,15 +32,22 @@ abbrev pub FitsSignal : Signal → Type 0
 FitsSignal Absent = Unit {0}
 FitsSignal (Value v) = FitsSigned v
 
--- a component, a state, a part and a model
+-- the numbers of a component, and its places for spans
+pub record SizedOperands (preference : ℕ) (a b : ℤ) (p count : ℕ) : Type 0 where
+  pub octet : preference < 256
+  pub operand-a : FitsSigned a
+  pub operand-b : FitsSigned b
+  pub operand-p : p < 4294967296
+  pub counted : FitsWord count
+
+pub record SizedSpans (spans : List ℕ) : Type 0 where
+  pub places : length spans ≡ 8
+  pub each : (i : ℕ) → i < 8 → getD spans i 0 < 4294967296
+
+-- a component, a state and a part
 pub record SizedComponent (c : Component) : Type 0 where
-  pub preference : c .preference < 256
-  pub operand-a : FitsSigned (c .a)
-  pub operand-b : FitsSigned (c .b)
-  pub operand-p : c .p < 4294967296
-  pub count : FitsWord (c .«span_count»)
-  pub places : length (c .spans) ≡ 8
-  pub spans : (i : ℕ) → i < 8 → getD (c .spans) i 0 < 4294967296
+  pub operands : SizedOperands (c .preference) (c .a) (c .b) (c .p) (c .«span_count»)
+  pub spans : SizedSpans (c .spans)
   pub port0 : FitsSource (c .port0)
   pub port1 : FitsSource (c .port1)
 
@@ -54,12 +62,19 @@ pub record SizedPart (p : Part) : Type 0 where
   pub ratio : FitsWord (p .ratio)
   pub state : SizedState (p .state)
 
+-- the places of the part order, and of the parts; a model
+pub record SizedOrder (order : List ℕ) : Type 0 where
+  pub places : length order ≡ 32
+  pub each : (i : ℕ) → i < 32 → getD order i 0 < 65536
+
+pub record SizedParts (parts : List Part) : Type 0 where
+  pub places : length parts ≡ 32
+  pub each : (i : ℕ) → i < 32 → SizedPart (part-at parts i)
+
 pub record Sized (m : Model) : Type 0 where
   pub magnitude : m .magnitude < 256
   pub count : FitsWord (m .count)
   pub ticks : FitsWord (tick (m .point))
   pub microstep : FitsWord (m .point .n)
-  pub order-places : length (m .order) ≡ 32
-  pub order : (i : ℕ) → i < 32 → getD (m .order) i 0 < 65536
-  pub part-places : length (m .parts) ≡ 32
-  pub parts : (i : ℕ) → i < 32 → SizedPart (part-at (m .parts) i)
+  pub order : SizedOrder (m .order)
+  pub parts : SizedParts (m .parts)

@@ -3,7 +3,7 @@
 use Prim.Native.Nat.{ℕ, zero, suc, _+_, _*_, _<_}
 use native.Mathlib.Numerals.{add-one}
 use native.Mathlib.Omega.{arith}
-use mathlib.Core.Path.{_≡_, refl, sym, ap, ap₂, _∙_}
+use mathlib.Core.Path.{_≡_, refl, sym, subst, ap, ap₂, _∙_}
 use mathlib.Core.Bool.{true, false}
 use mathlib.Core.Logic.{_⊎_, inl, inr}
 use mathlib.Core.List.{List, [], _∷_, _++_}
@@ -96,3 +96,11 @@ rows-at f (suc n) i j wide h low = cases (either (ltb i n)) (rows-at f n i j wid
         let place : 25 * i + j ≡ length (rows f n) + j = omega arith in
         ap (λ (k : ℕ). getD (rows f n ++ f n) k 0) place ∙ getD-append-add (rows f n) (f n) j 0 ∙
         ap (λ (k : ℕ). getD (f k) j 0) (sym same)
+
+-- what holds of the elements before a place, and at it, holds of those before the next
+pub below-more : (P : ℕ → Type 0) (i : ℕ) → ((j : ℕ) → j < i → P j) → P i → (j : ℕ) → j < i + 1 → P j
+below-more P i before here j h = cases (either (ltb j i))
+  where
+    cases : (ltb j i ≡ true) ⊎ (ltb j i ≡ false) → P j
+    cases (inl e) = before j (ltb-true j i e)
+    cases (inr e) = let same : i ≡ j = omega (arith, ltb-false j i e) in subst P same here

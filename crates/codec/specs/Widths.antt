@@ -2,7 +2,7 @@
 use Prim.Native.Nat.{ℕ, _*_}
 use native.Mathlib.Omega.{arith}
 use mathlib.Core.Path.{_≡_, refl}
-use mathlib.Core.List.{List, [], _∷_}
+use mathlib.Core.List.{List, [], _∷_, _++_, append-assoc}
 use lib.ListN.{length, length-append}
 use Rattle.machine.specs.declared.part.Component.{Component}
 use Rattle.machine.specs.declared.part.State.{State}
@@ -14,6 +14,12 @@ use Rattle.machine.specs.Model.{part-at}
 use Rattle.codec.specs.Words.{four-bytes, word-bytes, bytes-of}
 use Rattle.codec.specs.Encoded.{spans-words, order-words, operand-words, component-words, state-words, part-words, parts-words, model-words, loaded-words, answer-words, loaded-bytes, answer-bytes}
 use Rattle.codec.specs.Tables.{length-table, length-rows}
+
+-- the bytes of words behind words
+pub bytes-append : (us vs : List ℕ) → bytes-of (us ++ vs) ≡ bytes-of us ++ bytes-of vs
+unfolding bytes-of
+bytes-append [] vs = refl
+bytes-append (u ∷ us) vs = rw (bytes-append us vs, append-assoc) refl
 
 -- a word has eight bytes, and words eight each
 word-wide : (v : ℕ) → length (word-bytes v) ≡ 8

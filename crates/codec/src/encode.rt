@@ -1,5 +1,6 @@
 // The words of a model, put into a buffer at a position. Each function returns the position behind what it
-// put. The contracts cite `specs/Encoded.antt` and `specs/Put.antt`.
+// put. The contracts cite `specs/Encoded.antt` and `specs/Put.antt`; what a caller learns besides, that each
+// number fits its field, is in `specs/Sized.antt`.
 use crate::fields::kind_code;
 use crate::fields::mark_code;
 use crate::fields::side_code;
@@ -16,16 +17,18 @@ use machine::part::State;
 use machine::signal::Signal;
 ghost use mathlib.Core.Path.{_≡_};
 ghost use mathlib.Core.List.{_∷_, []};
-ghost use Prim.Native.Nat.{_+_, _≤_};
+ghost use Prim.Native.Nat.{_+_, _<_, _≤_};
 ghost use lib.ListN.{length};
 ghost use Rattle.codec.specs.Words.{signed-word};
 ghost use Rattle.codec.specs.Encoded.{component-words, model-words, operand-words, order-words, part-words, parts-words, signal-words, spans-words, state-words};
 ghost use Rattle.codec.specs.Put.{WordsPut};
+ghost use Rattle.codec.specs.Sized.{FitsSigned, FitsSignal, Sized, SizedComponent, SizedOperands, SizedOrder, SizedPart, SizedParts, SizedSpans, SizedState};
 
 // A signed number.
 fn put_signed(out: &mut [u8], at: usize, v: i64) -> usize
     requires { ⌜ at + 8 ≤ length (now out) ⌝ }
     ensures { λ r. ⌜ WordsPut 1 (signed-word v ∷ []) at (now (out .entry)) (now (out .exit)) r ⌝ }
+    ensures fits { λ r. ⌜ FitsSigned v ⌝ }
 {
     put_word(out, at, signed_word(v))
 }
@@ -34,6 +37,7 @@ fn put_signed(out: &mut [u8], at: usize, v: i64) -> usize
 fn put_signal(out: &mut [u8], at: usize, s: Signal) -> usize
     requires { ⌜ at + 16 ≤ length (now out) ⌝ }
     ensures { λ r. ⌜ WordsPut 2 (signal-words s) at (now (out .entry)) (now (out .exit)) r ⌝ }
+    ensures fits { λ r. ⌜ FitsSignal s ⌝ }
 {
     match s {
         Signal::Absent => {
@@ -50,6 +54,7 @@ fn put_signal(out: &mut [u8], at: usize, s: Signal) -> usize
 // A span as a number to put.
 fn span_word(v: u32) -> u64
     ensures { λ r. ⌜ r ≡ v ⌝ }
+    ensures fits { λ r. ⌜ v < 4294967296 ⌝ }
 {
     v as u64
 }
@@ -57,14 +62,24 @@ fn span_word(v: u32) -> u64
 // A part's number in the part order as a number to put.
 fn place_word(k: u16) -> u64
     ensures { λ r. ⌜ r ≡ k ⌝ }
+    ensures fits { λ r. ⌜ k < 65536 ⌝ }
 {
     k as u64
+}
+
+// A magnitude as a number to put.
+fn magnitude_word(e: u8) -> u64
+    ensures { λ r. ⌜ r ≡ e ⌝ }
+    ensures fits { λ r. ⌜ e < 256 ⌝ }
+{
+    e as u64
 }
 
 // The places for spans.
 fn put_spans(out: &mut [u8], at: usize, spans: [u32; SPANS]) -> usize
     requires { ⌜ at + 64 ≤ length (now out) ⌝ }
     ensures { λ r. ⌜ WordsPut 8 (spans-words spans) at (now (out .entry)) (now (out .exit)) r ⌝ }
+    ensures fits { λ r. ⌜ SizedSpans spans ⌝ }
 {
     let mut next = at;
     let mut i: usize = 0;
@@ -88,6 +103,7 @@ fn put_operands(
 ) -> usize
     requires { ⌜ at + 48 ≤ length (now out) ⌝ }
     ensures { λ r. ⌜ WordsPut 6 (operand-words kind preference a b p «span_count») at (now (out .entry)) (now (out .exit)) r ⌝ }
+    ensures fits { λ r. ⌜ SizedOperands preference a b p «span_count» ⌝ }
 {
     let at = put_word(out, at, kind_code(kind));
     let at = put_word(out, at, preference as u64);
@@ -101,6 +117,7 @@ fn put_operands(
 fn put_component(out: &mut [u8], at: usize, c: Component) -> usize
     requires { ⌜ at + 128 ≤ length (now out) ⌝ }
     ensures { λ r. ⌜ WordsPut 16 (component-words c) at (now (out .entry)) (now (out .exit)) r ⌝ }
+    ensures fits { λ r. ⌜ SizedComponent c ⌝ }
 {
     let kind = c.kind;
     let spans = c.spans;
@@ -116,6 +133,7 @@ fn put_component(out: &mut [u8], at: usize, c: Component) -> usize
 fn put_state(out: &mut [u8], at: usize, s: State) -> usize
     requires { ⌜ at + 64 ≤ length (now out) ⌝ }
     ensures { λ r. ⌜ WordsPut 8 (state-words s) at (now (out .entry)) (now (out .exit)) r ⌝ }
+    ensures fits { λ r. ⌜ SizedState s ⌝ }
 {
     let signal = s.signal;
     let output = s.output;
@@ -133,6 +151,7 @@ fn put_state(out: &mut [u8], at: usize, s: State) -> usize
 fn put_part(out: &mut [u8], at: usize, p: Part) -> usize
     requires { ⌜ at + 200 ≤ length (now out) ⌝ }
     ensures { λ r. ⌜ WordsPut 25 (part-words p) at (now (out .entry)) (now (out .exit)) r ⌝ }
+    ensures fits { λ r. ⌜ SizedPart p ⌝ }
 {
     let component = p.component;
     let state = p.state;
@@ -145,6 +164,7 @@ fn put_part(out: &mut [u8], at: usize, p: Part) -> usize
 fn put_order(out: &mut [u8], at: usize, order: [u16; PARTS]) -> usize
     requires { ⌜ at + 256 ≤ length (now out) ⌝ }
     ensures { λ r. ⌜ WordsPut 32 (order-words order) at (now (out .entry)) (now (out .exit)) r ⌝ }
+    ensures fits { λ r. ⌜ SizedOrder order ⌝ }
 {
     let mut next = at;
     let mut i: usize = 0;
@@ -159,6 +179,7 @@ fn put_order(out: &mut [u8], at: usize, order: [u16; PARTS]) -> usize
 fn put_parts(out: &mut [u8], at: usize, parts: [Part; PARTS]) -> usize
     requires { ⌜ at + 6400 ≤ length (now out) ⌝ }
     ensures { λ r. ⌜ WordsPut 800 (parts-words parts) at (now (out .entry)) (now (out .exit)) r ⌝ }
+    ensures fits { λ r. ⌜ SizedParts parts ⌝ }
 {
     let mut next = at;
     let mut i: usize = 0;
@@ -174,10 +195,11 @@ fn put_parts(out: &mut [u8], at: usize, parts: [Part; PARTS]) -> usize
 pub fn put_model(out: &mut [u8], at: usize, m: Model) -> usize
     requires { ⌜ at + 6688 ≤ length (now out) ⌝ }
     ensures { λ r. ⌜ WordsPut 836 (model-words m) at (now (out .entry)) (now (out .exit)) r ⌝ }
+    ensures fits { λ r. ⌜ Sized m ⌝ }
 {
     let order = m.order;
     let parts = m.parts;
-    let at = put_word(out, at, m.magnitude as u64);
+    let at = put_word(out, at, magnitude_word(m.magnitude));
     let at = put_word(out, at, m.count as u64);
     let at = put_word(out, at, m.point.t.0);
     let at = put_word(out, at, m.point.n);

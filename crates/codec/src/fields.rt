@@ -10,6 +10,7 @@ ghost use mathlib.Core.Path.{_≡_};
 ghost use Rattle.machine.specs.Kind.{kind-number, kind-of};
 ghost use Rattle.codec.specs.Encoded.{mark-code, side-code, source-code};
 ghost use Rattle.codec.specs.Decoded.{mark-coded, side-coded, signal-of, source-of};
+ghost use Rattle.codec.specs.Sized.{FitsSource};
 
 // The kinds by their numbers.
 const KINDS: [Kind; 12] = [
@@ -62,6 +63,7 @@ pub fn kind_coded(w: u64) -> Kind
 // A port as a number: 0 unwired, k + 1 from part k.
 pub fn source_code(s: Source) -> u64
     ensures { λ r. ⌜ r ≡ source-code s ⌝ }
+    ensures fits { λ r. ⌜ FitsSource s ⌝ }
 {
     match s {
         Source::Unwired => 0,

@@ -9,6 +9,7 @@ ghost use lib.ListN.{length};
 ghost use Rattle.machine.specs.Load.{byte-at, word-at};
 ghost use Rattle.codec.specs.Words.{four-bytes, signed-word, word-in, word-signed};
 ghost use Rattle.codec.specs.Put.{BytesPut, WordsPut};
+ghost use Rattle.codec.specs.Sized.{FitsWord};
 
 // Half of the words: the signed number of a word below it is the word itself.
 const HALF: u64 = 9_223_372_036_854_775_808;
@@ -38,6 +39,7 @@ fn put_four(out: &mut [u8], at: usize, v: u64) -> usize
 pub fn put_word(out: &mut [u8], at: usize, v: u64) -> usize
     requires { ⌜ at + 8 ≤ length (now out) ⌝ }
     ensures { λ r. ⌜ WordsPut 1 (v ∷ []) at (now (out .entry)) (now (out .exit)) r ⌝ }
+    ensures fits { λ r. ⌜ FitsWord v ⌝ }
 {
     let at = put_four(out, at, v);
     put_four(out, at, v / 4294967296)

@@ -4,7 +4,9 @@ use crate::encode::put_model;
 use crate::word::put_word;
 use machine::model::Answer;
 use machine::model::Loaded;
+ghost use mathlib.Core.Path.{_≡_};
 ghost use Rattle.codec.specs.Encoded.{answer-bytes, loaded-bytes};
+ghost use Rattle.codec.specs.Sized.{Sized};
 ghost use Rattle.codec.specs.Written.{WrittenInto};
 
 // How many bytes a load's answer has, and an advance's.
@@ -18,6 +20,7 @@ const TOO_SHORT: u64 = 25;
 // A load's answer.
 pub fn write_loaded(loaded: Loaded, out: &mut [u8]) -> u64
     ensures { λ n. ⌜ WrittenInto (loaded-bytes loaded) 6704 (now (out .entry)) (now (out .exit)) n ⌝ }
+    ensures fits { λ n. ⌜ (n ≡ 0 → Sized (loaded .model)) ⌝ }
 {
     if out.len() < LOADED_WIDTH {
         return TOO_SHORT;
@@ -32,6 +35,7 @@ pub fn write_loaded(loaded: Loaded, out: &mut [u8]) -> u64
 // An advance's answer.
 pub fn write_answer(answer: Answer, out: &mut [u8]) -> u64
     ensures { λ n. ⌜ WrittenInto (answer-bytes answer) 6728 (now (out .entry)) (now (out .exit)) n ⌝ }
+    ensures fits { λ n. ⌜ (n ≡ 0 → Sized (answer .model)) ⌝ }
 {
     if out.len() < ANSWER_WIDTH {
         return TOO_SHORT;

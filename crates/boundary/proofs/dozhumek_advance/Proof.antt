@@ -1,5 +1,6 @@
 -- `dozhumek_advance` advances the model that the bytes mean, and writes that answer.
 use borrow.Author.Needs.{needs}
+use Rattle.boundary.proofs.Again.{answer-again}
 use Rattle.boundary.proofs.dozhumek_advance.Statement.{statement}
 use Rattle.boundary.proofs.dozhumek_advance.Tie as tie
 
@@ -22,7 +23,8 @@ returns c =
     record {
       answer = call .advance .result;
       machine = rw (call .before .model-of .ensures) at (call .advance .ensures);
-      written = written .write-answer .ensures;
+      written = written .write-answer .ensures .0;
+      again = answer-again (call .advance .result) (written .write-answer .ensures .0) (written .write-answer .ensures .1);
     }
 
 pub dozhumek-advance-spec : {M : Type 1} → statement M

@@ -47,8 +47,11 @@ loop-again c =
     let turn = c .before .before in
     let start = turn .before .before in
     let f : ℕ → ℕ = (λ (j : ℕ). word-in (start .args .bytes .now) (4 + j) % 65536) in
-    let inside : turn .loop .i < length (turn .loop .order) = omega arith in
-    (omega arith, simp length-set (turn .loop .inv .1), filled-more f (turn .loop .i) (turn .loop .order) _ inside (turn .loop .inv .2) (ap (λ (x : ℕ). x % 65536) (c .word .ensures)))
+    let inside : turn .loop .i < length (turn .loop .order) = omega arith in (
+      omega arith,
+      simp length-set (turn .loop .inv .1),
+      filled-more f (turn .loop .i) (turn .loop .order) _ inside (turn .loop .inv .2) (ap (λ (x : ℕ). x % 65536) (c .word .ensures)),
+    )
 
 returns : tie.Need-returns Inv-loop μ-loop
 unfolding order-of

@@ -51,8 +51,11 @@ loop-again c =
     let turn = c .before .before in
     let start = turn .before .before .before in
     let f : ℕ → Part = (λ (j : ℕ). part-of (start .args .bytes .now) (36 + 25 * j)) in
-    let inside : turn .loop .i < length (turn .loop .parts) = omega arith in
-    (omega arith, simp length-set (turn .loop .inv .1), filled-more f (turn .loop .i) (turn .loop .parts) _ inside (turn .loop .inv .2) (c .part-at2 .ensures))
+    let inside : turn .loop .i < length (turn .loop .parts) = omega arith in (
+      omega arith,
+      simp length-set (turn .loop .inv .1),
+      filled-more f (turn .loop .i) (turn .loop .parts) _ inside (turn .loop .inv .2) (c .part-at2 .ensures),
+    )
 
 returns : tie.Need-returns Inv-loop μ-loop
 unfolding parts-of

@@ -47,8 +47,11 @@ loop-again c =
     let turn = c .before .before in
     let start = turn .before .before in
     let f : ℕ → ℕ = (λ (j : ℕ). word-in (start .args .bytes .now) ((start .args .k) + j) % 4294967296) in
-    let inside : turn .loop .i < length (turn .loop .spans) = omega arith in
-    (omega arith, simp length-set (turn .loop .inv .1), filled-more f (turn .loop .i) (turn .loop .spans) _ inside (turn .loop .inv .2) (ap (λ (x : ℕ). x % 4294967296) (c .word .ensures)))
+    let inside : turn .loop .i < length (turn .loop .spans) = omega arith in (
+      omega arith,
+      simp length-set (turn .loop .inv .1),
+      filled-more f (turn .loop .i) (turn .loop .spans) _ inside (turn .loop .inv .2) (ap (λ (x : ℕ). x % 4294967296) (c .word .ensures)),
+    )
 
 returns : tie.Need-returns Inv-loop μ-loop
 unfolding spans-of

@@ -38,12 +38,19 @@ returns c =
     let start = operands .before .before .before .before .before .before in
     let a = toZ-ofZ w64 (start .args .c .a) (record { sfits = operands .before .before .struct-told .given .1 .1 .0 .1 }) in
     let b = toZ-ofZ w64 (start .args .c .b) (record { sfits = operands .before .struct-told2 .given .1 .1 .1 .0 .1 }) in
-    let front = simp (a, b) at (operands .put-operands .ensures) in
-    let ports = words-then (port0 .put-word .ensures) (port1 .put-word2 .ensures) in
-    let ports = simp (port0 .before .source-code .ensures, port1 .before .source-code2 .ensures) at ports in
+    let front = simp (a, b) at (operands .put-operands .ensures .0) in
+    let ports = words-then (port0 .put-word .ensures .0) (port1 .put-word2 .ensures .0) in
+    let ports = simp (port0 .before .source-code .ensures .0, port1 .before .source-code2 .ensures .0) at ports in
     let whole = start .args .c in
-    let first = operand-words (whole .kind) (whole .preference) (whole .a) (whole .b) (whole .p) (whole .«span_count») in
-    words-then {us = first} front (words-then (spans .put-spans .ensures) ports)
+    let first = operand-words (whole .kind) (whole .preference) (whole .a) (whole .b) (whole .p) (whole .«span_count») in (
+      words-then {us = first} front (words-then (spans .put-spans .ensures .0) ports),
+      record {
+        operands = simp (a, b) at (operands .put-operands .ensures .1);
+        spans = spans .put-spans .ensures .1;
+        port0 = port0 .before .source-code .ensures .1;
+        port1 = port1 .before .source-code2 .ensures .1;
+      },
+    )
 
 pub put-component-spec : {M : Type 1} → statement M
 put-component-spec =

@@ -5,8 +5,8 @@ use borrow.Author.Needs.{needs}
 use Rattle.codec.proofs.encode.put_model.Statement.{statement}
 use Rattle.codec.proofs.encode.put_model.Tie as tie
 
-cast-put-word : tie.Need-cast-put-word
-cast-put-word c = search needs
+magnitude-word-requires : tie.Need-magnitude-word-requires
+magnitude-word-requires c κs = search needs
 
 put-word-requires : tie.Need-put-word-requires
 put-word-requires c κs = search needs
@@ -38,15 +38,25 @@ returns c =
     let ticks = microstep .before .before .before .before in
     let count = ticks .before .before .before .before in
     let magnitude = count .before .before .before .before in
-    let two = words-then (magnitude .put-word .ensures) (count .put-word2 .ensures) in
-    let four = words-then (words-then two (ticks .put-word3 .ensures)) (microstep .put-word4 .ensures) in
-    words-then four (words-then (order .put-order .ensures) (parts .put-parts .ensures))
+    let word = simp (magnitude .before .magnitude-word .ensures .0) at (magnitude .put-word .ensures .0) in
+    let two = words-then word (count .put-word2 .ensures .0) in
+    let four = words-then (words-then two (ticks .put-word3 .ensures .0)) (microstep .put-word4 .ensures .0) in (
+      words-then four (words-then (order .put-order .ensures .0) (parts .put-parts .ensures .0)),
+      record {
+        magnitude = magnitude .before .magnitude-word .ensures .1;
+        count = count .put-word2 .ensures .1;
+        ticks = ticks .put-word3 .ensures .1;
+        microstep = microstep .put-word4 .ensures .1;
+        order = order .put-order .ensures .1;
+        parts = parts .put-parts .ensures .1;
+      },
+    )
 
 pub put-model-spec : {M : Type 1} → statement M
 put-model-spec =
     tie.close
     (tie.spec
-    cast-put-word
+    magnitude-word-requires
     put-word-requires
     put-word-requires-2
     put-word-requires-3

@@ -2,6 +2,9 @@
 use mir.Syntax.{w64}
 use mir.ValLaws.{toZ-ofZ}
 use Rattle.codec.specs.Encoded.{operand-words}
+use native.Mathlib.Omega.{arith}
+use Rattle.codec.specs.Sized.{SizedOperands}
+use Rattle.codec.proofs.Signed.{fits-signed}
 use Rattle.codec.proofs.Pieces.{words-then}
 use borrow.Author.Needs.{needs}
 use Rattle.codec.proofs.encode.put_operands.Statement.{statement}
@@ -41,14 +44,23 @@ returns c =
     let second = third .before .before .before .before in
     let first = second .before .before .before .before in
     let start = first .before .before .before .before in
-    let two = words-then (first .put-word .ensures) (second .put-word2 .ensures) in
-    let four = words-then (words-then two (third .put-signed .ensures)) (fourth .put-signed2 .ensures) in
-    let six = words-then (words-then four (fifth .put-word3 .ensures)) (sixth .put-word4 .ensures) in
-    simp (
+    let two = words-then (first .put-word .ensures .0) (second .put-word2 .ensures .0) in
+    let four = words-then (words-then two (third .put-signed .ensures .0)) (fourth .put-signed2 .ensures .0) in
+    let six = words-then (words-then four (fifth .put-word3 .ensures .0)) (sixth .put-word4 .ensures .0) in
+    let put = simp (
       first .before .kind-code .ensures,
       toZ-ofZ w64 (start .args .a) (start .fits .a),
       toZ-ofZ w64 (start .args .b) (start .fits .b),
-    ) at six
+    ) at six in
+    let fits : SizedOperands (start .args .preference) (start .args .a) (start .args .b) (start .args .p) (start .args .span-count) =
+    record {
+      octet = omega arith;
+      operand-a = fits-signed (start .args .a) (start .fits .a);
+      operand-b = fits-signed (start .args .b) (start .fits .b);
+      operand-p = omega arith;
+      counted = omega arith;
+    } in
+    (put, fits)
 
 pub put-operands-spec : {M : Type 1} → statement M
 put-operands-spec =

@@ -22,8 +22,14 @@ unfolding part-words
 returns c =
     let state = c .before .before in
     let ratio = state .before .before .before .before in
-    let component = ratio .before .before .before .before in
-    words-then (component .put-component .ensures) (words-then (ratio .put-word .ensures) (state .put-state .ensures))
+    let component = ratio .before .before .before .before in (
+      words-then (component .put-component .ensures .0) (words-then (ratio .put-word .ensures .0) (state .put-state .ensures .0)),
+      record {
+        component = component .put-component .ensures .1;
+        ratio = ratio .put-word .ensures .1;
+        state = state .put-state .ensures .1;
+      },
+    )
 
 pub put-part-spec : {M : Type 1} → statement M
 put-part-spec =

@@ -31,7 +31,7 @@ returns : tie.Need-returns
 returns c =
     let last = c .before .before in
     let first = last .before .before .before .before in
-    rw (first .before .before .enum-told .given .1) (words-then (first .put-word .ensures) (last .put-word2 .ensures))
+    rw (first .before .before .enum-told .given .1) (words-then (first .put-word .ensures .0) (last .put-word2 .ensures .0), tt)
 
 same-length-2 : tie.Need-same-length-2
 same-length-2 c = search needs
@@ -42,7 +42,7 @@ returns-2 c =
     let first = last .before .before .before .before in
     let told = first .before .before in
     let back = toZ-ofZ w64 (told .before .s .given .0 .0) (record { sfits = told .known-told .given .0 .1 }) in
-    rw (told .before .s .given .1, ← back) (words-then (first .put-word3 .ensures) (last .put-signed .ensures))
+    rw (told .before .s .given .1, ← back) (words-then (first .put-word3 .ensures .0) (last .put-signed .ensures .0), last .put-signed .ensures .1)
 
 pub put-signal-spec : {M : Type 1} → statement M
 put-signal-spec =

@@ -2,6 +2,7 @@
 use mir.Syntax.{w64}
 use mir.ValLaws.{toZ-ofZ}
 use borrow.Author.Needs.{needs}
+use Rattle.codec.proofs.Signed.{fits-signed}
 use Rattle.codec.proofs.encode.put_signed.Statement.{statement}
 use Rattle.codec.proofs.encode.put_signed.Tie as tie
 
@@ -18,7 +19,8 @@ returns : tie.Need-returns
 returns c =
     let start = c .before .before .before .before .before .before in
     let back = toZ-ofZ w64 (start .args .v) (start .fits .v) in
-    simp (c .before .before .before .signed-word .ensures, back) at (c .before .before .put-word .ensures)
+    let put = simp (c .before .before .before .signed-word .ensures, back) at (c .before .before .put-word .ensures .0) in
+    (put, fits-signed (start .args .v) (start .fits .v))
 
 pub put-signed-spec : {M : Type 1} → statement M
 put-signed-spec = tie.close (tie.spec signed-word-requires put-word-requires same-length returns)

@@ -46,11 +46,18 @@ returns c =
     let first = second .before .before .before .before .before in
     let start = first .before .before .before in
     let back = toZ-ofZ w64 (start .args .s .held) (record { sfits = second .before .struct-told .given .1 .0 .1 }) in
-    let two = words-then (first .put-word .ensures) (second .put-signed .ensures) in
+    let two = words-then (first .put-word .ensures .0) (second .put-signed .ensures .0) in
     let two = simp back at two in
-    let last = words-then (fifth .put-word2 .ensures) (sixth .put-word3 .ensures) in
-    let last = simp (fifth .before .side-code .ensures, sixth .before .mark-code .ensures) at last in
-    words-then two (words-then (third .put-signal .ensures) (words-then (fourth .put-signal2 .ensures) last))
+    let last = words-then (fifth .put-word2 .ensures .0) (sixth .put-word3 .ensures .0) in
+    let last = simp (fifth .before .side-code .ensures, sixth .before .mark-code .ensures) at last in (
+      words-then two (words-then (third .put-signal .ensures .0) (words-then (fourth .put-signal2 .ensures .0) last)),
+      record {
+        local = first .put-word .ensures .1;
+        held = rw back at (second .put-signed .ensures .1);
+        signal = third .put-signal .ensures .1;
+        output = fourth .put-signal2 .ensures .1;
+      },
+    )
 
 pub put-state-spec : {M : Type 1} → statement M
 put-state-spec =

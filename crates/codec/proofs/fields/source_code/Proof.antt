@@ -1,6 +1,7 @@
 -- `source_code` is the definition, by cases.
 use mathlib.Core.Path.{refl}
 use borrow.Author.Needs.{needs}
+use native.Mathlib.Omega.{arith}
 use Rattle.codec.proofs.fields.source_code.Statement.{statement}
 use Rattle.codec.proofs.fields.source_code.Tie as tie
 
@@ -17,10 +18,10 @@ add-result : tie.Need-add-result
 add-result c = search needs
 
 returns : tie.Need-returns
-returns c = search needs
+returns c = rw (c .enum-told .given .1) (refl, tt)
 
 returns-2 : tie.Need-returns-2
-returns-2 c = rw (c .before .s .given .1) refl
+returns-2 c = rw (c .before .s .given .1) (refl, omega arith)
 
 pub source-code-spec : {M : Type 1} → statement M
 source-code-spec =

@@ -1,4 +1,5 @@
 -- `write_answer` makes the definition's test, and puts the words of the definition at the buffer's front.
+use native.Mathlib.Omega.{arith}
 use Rattle.codec.proofs.Pieces.{words-then}
 use Rattle.codec.specs.Encoded.{answer-words, answer-bytes}
 use Rattle.codec.specs.Widths.{answer-wide}
@@ -8,7 +9,7 @@ use Rattle.codec.proofs.write.write_answer.Statement.{statement}
 use Rattle.codec.proofs.write.write_answer.Tie as tie
 
 returns : tie.Need-returns
-returns c = left-out (answer-wide _) (c .if1 .taken)
+returns c = (left-out (answer-wide _) (c .if1 .taken), λ e. absurd (omega arith))
 
 put-word-requires : tie.Need-put-word-requires
 put-word-requires c κs = search needs
@@ -41,9 +42,9 @@ returns-2 c =
     let step = rounds .before .before .before .before in
     let number = step .before .before .before .before in
     let test = number .before .before .before in
-    let two = words-then (number .put-word .ensures) (step .put-word2 .ensures) in
-    let four = words-then (words-then two (rounds .put-word3 .ensures)) (revisions .put-word4 .ensures) in
-    put-in (words-then (words-then four (ceiling .put-word5 .ensures)) (model .put-model .ensures)) (test .if1 .left)
+    let two = words-then (number .put-word .ensures .0) (step .put-word2 .ensures .0) in
+    let four = words-then (words-then two (rounds .put-word3 .ensures .0)) (revisions .put-word4 .ensures .0) in
+    (put-in (words-then (words-then four (ceiling .put-word5 .ensures .0)) (model .put-model .ensures .0)) (test .if1 .left), λ e. model .put-model .ensures .1)
 
 pub write-answer-spec : {M : Type 1} → statement M
 write-answer-spec =

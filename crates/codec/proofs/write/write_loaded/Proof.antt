@@ -1,4 +1,5 @@
 -- `write_loaded` makes the definition's test, and puts the words of the definition at the buffer's front.
+use native.Mathlib.Omega.{arith}
 use Rattle.codec.proofs.Pieces.{words-then}
 use Rattle.codec.specs.Encoded.{loaded-words, loaded-bytes}
 use Rattle.codec.specs.Widths.{loaded-wide}
@@ -8,7 +9,7 @@ use Rattle.codec.proofs.write.write_loaded.Statement.{statement}
 use Rattle.codec.proofs.write.write_loaded.Tie as tie
 
 returns : tie.Need-returns
-returns c = left-out (loaded-wide _) (c .if1 .taken)
+returns c = (left-out (loaded-wide _) (c .if1 .taken), λ e. absurd (omega arith))
 
 put-word-requires : tie.Need-put-word-requires
 put-word-requires c κs = search needs
@@ -29,8 +30,8 @@ returns-2 c =
     let position = model .before .before .before .before in
     let number = position .before .before .before .before in
     let test = number .before .before .before in
-    let two = words-then (number .put-word .ensures) (position .put-word2 .ensures) in
-    put-in (words-then two (model .put-model .ensures)) (test .if1 .left)
+    let two = words-then (number .put-word .ensures .0) (position .put-word2 .ensures .0) in
+    (put-in (words-then two (model .put-model .ensures .0)) (test .if1 .left), λ e. model .put-model .ensures .1)
 
 pub write-loaded-spec : {M : Type 1} → statement M
 write-loaded-spec =
