@@ -1,28 +1,30 @@
-//! Times loading and advancing on fixed workloads.
+//! Times both programs, and the library's call, on fixed workloads.
 //!
-//!     bench DIRECTORY [RUNS [WORKLOAD]]
+//!     bench VERIFIED SECOND DIRECTORY [RUNS [WORKLOAD]]
 //!
-//! Writes each workload's stream (a table and as many wanted steps as 65,536 bytes hold) to DIRECTORY and prints a row
-//! for it: the best of RUNS runs (25), in nanoseconds. Built with the feature `verified`, it also times the verified
-//! master, linked as a static library with the function declared in [`verified`], and compares the two checksums.
+//! VERIFIED and SECOND are the programs `rehearse` and `rehearse-second`. Each workload's stream (a table and as many wanted
+//! steps as 65,536 bytes hold) goes to DIRECTORY, and so does its table alone. Both programs are fed both in turn, RUNS times
+//! (25); the time of an advance is the least processor time for the stream less the least for the table alone, by the number
+//! of wanted steps. Prints a row for each workload. The status is 0 only if both programs print the same bytes for each.
 
 #[allow(dead_code)]
 #[path = "../differ/draft.rs"]
 mod draft;
+mod programs;
 #[allow(dead_code)]
 #[path = "../differ/random.rs"]
 mod random;
-mod verified;
 mod workloads;
 
+use programs::{printed, time_of, Whose};
 use second::load::wanted;
 use second::{advance, load, Model};
 use std::error::Error;
 use std::fs;
 use std::hint::black_box;
-use std::path::Path;
+use std::io;
+use std::path::{Path, PathBuf};
 use std::process::ExitCode;
-use std::time::Instant;
 
 /// A checksum of answers, each below this number.
 const MODULUS: u64 = 1_000_000_007;
@@ -66,22 +68,6 @@ fn outputs(model: &Model) -> impl Iterator<Item = u64> + '_ {
     model.parts.iter().map(|part| part.output.map_or(2_000_000_001, |x| (i64::from(x) + 1_000_000_000) as u64))
 }
 
-/// The shortest of `runs` runs, in nanoseconds.
-fn best(runs: u32, mut run: impl FnMut() -> u64) -> f64 {
-    let time = |_| {
-        let start = Instant::now();
-        black_box(run());
-        start.elapsed().as_nanos() as f64
-    };
-    (0..runs).map(time).fold(f64::INFINITY, f64::min)
-}
-
-/// Nanoseconds for loading, and for each advance: all of a stream less loading alone.
-fn measured(runs: u32, advances: u64, play: impl Fn(u64) -> u64) -> (f64, f64) {
-    let loading = best(runs * 20, || play(0));
-    (loading, (best(runs, || play(advances)) - loading) / advances as f64)
-}
-
 /// What a score does: committed steps, steps of 0, rounds and revisions.
 fn character(stream: &[u8]) -> Option<(u64, [u64; 4])> {
     let accepted = load(stream).ok()?;
@@ -99,58 +85,114 @@ fn character(stream: &[u8]) -> Option<(u64, [u64; 4])> {
     Some((advances, totals))
 }
 
-fn run() -> Result<(), Box<dyn Error>> {
-    let mut arguments = std::env::args().skip(1);
-    let directory = arguments.next().ok_or("usage: bench DIRECTORY [RUNS [WORKLOAD]]")?;
-    let runs: u32 = arguments.next().map_or(Ok(25), |runs| runs.parse())?;
-    let only = arguments.next();
-    fs::create_dir_all(&directory)?;
-    println!(
-        "{:<10} {:>5} {:>8} {:>6} {:>6} {:>7} {:>9} {:>8} {:>10} {:>10} {:>9} {:>8}",
-        "workload",
-        "parts",
-        "advances",
-        "step 0",
-        "rounds",
-        "revised",
-        "second ns",
-        "untested",
-        "load ns",
-        "verified",
-        "its load",
-        "times"
-    );
-    for (name, stream) in workloads::all() {
-        if only.as_ref().is_some_and(|only| *only != name) {
-            continue;
-        }
-        fs::write(Path::new(&directory).join(format!("{name}.bin")), &stream)?;
-        let (advances, [committed, zero, rounds, revisions]) = character(&stream).ok_or("a workload is refused")?;
+/// A workload on disk, and the least processor times in nanoseconds so far.
+struct Timed {
+    name: String,
+    stream: Vec<u8>,
+    parts: usize,
+    advances: u64,
+    /// Steps of 0, rounds and revisions.
+    made: [u64; 3],
+    /// The stream, and its table alone.
+    files: [PathBuf; 2],
+    /// By program, then by file.
+    programs: [[f64; 2]; 2],
+    /// The library's call and the one that leaves the test of its model out; by whether the score is played.
+    calls: [[f64; 2]; 2],
+}
+
+/// Loading alone is too short to be timed once.
+const LOADS: u32 = 100;
+
+impl Timed {
+    fn new(name: String, stream: Vec<u8>, directory: &Path) -> Result<Timed, Box<dyn Error>> {
+        let accepted = load(&stream).map_err(|refusal| format!("{name} is refused: {refusal:?}"))?;
+        let (advances, [committed, zero, rounds, revisions]) = character(&stream).ok_or("a score is refused")?;
         if committed * 10 < advances * 9 {
             return Err(format!("{name}: only {committed} of {advances} advances commit").into());
         }
-        let parts = load(&stream).map_or(0, |accepted| accepted.model.parts.len());
-        let of_each = |total: u64| total as f64 / advances as f64;
-        let (loading, tested) = measured(runs, advances, |commands| play(&stream, commands, true));
-        let (_, untested) = measured(runs, advances, |commands| play(&stream, commands, false));
-        print!(
-            "{name:<10} {parts:>5} {advances:>8} {:>6.2} {:>6.2} {:>7.2} {tested:>9.1} {untested:>8.1} {loading:>10.0}",
-            of_each(zero),
-            of_each(rounds),
-            of_each(revisions)
-        );
-        match verified::PLAY {
-            None => println!(" {:>10} {:>9} {:>8}", "-", "-", "-"),
-            Some(theirs) => {
-                let (own, other) = (play(&stream, advances, true), theirs(&stream, advances));
-                if own != other {
-                    println!();
-                    return Err(format!("{name}: the verified master's checksum is {other} instead of {own}").into());
-                }
-                let (loading, each) = measured(runs, advances, |commands| theirs(&stream, commands));
-                println!(" {each:>10.1} {loading:>9.0} {:>8.2}", each / tested);
+        let files = [directory.join(format!("{name}.bin")), directory.join(format!("{name}-table.bin"))];
+        fs::write(&files[0], &stream)?;
+        fs::write(&files[1], &stream[..accepted.end])?;
+        let (parts, made) = (accepted.model.parts.len(), [zero, rounds, revisions]);
+        let none = [[f64::INFINITY; 2]; 2];
+        Ok(Timed { name, stream, parts, advances, made, files, programs: none, calls: none })
+    }
+
+    /// Both programs print the same.
+    fn compare(&self, programs: &[String; 2]) -> Result<(), Box<dyn Error>> {
+        for file in &self.files {
+            if printed(&programs[0], file)? != printed(&programs[1], file)? {
+                return Err(format!("the programs print different bytes for {}", file.display()).into());
             }
         }
+        Ok(())
+    }
+
+    /// One run of everything.
+    fn run(&mut self, programs: &[String; 2]) -> io::Result<()> {
+        for (at, file) in self.files.iter().enumerate() {
+            for (program, least) in programs.iter().zip(&mut self.programs) {
+                least[at] = least[at].min(programs::time(program, file)?);
+            }
+        }
+        for (checks, least) in [true, false].into_iter().zip(&mut self.calls) {
+            let whole = own_time(|| play(&self.stream, self.advances, checks))?;
+            let loads = own_time(|| (0..LOADS).map(|_| black_box(play(&self.stream, 0, checks))).sum())?;
+            *least = [least[0].min(whole), least[1].min(loads / f64::from(LOADS))];
+        }
+        Ok(())
+    }
+
+    fn row(&self) -> String {
+        let of_each = |least: [f64; 2]| (least[0] - least[1]) / self.advances as f64;
+        let [zero, rounds, revisions] = self.made.map(|total| total as f64 / self.advances as f64);
+        let [verified, second] = self.programs.map(of_each);
+        let [call, untested] = self.calls.map(of_each);
+        format!(
+            "{:<10} {:>5} {:>8} {zero:>6.2} {rounds:>6.2} {revisions:>7.2} {verified:>8.0} {second:>6.0} {:>6.2} {call:>6.0} {untested:>8.0}",
+            self.name,
+            self.parts,
+            self.advances,
+            verified / second
+        )
+    }
+}
+
+/// Processor time of a run in this process, in nanoseconds.
+fn own_time(run: impl FnOnce() -> u64) -> io::Result<f64> {
+    let before = time_of(Whose::Own)?;
+    black_box(run());
+    Ok((time_of(Whose::Own)? - before).as_nanos() as f64)
+}
+
+fn run() -> Result<(), Box<dyn Error>> {
+    let mut arguments = std::env::args().skip(1);
+    let mut next = || arguments.next().ok_or("usage: bench VERIFIED SECOND DIRECTORY [RUNS [WORKLOAD]]");
+    let programs = [next()?, next()?];
+    let directory = next()?;
+    let runs: u32 = arguments.next().map_or(Ok(25), |runs| runs.parse())?;
+    let only = arguments.next();
+    fs::create_dir_all(&directory)?;
+    let chosen = workloads::all().into_iter().filter(|(name, _)| only.as_ref().is_none_or(|only| only == name));
+    let timed: Result<Vec<Timed>, _> =
+        chosen.map(|(name, stream)| Timed::new(name, stream, Path::new(&directory))).collect();
+    let mut timed = timed?;
+    if timed.is_empty() {
+        return Err("no workload has this name".into());
+    }
+    for workload in &timed {
+        workload.compare(&programs)?;
+    }
+    // All workloads take turns, so that a time in which the machine is slow touches none more than the others.
+    for _ in 0..runs {
+        for workload in &mut timed {
+            workload.run(&programs)?;
+        }
+    }
+    println!("workload   parts advances step 0 rounds revised verified second  ratio   call untested");
+    for workload in &timed {
+        println!("{}", workload.row());
     }
     Ok(())
 }

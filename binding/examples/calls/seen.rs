@@ -1,0 +1,170 @@
+//! What the calls reached.
+
+use crate::alter::{Then, BILLION, LAST_TICK, SORTS};
+use crate::words::*;
+use std::collections::BTreeMap;
+
+#[derive(Default)]
+pub struct Seen {
+    pub cases: u64,
+    pub loads: u64,
+    pub advances: u64,
+    /// Whether a model's bytes may be cut, so that it is another.
+    pub may_cut: bool,
+    /// By number.
+    pub load_numbers: [u64; 32],
+    numbers: [u64; 32],
+    /// Answers of 24 for models that the second implementation's types cannot say.
+    by_rule: u64,
+    /// By name: altered models that are sound, and that are not.
+    sorts: BTreeMap<&'static str, [u64; 2]>,
+    /// What else was tried, by name.
+    others: BTreeMap<&'static str, u64>,
+    kinds: [u64; 12],
+    most_rounds: u64,
+    most_revisions: u64,
+}
+
+/// Wanted steps, by name.
+const WANTED: [(&str, fn(u64) -> bool); 10] = [
+    ("w 0", |w| w == 0),
+    ("w 1", |w| w == 1),
+    ("w to 10^9", |w| w > 1 && w < BILLION),
+    ("w 10^9", |w| w == BILLION),
+    ("w 10^9+1", |w| w == BILLION + 1),
+    ("w to 2^32", |w| w > BILLION + 1 && w < 1 << 32),
+    ("w 2^32", |w| w == 1 << 32),
+    ("w above 2^32", |w| w > 1 << 32 && w != 1 << 63 && w != u64::MAX),
+    ("w 2^63", |w| w == 1 << 63),
+    ("w 2^64-1", |w| w == u64::MAX),
+];
+
+/// What else has to be tried.
+const OTHERS: [&str; 17] = [
+    "load through the binding",
+    "load with too little room",
+    "advance through the binding",
+    "advance with too little room",
+    "bytes behind the model",
+    "missing bytes",
+    "unused places with noise",
+    "unused places with words too wide",
+    "committed up to the last tick",
+    "committed above 9 x 10^17",
+    "committed up to the last microstep",
+    "22 above 9 x 10^17",
+    "23 by one tick",
+    "23 at the last tick",
+    "23 at the last point",
+    "21 above 9 x 10^17",
+    "20 at the last point",
+];
+
+impl Seen {
+    pub fn count(&mut self, name: &'static str) {
+        *self.others.entry(name).or_default() += 1;
+    }
+
+    pub fn sort(&mut self, name: &'static str, sound: bool) {
+        self.sorts.entry(name).or_default()[usize::from(!sound)] += 1;
+    }
+
+    /// Counts the kinds of a model that was loaded and played.
+    pub fn played(&mut self, words: &Words) {
+        for number in 0..words.count() {
+            self.kinds[words.part(number)[KIND] as usize] += 1;
+        }
+    }
+
+    /// Counts an answer that agreed.
+    pub fn answer(&mut self, given: &Words, w: u64, counts: &[u64; 5], after: &Words, by_rule: bool) {
+        let number = counts[0];
+        self.numbers[number as usize] += 1;
+        self.by_rule += u64::from(by_rule);
+        for (name, is_one) in WANTED {
+            if is_one(w) {
+                self.count(name);
+            }
+        }
+        self.most_rounds = self.most_rounds.max(counts[2]);
+        self.most_revisions = self.most_revisions.max(counts[3]);
+        let (t, n) = (given.0[T], given.0[N]);
+        let far = t > 900_000_000_000_000_000;
+        let mut must = |is_one: bool, name| {
+            if is_one {
+                self.count(name);
+            }
+        };
+        must(number == 0 && counts[1] > 0 && after.0[T] == LAST_TICK, "committed up to the last tick");
+        must(number == 0 && far, "committed above 9 x 10^17");
+        must(number == 0 && after.0[N] == 999, "committed up to the last microstep");
+        must(number == 22 && far, "22 above 9 x 10^17");
+        must(number == 23 && w == LAST_TICK - t + 1, "23 by one tick");
+        must(number == 23 && t == LAST_TICK, "23 at the last tick");
+        must(number == 23 && t == LAST_TICK && n == 999, "23 at the last point");
+        must(number == 21 && far, "21 above 9 x 10^17");
+        must(number == 20 && t == LAST_TICK && n == 999, "20 at the last point");
+    }
+
+    /// What was not reached and should have been.
+    pub fn missing(&self) -> Vec<String> {
+        let mut missing = Vec::new();
+        let mut must = |reached: bool, what: String| {
+            if !reached {
+                missing.push(what);
+            }
+        };
+        for number in [0, 1, 2, 3, 5, 6, 7, 8, 9, 10, 11, 12] {
+            must(self.load_numbers[number] > 0, format!("number {number} of a load"));
+        }
+        for number in [0, 20, 21, 22, 23, 24] {
+            must(self.numbers[number] > 0, format!("number {number} of an advance"));
+        }
+        must(self.by_rule > 0, "models that the second implementation cannot say".to_string());
+        for (name, then, _) in SORTS {
+            let [sound, unsound] = self.sorts.get(name).copied().unwrap_or_default();
+            must(*then == Then::Unsound || sound > 0, format!("{name}, sound"));
+            must(*then == Then::Sound || unsound > 0, format!("{name}, unsound"));
+        }
+        for name in OTHERS.iter().chain(WANTED.iter().map(|(name, _)| name)) {
+            must(self.others.contains_key(name), name.to_string());
+        }
+        for (kind, &parts) in self.kinds.iter().enumerate() {
+            must(parts > 0, format!("kind {kind}"));
+        }
+        missing
+    }
+
+    pub fn figures(&self) -> String {
+        let numbers = |counts: &[u64]| -> String {
+            let reached = counts.iter().enumerate().filter(|(_, &count)| count > 0);
+            reached.map(|(number, count)| format!(" {number}:{count}")).collect()
+        };
+        let sorts: Vec<String> = SORTS
+            .iter()
+            .map(|(name, then, _)| {
+                let [sound, unsound] = self.sorts.get(name).copied().unwrap_or_default();
+                match then {
+                    Then::Sound => format!("{name} {sound}"),
+                    Then::Unsound => format!("{name} {unsound}"),
+                    Then::Either => format!("{name} {sound}+{unsound}"),
+                }
+            })
+            .collect();
+        let others: Vec<String> = self.others.iter().map(|(name, count)| format!("{name} {count}")).collect();
+        format!(
+            "{} loads{}; {} advances{}, {} of 24 by rule; at most {} rounds and {} revisions; altered (sound+unsound where \
+             both can be): {}; {}; kinds{}",
+            self.loads,
+            numbers(&self.load_numbers),
+            self.advances,
+            numbers(&self.numbers),
+            self.by_rule,
+            self.most_rounds,
+            self.most_revisions,
+            sorts.join(", "),
+            others.join(", "),
+            numbers(&self.kinds),
+        )
+    }
+}
