@@ -1,5 +1,5 @@
--- `all_settled_model` is `all-settled`. The invariant: of the parts the first i are settled, each by its reading in the model at first, and nothing
--- else is changed. The measure is what is left of the count.
+-- `settled_model` is `all-settled` of the model that `filled_model` gives. The invariant: of the parts the first i are settled, each by its reading in
+-- that model, and nothing else is changed. The measure is what is left of the count.
 use Prim.Native.Nat.{ℕ, _+_, _-_, _≤_, _<_}
 use native.Mathlib.Omega.{arith}
 use mathlib.Core.Path.{_≡_, refl, ap, _∙_}
@@ -12,9 +12,11 @@ use Rattle.steps.specs.Partway.{partway}
 use Rattle.steps.specs.Reading.{source-index}
 use Rattle.steps.specs.Trimmed.{all-changed, replaced}
 use Rattle.steps.specs.Fillable.{place-fits, Wired, wired-few, wired-places, wired-at, source-place}
-use Rattle.steps.specs.Settling.{settled-unread, settled-component, unsettled, settled-next}
-use Rattle.steps.proofs.settling.all_settled_model.Statement.{statement}
-use Rattle.steps.proofs.settling.all_settled_model.Tie as tie
+use Rattle.steps.specs.InPlace.{unchanged, changed-next}
+use Rattle.steps.specs.Settling.{settled-unread, settled-component, settled-output}
+use Rattle.steps.specs.Made.{filled-settleable, finished}
+use Rattle.steps.proofs.settling.settled_model.Statement.{statement}
+use Rattle.steps.proofs.settling.settled_model.Tie as tie
 
 abbrev Inv-loop : tie.InvT-loop
 Inv-loop next₀ i₀ next i =
@@ -40,8 +42,20 @@ turn m next i wired e h =
       within = within;
       few = wired-few m wired;
       places = wired-places m wired;
-      source = rw (unsettled (m .parts) (next .parts) i (ap (λ (x : Model). x .parts) e)) (source-place m wired i within);
+      source = rw (unchanged settled settled-output (m .parts) (next .parts) i (ap (λ (x : Model). x .parts) e)) (source-place m wired i within);
     }
+
+filled-model-requires : tie.Need-filled-model-requires Inv-loop μ-loop
+filled-model-requires c κs = c .pre
+
+-- the model with its outputs filled, and how it is wired
+abbrev f : tie.After-filled-model Inv-loop μ-loop → Model
+f s = s .filled-model .result
+
+wired : (s : tie.After-filled-model Inv-loop μ-loop) → Wired (trimmed (f s))
+wired s =
+    let new = s .before .args .new in
+    filled-settleable (trimmed (s .before .args .old) .parts) new (s .filled-model .result) (s .before .pre .wired) (s .filled-model .ensures)
 
 loop-holds : tie.Need-loop-holds Inv-loop μ-loop
 loop-holds c = (omega arith, refl)
@@ -51,15 +65,15 @@ mul-p c =
     let test = c in
     let s = test .before .before in
     let loop = test .before .loop in
-    let at = turn (s .args .m) (loop .next) (loop .i) (s .pre) (loop .inv .1) (test .loop-test .taken) in
-    place-fits (loop .i) (s .args .m .count) (at .within) (at .few)
+    let at = turn (f s) (loop .next) (loop .i) (wired s) (loop .inv .1) (test .loop-test .taken) in
+    place-fits (loop .i) (f s .count) (at .within) (at .few)
 
 element-copy-out-p : tie.Need-element-copy-out-p Inv-loop μ-loop
 element-copy-out-p c =
     let test = c in
     let s = test .before .before in
     let loop = test .before .loop in
-    let at = turn (s .args .m) (loop .next) (loop .i) (s .pre) (loop .inv .1) (test .loop-test .taken) in
+    let at = turn (f s) (loop .next) (loop .i) (wired s) (loop .inv .1) (test .loop-test .taken) in
     omega (arith, at .within, at .few)
 
 source-index-requires : tie.Need-source-index-requires Inv-loop μ-loop
@@ -70,7 +84,7 @@ mul-q c =
     let test = c .before .before .before in
     let s = test .before .before in
     let loop = test .before .loop in
-    let at = turn (s .args .m) (loop .next) (loop .i) (s .pre) (loop .inv .1) (test .loop-test .taken) in
+    let at = turn (f s) (loop .next) (loop .i) (wired s) (loop .inv .1) (test .loop-test .taken) in
     rw (c .source-index .ensures) (place-fits _ 32 (at .source) (omega arith))
 
 element-copy-out-q : tie.Need-element-copy-out-q Inv-loop μ-loop
@@ -78,7 +92,7 @@ element-copy-out-q c =
     let test = c .before .before .before in
     let s = test .before .before in
     let loop = test .before .loop in
-    let at = turn (s .args .m) (loop .next) (loop .i) (s .pre) (loop .inv .1) (test .loop-test .taken) in
+    let at = turn (f s) (loop .next) (loop .i) (wired s) (loop .inv .1) (test .loop-test .taken) in
     rw (c .source-index .ensures) (at .source)
 
 heard-of-requires : tie.Need-heard-of-requires Inv-loop μ-loop
@@ -92,15 +106,15 @@ mul-settled c =
     let test = c .before .before .before .before .before .before .before in
     let s = test .before .before in
     let loop = test .before .loop in
-    let at = turn (s .args .m) (loop .next) (loop .i) (s .pre) (loop .inv .1) (test .loop-test .taken) in
-    place-fits (loop .i) (s .args .m .count) (at .within) (at .few)
+    let at = turn (f s) (loop .next) (loop .i) (wired s) (loop .inv .1) (test .loop-test .taken) in
+    place-fits (loop .i) (f s .count) (at .within) (at .few)
 
 element-set-from-settled : tie.Need-element-set-from-settled Inv-loop μ-loop
 element-set-from-settled c =
     let test = c .before .before .before .before .before .before .before in
     let s = test .before .before in
     let loop = test .before .loop in
-    let at = turn (s .args .m) (loop .next) (loop .i) (s .pre) (loop .inv .1) (test .loop-test .taken) in
+    let at = turn (f s) (loop .next) (loop .i) (wired s) (loop .inv .1) (test .loop-test .taken) in
     omega (arith, at .within, at .few)
 
 add-i : tie.Need-add-i Inv-loop μ-loop
@@ -108,7 +122,7 @@ add-i c =
     let test = c .before .before .before .before .before .before .before in
     let s = test .before .before in
     let loop = test .before .loop in
-    let at = turn (s .args .m) (loop .next) (loop .i) (s .pre) (loop .inv .1) (test .loop-test .taken) in
+    let at = turn (f s) (loop .next) (loop .i) (wired s) (loop .inv .1) (test .loop-test .taken) in
     omega (arith, at .within, at .few)
 
 loop-less : tie.Need-loop-less Inv-loop μ-loop
@@ -116,7 +130,7 @@ loop-less c =
     let test = c .before .before .before .before .before .before .before in
     let s = test .before .before in
     let loop = test .before .loop in
-    let at = turn (s .args .m) (loop .next) (loop .i) (s .pre) (loop .inv .1) (test .loop-test .taken) in
+    let at = turn (f s) (loop .next) (loop .i) (wired s) (loop .inv .1) (test .loop-test .taken) in
     omega (arith, at .within)
 
 loop-again : tie.Need-loop-again Inv-loop μ-loop
@@ -124,14 +138,14 @@ loop-again c =
     let test = c .before .before .before .before .before .before .before in
     let s = test .before .before in
     let loop = test .before .loop in
-    let at = turn (s .args .m) (loop .next) (loop .i) (s .pre) (loop .inv .1) (test .loop-test .taken) in
-    let m = s .args .m in
+    let at = turn (f s) (loop .next) (loop .i) (wired s) (loop .inv .1) (test .loop-test .taken) in
+    let m = f s in
     let source = c .before .before .before .before in
-    let f : Part → Part = λ q. settled (reading0 (m .parts) q) q in
+    let g : Part → Part = λ q. settled (reading0 (m .parts) q) q in
     let inside : loop .i < length (m .parts) = omega (arith, at .within, at .places) in (
       omega (arith, at .within),
-      replaced m (loop .next) (partway f (loop .i) (m .parts)) _ (partway f (loop .i + 1) (m .parts)) (loop .inv .1)
-          (settled-next (m .parts) (loop .next .parts) (loop .i) (ap (λ (x : Model). x .parts) (loop .inv .1)) (source .source-index .result)
+      replaced m (loop .next) (partway g (loop .i) (m .parts)) _ (partway g (loop .i + 1) (m .parts)) (loop .inv .1)
+          (changed-next settled settled-output (m .parts) (loop .next .parts) (loop .i) (ap (λ (x : Model). x .parts) (loop .inv .1)) (source .source-index .result)
           (c .before .heard-of .result) (c .settled-part .result) inside (source .source-index .ensures) (c .before .heard-of .ensures)
           (c .settled-part .ensures)),
     )
@@ -140,21 +154,23 @@ returns : tie.Need-returns Inv-loop μ-loop
 unfolding all-settled
 returns c =
     let s = c .before .before in
-    let m = s .args .m in
+    let m = f s in
     let loop = c .before .loop in
-    let wired = s .pre in
-    let f : Part → Part = λ q. settled (reading0 (m .parts) q) q in
+    let old = trimmed (s .before .args .old) .parts in
+    let g : Part → Part = λ q. settled (reading0 (m .parts) q) q in
     let counts : loop .next .count ≡ m .count = ap (λ (x : Model). x .count) (loop .inv .1) in
     let done : loop .i ≡ m .count = omega (arith, c .loop-test .left, loop .inv .0) in
-    all-changed m settled (wired-places m wired) (wired-at m wired) settled-unread settled-component (loop .next)
-    (loop .inv .1 ∙ ap (λ (j : ℕ). with-parts m (m .point) (partway f j (m .parts))) done)
+    finished old (s .before .args .new) m (loop .next) (s .filled-model .ensures)
+    (all-changed m settled (wired-places m (wired s)) (wired-at m (wired s)) settled-unread settled-component (loop .next)
+    (loop .inv .1 ∙ ap (λ (j : ℕ). with-parts m (m .point) (partway g j (m .parts))) done))
 
-pub all-settled-model-spec : {M : Type 1} → statement M
-all-settled-model-spec =
+pub settled-model-spec : {M : Type 1} → statement M
+settled-model-spec =
     tie.close
     (tie.spec
     Inv-loop
     μ-loop
+    filled-model-requires
     loop-holds
     mul-p
     element-copy-out-p
