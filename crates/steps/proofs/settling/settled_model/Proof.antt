@@ -2,18 +2,20 @@
 -- that model, and nothing else is changed. The measure is what is left of the count.
 use Prim.Native.Nat.{ℕ, _+_, _-_, _≤_, _<_}
 use native.Mathlib.Omega.{arith}
-use mathlib.Core.Path.{_≡_, refl, ap, _∙_}
+use borrow.Author.Tests.{not-true}
+use mathlib.Core.Path.{_≡_, refl, ap, sym, _∙_}
+use mathlib.Core.Bool.{false}
 use lib.ListN.{length}
 use Rattle.machine.specs.declared.part.Part.{Part}
 use Rattle.machine.specs.declared.model.Model.{Model}
-use Rattle.machine.specs.Model.{with-parts, reading0, part-at, trimmed}
+use Rattle.machine.specs.Model.{blank-part, with-parts, reading0, part-at, trimmed}
 use Rattle.machine.specs.Step.{settled, all-settled}
-use Rattle.steps.specs.Partway.{partway}
+use Rattle.steps.specs.Partway.{partway, partway-same}
 use Rattle.steps.specs.Reading.{source-index}
 use Rattle.steps.specs.Trimmed.{all-changed, replaced}
 use Rattle.steps.specs.Fillable.{place-fits, Wired, wired-few, wired-places, wired-at, source-place}
 use Rattle.steps.specs.InPlace.{unchanged, changed-next}
-use Rattle.steps.specs.Settling.{settled-unread, settled-component, settled-output}
+use Rattle.steps.specs.Settling.{settled-unread, settled-component, settled-output, settles, settled-same}
 use Rattle.steps.specs.Made.{filled-settleable, finished}
 use Rattle.steps.proofs.settling.settled_model.Statement.{statement}
 use Rattle.steps.proofs.settling.settled_model.Tie as tie
@@ -76,12 +78,48 @@ element-copy-out-p c =
     let at = turn (f s) (loop .next) (loop .i) (wired s) (loop .inv .1) (test .loop-test .taken) in
     omega (arith, at .within, at .few)
 
+settles-requires : tie.Need-settles-requires Inv-loop μ-loop
+settles-requires c κs = tt
+
+add-i : tie.Need-add-i Inv-loop μ-loop
+add-i c =
+    let test = c .before .before .before .before in
+    let s = test .before .before in
+    let loop = test .before .loop in
+    let at = turn (f s) (loop .next) (loop .i) (wired s) (loop .inv .1) (test .loop-test .taken) in
+    omega (arith, at .within, at .few)
+
+loop-less : tie.Need-loop-less Inv-loop μ-loop
+loop-less c =
+    let test = c .before .before .before .before in
+    let s = test .before .before in
+    let loop = test .before .loop in
+    let at = turn (f s) (loop .next) (loop .i) (wired s) (loop .inv .1) (test .loop-test .taken) in
+    omega (arith, at .within)
+
+loop-again : tie.Need-loop-again Inv-loop μ-loop
+loop-again c =
+    let test = c .before .before .before .before in
+    let s = test .before .before in
+    let loop = test .before .loop in
+    let at = turn (f s) (loop .next) (loop .i) (wired s) (loop .inv .1) (test .loop-test .taken) in
+    let m = f s in
+    let same = unchanged settled settled-output (m .parts) (loop .next .parts) (loop .i) (ap (λ (x : Model). x .parts) (loop .inv .1)) in
+    let none : settles (part-at (m .parts) (loop .i) .component .kind) ≡ false = rw same at (sym (c .before .settles .ensures) ∙ not-true (c .before .settles .result) (c .if1 .taken)) in
+    let inside : loop .i < length (m .parts) = omega (arith, at .within, at .places) in (
+      omega (arith, at .within),
+      loop .inv .1 ∙
+          ap (with-parts m (m .point))
+          (partway-same (λ (q : Part). settled (reading0 (m .parts) q) q) (loop .i) (m .parts) blank-part
+          (settled-same (reading0 (m .parts) (part-at (m .parts) (loop .i))) (part-at (m .parts) (loop .i)) none) inside),
+    )
+
 source-index-requires : tie.Need-source-index-requires Inv-loop μ-loop
 source-index-requires c κs = tt
 
 mul-q : tie.Need-mul-q Inv-loop μ-loop
 mul-q c =
-    let test = c .before .before .before in
+    let test = c .before .before .before .before .before in
     let s = test .before .before in
     let loop = test .before .loop in
     let at = turn (f s) (loop .next) (loop .i) (wired s) (loop .inv .1) (test .loop-test .taken) in
@@ -89,7 +127,7 @@ mul-q c =
 
 element-copy-out-q : tie.Need-element-copy-out-q Inv-loop μ-loop
 element-copy-out-q c =
-    let test = c .before .before .before in
+    let test = c .before .before .before .before .before in
     let s = test .before .before in
     let loop = test .before .loop in
     let at = turn (f s) (loop .next) (loop .i) (wired s) (loop .inv .1) (test .loop-test .taken) in
@@ -103,7 +141,7 @@ settled-part-requires c κs = tt
 
 mul-settled : tie.Need-mul-settled Inv-loop μ-loop
 mul-settled c =
-    let test = c .before .before .before .before .before .before .before in
+    let test = c .before .before .before .before .before .before .before .before .before in
     let s = test .before .before in
     let loop = test .before .loop in
     let at = turn (f s) (loop .next) (loop .i) (wired s) (loop .inv .1) (test .loop-test .taken) in
@@ -111,31 +149,31 @@ mul-settled c =
 
 element-set-from-settled : tie.Need-element-set-from-settled Inv-loop μ-loop
 element-set-from-settled c =
-    let test = c .before .before .before .before .before .before .before in
+    let test = c .before .before .before .before .before .before .before .before .before in
     let s = test .before .before in
     let loop = test .before .loop in
     let at = turn (f s) (loop .next) (loop .i) (wired s) (loop .inv .1) (test .loop-test .taken) in
     omega (arith, at .within, at .few)
 
-add-i : tie.Need-add-i Inv-loop μ-loop
-add-i c =
-    let test = c .before .before .before .before .before .before .before in
+add-i-2 : tie.Need-add-i-2 Inv-loop μ-loop
+add-i-2 c =
+    let test = c .before .before .before .before .before .before .before .before .before in
     let s = test .before .before in
     let loop = test .before .loop in
     let at = turn (f s) (loop .next) (loop .i) (wired s) (loop .inv .1) (test .loop-test .taken) in
     omega (arith, at .within, at .few)
 
-loop-less : tie.Need-loop-less Inv-loop μ-loop
-loop-less c =
-    let test = c .before .before .before .before .before .before .before in
+loop-less-2 : tie.Need-loop-less-2 Inv-loop μ-loop
+loop-less-2 c =
+    let test = c .before .before .before .before .before .before .before .before .before in
     let s = test .before .before in
     let loop = test .before .loop in
     let at = turn (f s) (loop .next) (loop .i) (wired s) (loop .inv .1) (test .loop-test .taken) in
     omega (arith, at .within)
 
-loop-again : tie.Need-loop-again Inv-loop μ-loop
-loop-again c =
-    let test = c .before .before .before .before .before .before .before in
+loop-again-2 : tie.Need-loop-again-2 Inv-loop μ-loop
+loop-again-2 c =
+    let test = c .before .before .before .before .before .before .before .before .before in
     let s = test .before .before in
     let loop = test .before .loop in
     let at = turn (f s) (loop .next) (loop .i) (wired s) (loop .inv .1) (test .loop-test .taken) in
@@ -174,6 +212,10 @@ settled-model-spec =
     loop-holds
     mul-p
     element-copy-out-p
+    settles-requires
+    add-i
+    loop-less
+    loop-again
     source-index-requires
     mul-q
     element-copy-out-q
@@ -181,7 +223,7 @@ settled-model-spec =
     settled-part-requires
     mul-settled
     element-set-from-settled
-    add-i
-    loop-less
-    loop-again
+    add-i-2
+    loop-less-2
+    loop-again-2
     returns)
