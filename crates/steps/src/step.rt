@@ -34,7 +34,8 @@ fn led(from: Point, h: u64) -> Point
     }
 }
 
-// The model after a step of `h`.
+// The model after a step of `h`. Compiled, it copies about seven models' worth of bytes, none in a loop: `m` is kept
+// for the delays, moved, and taken on to the new point; both are then handed to the call that fills and settles.
 pub fn made(m: Model, h: u64) -> Model
     requires { ⌜ sound (trimmed m) ≡ true ⌝ }
     requires { ⌜ h ≤ 1_000_000_000 ⌝ }
