@@ -1,20 +1,19 @@
 // The test of soundness, which every call that takes a model asks first. Its contract cites the machine's
 // `specs/Sound.antt`.
-use crate::order::is_ordered;
 use crate::parts::parts_fit;
-use crate::ratios::master_magnitude;
+use crate::survey::surveyed;
 use kinds::range::magnitude_known;
 use machine::model::Model;
 use machine::model::PARTS;
 use machine::time::Point;
+use precedence::follows;
 ghost use mathlib.Core.Path.{_≡_};
 ghost use Rattle.machine.specs.Model.{trimmed};
 ghost use Rattle.machine.specs.Sound.{sound};
 ghost use Rattle.machine.specs.Time.{in-time};
 
-pub mod order;
 pub mod parts;
-pub mod ratios;
+pub mod survey;
 
 // Whether t and n are in their ranges.
 fn in_time(now: Point) -> bool
@@ -41,12 +40,15 @@ pub fn is_sound(m: Model) -> bool
     if !in_time(now) {
         return false;
     }
-    let magnitude = master_magnitude(m);
+    let survey = surveyed(m);
+    let magnitude = survey.magnitude;
     if !magnitude_known(magnitude) {
         return false;
     }
     if !parts_fit(m, magnitude) {
         return false;
     }
-    is_ordered(m)
+    let order = m.order;
+    let direct = survey.direct;
+    follows(order, direct, count)
 }

@@ -17,10 +17,10 @@ mod search;
 // The contract is the machine's answer. It is the very promise that a chain of calls asks of each of its
 // answers, so that demand 3 holds of every list of these calls behind a load: `specs/EveryList.antt`.
 //
-// Copies of the model are what a call costs, since a struct handed over by value is copied. Compiled, a call
-// that commits its first trial after one round copies about sixteen models' worth of bytes: six of them to
-// test that the model is sound, one for the round, the others to make the step, ask for objections and
-// answer. Each further round is one copy more, and each trial that is dropped seven.
+// Copies of the model are what a call costs beside the work on each part, since a struct handed over by value is
+// copied. Compiled, a call that commits its first trial after one round copies about fourteen models' worth of bytes:
+// two of them to test that the model is sound, one for the round, seven to make the step, the others to take the
+// model in, ask for objections and answer. Each further round is one copy more, and each trial that is dropped nine.
 pub fn advance(m: Model, w: u64) -> Answer
     ensures { λ r. ⌜ Advanced m w r ⌝ }
 {

@@ -4,6 +4,7 @@ pub mod Reading
 pub mod Trimmed
 pub mod Fillable
 pub mod SoundParts
+pub mod InPlace
 pub mod Moving
 pub mod Settling
 pub mod Filling

@@ -91,13 +91,17 @@ unfolding trimmed
 changed-count m ps r c = ap (λ (x : Model). x .count) (c .is)
 
 -- a model with its outputs filled, and then settled
-pub finished-is :
+pub finished :
     (old : List Part) (b f r : Model) → Changed b (filled old (b .point) (trimmed b .order) (trimmed b .parts)) f →
     Changed f (all-settled (trimmed f .parts)) r →
-    trimmed r ≡ with-parts (trimmed b) (b .point) (all-settled (filled old (b .point) (trimmed b .order) (trimmed b .parts)))
+    Changed b (all-settled (filled old (b .point) (trimmed b .order) (trimmed b .parts))) r
 unfolding trimmed
-finished-is old b f r fills settles =
-    settles .is ∙ ap (λ (x : Model). with-parts x (x .point) (all-settled (x .parts))) (fills .is)
+finished old b f r fills settles =
+    record {
+      is = settles .is ∙ ap (λ (x : Model). with-parts x (x .point) (all-settled (x .parts))) (fills .is);
+      unused =
+          unused-through b f r (changed-count b (filled old (b .point) (trimmed b .order) (trimmed b .parts)) f fills) (fills .unused) (settles .unused);
+    }
 
 -- the model a at another point
 abbrev pub at-point : Model → Point → Model
@@ -117,15 +121,14 @@ moved-unused m a now ps moves =
 
 -- moved, filled and settled, a model has made the step
 pub made-is :
-    (m a f r : Model) (now : Point) (h : ℕ) → now ≡ led-to (m .point) h →
+    (m a r : Model) (now : Point) (h : ℕ) → now ≡ led-to (m .point) h →
     Changed m (all-moved (tick (m .point)) h (trimmed m .parts)) a →
-    Changed (at-point a now) (filled (trimmed m .parts) now (trimmed (at-point a now) .order) (trimmed (at-point a now) .parts)) f →
-    Changed f (all-settled (trimmed f .parts)) r →
+    Changed (at-point a now) (all-settled (filled (trimmed m .parts) now (trimmed (at-point a now) .order) (trimmed (at-point a now) .parts))) r →
     trimmed r ≡ step-made (trimmed m) h
 unfolding step-made trimmed
-made-is m a f r now h e moves fills settles =
+made-is m a r now h e moves settles =
     let old = trimmed m .parts in
-    finished-is old (at-point a now) f r fills settles ∙
+    settles .is ∙
     ap (λ (x : Model). with-parts x now (all-settled (filled old now (x .order) (x .parts))))
     (moved-is m a now (all-moved (tick (m .point)) h old) moves) ∙
     ap (λ (p : Point). with-parts (trimmed m) p (all-settled (filled old p (trimmed m .order) (all-moved (tick (m .point)) h old)))) e
@@ -146,9 +149,6 @@ pub filled-settleable :
 filled-settleable old b f wired fills = subst Wired (sym (fills .is)) (filled-wired old (b .point) (trimmed b .order) (trimmed b) wired)
 
 -- the places in no use stay as they were through the step
-pub made-unused :
-    (m a f r : Model) (now : Point) (ps qs rs : List Part) → Changed m ps a → Changed (at-point a now) qs f → Changed f rs r → SameUnused m r
-made-unused m a f r now ps qs rs moves fills settles =
-    let count = changed-count m ps a moves in
-    unused-through m f r (changed-count (at-point a now) qs f fills ∙ count)
-    (unused-through m (at-point a now) f count (moved-unused m a now ps moves) (fills .unused)) (settles .unused)
+pub made-unused : (m a r : Model) (now : Point) (ps qs : List Part) → Changed m ps a → Changed (at-point a now) qs r → SameUnused m r
+made-unused m a r now ps qs moves settles =
+    unused-through m (at-point a now) r (changed-count m ps a moves) (moved-unused m a now ps moves) (settles .unused)

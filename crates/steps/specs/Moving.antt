@@ -32,6 +32,11 @@ pub moved-component : (t h : ℕ) (x : Signal) (p : Part) → moved t h x p .com
 unfolding moved
 moved-component t h x p = refl
 
+-- moving keeps the stored output
+pub moved-output : (t h : ℕ) (x : Signal) (p : Part) → moved t h x p .state .output ≡ p .state .output
+unfolding moved
+moved-output t h x p = refl
+
 -- h ticks more are at most h local ticks more
 div-more : (r t h : ℕ) → (t + h) / r ≤ t / r + h
 div-more zero t h = rw (div-zero (t + h)) (omega arith)

@@ -22,6 +22,16 @@ module _ {ℓ} {A : Type ℓ} (f : A → A) where
   pub partway-next : (i : ℕ) (l : List A) (d : A) → i < length l → set (partway i l) i (f (getD l i d)) ≡ partway (i + 1) l
   partway-next i l d h = rw add-one (partway-suc i l d h)
 
+  -- the next element passed over, since f keeps it
+  partway-same-suc : (i : ℕ) (l : List A) (d : A) → f (getD l i d) ≡ getD l i d → i < length l → partway i l ≡ partway (suc i) l
+  partway-same-suc i [] d e h = absurd (omega arith)
+  partway-same-suc zero (x ∷ xs) d e h = ap (λ y. y ∷ xs) (sym e)
+  partway-same-suc (suc i) (x ∷ xs) d e h = ap (λ l. f x ∷ l) (partway-same-suc i xs d e (omega arith))
+
+  -- the same, as a loop counts
+  pub partway-same : (i : ℕ) (l : List A) (d : A) → f (getD l i d) ≡ getD l i d → i < length l → partway i l ≡ partway (i + 1) l
+  partway-same i l d e h = rw add-one (partway-same-suc i l d e h)
+
   -- an element that is not changed yet
   pub partway-later : (i : ℕ) (l : List A) (k : ℕ) (d : A) → i ≤ k → getD (partway i l) k d ≡ getD l k d
   partway-later zero l k d h = refl

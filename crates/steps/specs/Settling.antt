@@ -1,21 +1,13 @@
--- Settling parts one after the other: it reads nothing that trimming cuts away and changes no stored output, so that the readings in a half settled
--- list are those in the list before. Assumes nothing.
-use Prim.Native.Nat.{ℕ, _+_, _<_}
-use native.Mathlib.Omega.{arith}
-use mathlib.Core.Path.{_≡_, refl, ap, ap₂, _∙_}
-use mathlib.Core.List.{List, map}
-use lib.ListN.{length, set}
+-- Settling a part reads nothing that trimming cuts away, keeps the component and changes no stored output. Assumes nothing.
+use mathlib.Core.Path.{_≡_, refl, ap}
+use mathlib.Core.Bool.{Bool, true, false, true≢false}
 use Rattle.machine.specs.declared.signal.Signal.{Signal}
 use Rattle.machine.specs.declared.part.Kind.{Kind}
 use Rattle.machine.specs.declared.part.Kind.the-variants.{Constant, Gain, Adder, Square, Pulse, Delay, Integrator, ResetIntegrator, Detector, Hold, Sampler, Drive}
-use Rattle.machine.specs.declared.part.Source.{Source}
-use Rattle.machine.specs.declared.part.Source.the-variants.{Unwired, From}
 use Rattle.machine.specs.declared.part.State.{State}
 use Rattle.machine.specs.declared.part.Part.{Part}
-use Rattle.machine.specs.Model.{blank-part, part-at, reading, reading0, trimmed-part, trimmed-component}
+use Rattle.machine.specs.Model.{trimmed-part, trimmed-component, with-state}
 use Rattle.machine.specs.Step.{settled-as, settled}
-use Rattle.steps.specs.Partway.{partway, partway-next, partway-later, partway-kept, same-at}
-use Rattle.steps.specs.Reading.{source-index, heard, heard0}
 
 -- settling reads nothing that trimming cuts away, and keeps the component
 pub settled-unread : (x : Signal) (p : Part) → trimmed-part (settled x p) ≡ settled x (trimmed-part p)
@@ -43,41 +35,41 @@ settled-as-output Sampler x s = refl
 settled-as-output Drive x s = refl
 
 -- of a part
-settled-output : (x : Signal) (p : Part) → settled x p .state .output ≡ p .state .output
+pub settled-output : (x : Signal) (p : Part) → settled x p .state .output ≡ p .state .output
 unfolding settled
 settled-output x p = settled-as-output (p .component .kind) x (p .state)
 
--- where the stored outputs are the same, so is every reading
-reading-same :
-    (ps qs : List Part) (s : Source) → map (λ (p : Part). p .state .output) ps ≡ map (λ (p : Part). p .state .output) qs →
-    reading ps s ≡ reading qs s
-unfolding reading
-reading-same ps qs Unwired e = refl
-reading-same ps qs (From k) e = same-at (λ (p : Part). p .state .output) ps qs k blank-part e
+-- the kinds that settling changes
+abbrev pub settles : Kind → Bool
+settles Constant = false
+settles Gain = false
+settles Adder = false
+settles Square = false
+settles Pulse = false
+settles Delay = false
+settles Integrator = false
+settles ResetIntegrator = true
+settles Detector = true
+settles Hold = true
+settles Sampler = false
+settles Drive = false
 
--- the list qs, of which the first i parts are settled by their readings in ps
-module _ (ps qs : List Part) (i : ℕ) (half : qs ≡ partway (λ p. settled (reading0 ps p) p) i ps) where
-  -- the next part is as it was
-  pub unsettled : part-at qs i ≡ part-at ps i
-  unsettled = ap (λ l. part-at l i) half ∙ partway-later (λ p. settled (reading0 ps p) p) i ps i blank-part (omega arith)
+-- a part of another kind stays as it was
+settled-as-same : (k : Kind) (x : Signal) (s : State) → settles k ≡ false → settled-as k x s ≡ s
+unfolding settled-as
+settled-as-same Constant x s e = refl
+settled-as-same Gain x s e = refl
+settled-as-same Adder x s e = refl
+settled-as-same Square x s e = refl
+settled-as-same Pulse x s e = refl
+settled-as-same Delay x s e = refl
+settled-as-same Integrator x s e = refl
+settled-as-same ResetIntegrator x s e = absurd (true≢false e)
+settled-as-same Detector x s e = absurd (true≢false e)
+settled-as-same Hold x s e = absurd (true≢false e)
+settled-as-same Sampler x s e = refl
+settled-as-same Drive x s e = refl
 
-  -- and reads the same
-  same-reading : reading0 qs (part-at qs i) ≡ reading0 ps (part-at ps i)
-  unfolding reading0
-  same-reading =
-      let f : Part → Part = λ p. settled (reading0 ps p) p in
-      ap (λ (p : Part). reading0 qs p) unsettled ∙
-      reading-same qs ps (part-at ps i .component .port0)
-      (ap (map (λ (p : Part). p .state .output)) half ∙
-      partway-kept f (λ (p : Part). p .state .output) i ps (λ p. settled-output (reading0 ps p) p))
-
-  -- so it is settled next
-  pub settled-next :
-      (k : ℕ) (x : Signal) (v : Part) → i < length ps → k ≡ source-index (part-at qs i .component .port0) →
-      x ≡ heard (part-at qs i .component .port0) (part-at qs k .state .output) → v ≡ settled x (part-at qs i) →
-      set qs i v ≡ partway (λ p. settled (reading0 ps p) p) (i + 1) ps
-  settled-next k x v within index heard settles =
-      let f : Part → Part = λ p. settled (reading0 ps p) p in
-      ap₂ (λ (l : List Part) (q : Part). set l i q) half
-      (settles ∙ ap₂ settled (heard0 qs (part-at qs i) k x index heard ∙ same-reading) unsettled) ∙
-      partway-next f i ps blank-part within
+pub settled-same : (x : Signal) (p : Part) → settles (p .component .kind) ≡ false → settled x p ≡ p
+unfolding settled
+settled-same x p e = ap (with-state p) (settled-as-same (p .component .kind) x (p .state) e)

@@ -30,7 +30,7 @@ use Rattle.steps.specs.Reading.{WiredBelow}
 use Rattle.steps.specs.Trimmed.{Changed}
 use Rattle.steps.specs.Fillable.{Fillable}
 use Rattle.steps.specs.SoundParts.{component-wired}
-use Rattle.steps.specs.Made.{order-numbers, finished-is}
+use Rattle.steps.specs.Made.{order-numbers}
 
 -- the model of a table before its start point is filled
 unfoldable pub unfilled : Table → Model
@@ -113,10 +113,10 @@ filled-at-start old old′ (k ∷ ks) ps =
 
 -- filled and settled, it is the fresh model of the table
 pub started-is :
-    (m f r : Model) → Changed m (filled (trimmed m .parts) (m .point) (trimmed m .order) (trimmed m .parts)) f →
-    Changed f (all-settled (trimmed f .parts)) r → (t : Table) → trimmed m ≡ unfilled t → trimmed r ≡ fresh t
+    (m r : Model) → Changed m (all-settled (filled (trimmed m .parts) (m .point) (trimmed m .order) (trimmed m .parts))) r →
+    (t : Table) → trimmed m ≡ unfilled t → trimmed r ≡ fresh t
 unfolding trimmed fresh unfilled
-started-is m f r fills settles t e =
-    finished-is (trimmed m .parts) m f r fills settles ∙
+started-is m r settles t e =
+    settles .is ∙
     ap (λ (x : Model). with-parts x (x .point) (all-settled (filled (x .parts) (x .point) (x .order) (x .parts)))) e ∙
     ap (λ (ps : List Part). with-parts (unfilled t) start (all-settled ps)) (filled-at-start (first-parts t) [] (part-order (t .parts)) (first-parts t))

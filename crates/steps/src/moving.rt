@@ -14,7 +14,7 @@ ghost use Rattle.machine.specs.Sound.{sound};
 ghost use Rattle.machine.specs.Step.{all-moved};
 ghost use Rattle.steps.specs.Trimmed.{Changed};
 
-// All parts moved by a step of `h`, each by its readings in `m`.
+// All parts moved by a step of `h`, one after the other in place: moving changes no stored output.
 pub fn all_moved(m: Model, h: u64) -> Model
     requires { ⌜ sound (trimmed m) ≡ true ⌝ }
     requires { ⌜ h ≤ 1_000_000_000 ⌝ }
@@ -25,12 +25,12 @@ pub fn all_moved(m: Model, h: u64) -> Model
     let t = now.t;
     let mut next = m;
     let mut i: usize = 0;
-    while i < m.count {
-        let p = m.parts[i];
+    while i < next.count {
+        let p = next.parts[i];
         let c = p.component;
         let s = c.port0;
         let k = source_index(s);
-        let q = m.parts[k];
+        let q = next.parts[k];
         let from = q.state;
         let out = from.output;
         let x = heard_of(s, out);

@@ -1,25 +1,55 @@
 // Every part of a model settled, once the outputs of the point are there.
 //
 // Its contract cites `machine`'s `specs/Step.antt`.
+use crate::filling::filled_model;
 use crate::reading::heard_of;
 use crate::reading::source_index;
 use machine::model::Model;
+use machine::part::Kind;
 use point::change::settled_part;
+ghost use mathlib.Core.Path.{_≡_};
 ghost use Rattle.machine.specs.Model.{trimmed};
-ghost use Rattle.machine.specs.Step.{all-settled};
+ghost use Rattle.machine.specs.Step.{all-settled, filled};
 ghost use Rattle.steps.specs.Trimmed.{Changed};
-ghost use Rattle.steps.specs.Fillable.{Wired};
+ghost use Rattle.steps.specs.Fillable.{Fillable};
+ghost use Rattle.steps.specs.Settling.{settles};
 
-// All parts settled, one after the other in place: settling changes no stored output.
-pub fn all_settled_model(m: Model) -> Model
-    requires { ⌜ Wired (trimmed m) ⌝ }
-    ensures { λ r. ⌜ Changed m (all-settled (trimmed m .parts)) r ⌝ }
+// Whether settling changes a part of the kind.
+fn settles(k: Kind) -> bool
+    ensures { λ r. ⌜ r ≡ settles k ⌝ }
 {
-    let mut next = m;
+    match k {
+        Kind::Constant => false,
+        Kind::Gain => false,
+        Kind::Adder => false,
+        Kind::Square => false,
+        Kind::Pulse => false,
+        Kind::Delay => false,
+        Kind::Integrator => false,
+        Kind::ResetIntegrator => true,
+        Kind::Detector => true,
+        Kind::Hold => true,
+        Kind::Sampler => false,
+        Kind::Drive => false,
+    }
+}
+
+// The outputs of `new` filled, `old` standing at the point before, and then all parts settled, one after the
+// other in place: settling changes no stored output. A part that settling does not change is passed over.
+pub fn settled_model(old: Model, new: Model) -> Model
+    requires { ⌜ Fillable (trimmed old) (trimmed new) ⌝ }
+    ensures { λ r. ⌜ Changed new (all-settled (filled (trimmed old .parts) (new .point) (trimmed new .order) (trimmed new .parts))) r ⌝ }
+{
+    let mut next = filled_model(old, new);
     let mut i: usize = 0;
     while i < next.count {
         let p = next.parts[i];
         let c = p.component;
+        let kind = c.kind;
+        if !settles(kind) {
+            i += 1;
+            continue;
+        }
         let s = c.port0;
         let k = source_index(s);
         let q = next.parts[k];

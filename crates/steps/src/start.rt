@@ -1,8 +1,7 @@
 // The start point of a model.
 //
 // Its contract cites `machine`'s `specs/Fresh.antt` and this crate's `specs/Start.antt`.
-use crate::filling::filled_model;
-use crate::settling::all_settled_model;
+use crate::settling::settled_model;
 use machine::model::Model;
 ghost use mathlib.Core.Path.{_≡_};
 ghost use Rattle.machine.specs.Model.{trimmed};
@@ -15,6 +14,5 @@ pub fn started(m: Model) -> Model
     requires { ⌜ Unfilled m ⌝ }
     ensures { λ r. ⌜ ((t : Table) → trimmed m ≡ unfilled t → trimmed r ≡ fresh t) ⌝ }
 {
-    let filled = filled_model(m, m);
-    all_settled_model(filled)
+    settled_model(m, m)
 }

@@ -1,9 +1,8 @@
 // The step made.
 //
 // Its contracts cite `machine`'s `specs/Time.antt` and `specs/Step.antt`.
-use crate::filling::filled_model;
 use crate::moving::all_moved;
-use crate::settling::all_settled_model;
+use crate::settling::settled_model;
 use machine::model::Model;
 use machine::time::Point;
 use machine::time::Ticks;
@@ -35,8 +34,8 @@ fn led(from: Point, h: u64) -> Point
     }
 }
 
-// The model after a step of `h`. It makes five copies of a model, none in a loop: `m` is handed to two
-// calls and stays, and each of the three calls copies what it is given into the model that it changes.
+// The model after a step of `h`. Compiled, it copies about seven models' worth of bytes, none in a loop: `m` is kept
+// for the delays, moved, and taken on to the new point; both are then handed to the call that fills and settles.
 pub fn made(m: Model, h: u64) -> Model
     requires { ⌜ sound (trimmed m) ≡ true ⌝ }
     requires { ⌜ h ≤ 1_000_000_000 ⌝ }
@@ -49,6 +48,5 @@ pub fn made(m: Model, h: u64) -> Model
     let now = led(from, h);
     let mut next = all_moved(m, h);
     next.point = now;
-    let filled = filled_model(m, next);
-    all_settled_model(filled)
+    settled_model(m, next)
 }
