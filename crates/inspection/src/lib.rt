@@ -12,8 +12,8 @@ ghost use Rattle.machine.specs.Model.{trimmed};
 ghost use Rattle.machine.specs.Sound.{sound};
 ghost use Rattle.machine.specs.Time.{in-time};
 
-pub mod parts;
-pub mod survey;
+mod parts;
+mod survey;
 
 // Whether t and n are in their ranges.
 fn in_time(now: Point) -> bool

@@ -3,33 +3,15 @@
 //
 // Its contracts cite this crate's `specs/Barring.antt`.
 use machine::time::Point;
+use operands::refusal::first_of;
+use operands::refusal::refusal;
 ghost use mathlib.Core.Path.{_≡_};
-ghost use mathlib.Core.Bool.{_&&_, cond};
-ghost use lib.Dec.{eqb, leb};
+ghost use mathlib.Core.Bool.{_&&_};
+ghost use lib.Dec.{leb};
 ghost use Prim.Native.Nat.{_+_};
 ghost use Rattle.machine.specs.Time.{last-tick};
 ghost use Rattle.machine.specs.Advance.{longest-wanted};
 ghost use Rattle.master.specs.Barring.{barred-by};
-
-// A refusal's number where there is cause for it.
-fn refusal(cause: bool, number: u64) -> u64
-    ensures { λ r. ⌜ r ≡ cond cause number 0 ⌝ }
-{
-    if cause {
-        return number;
-    }
-    0
-}
-
-// The first of two refusals, where there is one.
-fn first_of(first: u64, second: u64) -> u64
-    ensures { λ r. ⌜ r ≡ cond (eqb first 0) second first ⌝ }
-{
-    if first == 0 {
-        return second;
-    }
-    first
-}
 
 // Whether a wanted step is in its range.
 fn may_be_wanted(w: u64) -> bool

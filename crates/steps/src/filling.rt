@@ -1,8 +1,8 @@
 // The outputs of a point, filled in part order.
 //
 // Its contract cites `machine`'s `specs/Step.antt`.
-use crate::reading::heard_of;
-use crate::reading::source_index;
+use crate::port::heard_of;
+use crate::port::source_index;
 use machine::model::Model;
 use point::change::with_output;
 use point::output::output_of;

@@ -3,7 +3,7 @@
 // equation with a definition of `machine`.
 pub mod filling;
 pub mod moving;
-pub mod reading;
+pub mod port;
 pub mod settling;
 pub mod start;
 pub mod step;

@@ -1,8 +1,8 @@
 // Every part of a model moved by a step.
 //
 // Its contract cites `machine`'s `specs/Step.antt`.
-use crate::reading::heard_of;
-use crate::reading::source_index;
+use crate::port::heard_of;
+use crate::port::source_index;
 use machine::model::Model;
 use point::change::moved_part;
 ghost use mathlib.Core.Path.{_≡_};

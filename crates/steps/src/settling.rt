@@ -2,8 +2,8 @@
 //
 // Its contract cites `machine`'s `specs/Step.antt`.
 use crate::filling::filled_model;
-use crate::reading::heard_of;
-use crate::reading::source_index;
+use crate::port::heard_of;
+use crate::port::source_index;
 use machine::model::Model;
 use machine::part::Kind;
 use point::change::settled_part;

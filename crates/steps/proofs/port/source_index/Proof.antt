@@ -1,8 +1,8 @@
 -- `source_index` is `source-index`, by its two cases.
 use borrow.Author.Needs.{needs}
 use Rattle.steps.specs.Reading.{source-index}
-use Rattle.steps.proofs.reading.source_index.Statement.{statement}
-use Rattle.steps.proofs.reading.source_index.Tie as tie
+use Rattle.steps.proofs.port.source_index.Statement.{statement}
+use Rattle.steps.proofs.port.source_index.Tie as tie
 
 enum-told : tie.Need-enum-told
 enum-told c = search needs

@@ -1,8 +1,8 @@
 -- `heard_of` is `heard`, by its two cases.
 use borrow.Author.Needs.{needs}
 use Rattle.steps.specs.Reading.{heard}
-use Rattle.steps.proofs.reading.heard_of.Statement.{statement}
-use Rattle.steps.proofs.reading.heard_of.Tie as tie
+use Rattle.steps.proofs.port.heard_of.Statement.{statement}
+use Rattle.steps.proofs.port.heard_of.Tie as tie
 
 enum-told : tie.Need-enum-told
 enum-told c = search needs
