@@ -3,8 +3,8 @@
 // the crate `codec` lays down in its `specs/Encoded.antt`. The contracts cite `specs/Exported.antt`; they ask
 // nothing of the caller but that each slice is one, and that `out` overlaps no other.
 use codec::decode::model_of;
-use codec::write::write_answer;
-use codec::write::write_loaded;
+use encoding::write::write_answer;
+use encoding::write::write_loaded;
 use loading::load;
 use master::advance;
 ghost use Rattle.boundary.specs.Exported.{AdvancedInto, LoadedInto};

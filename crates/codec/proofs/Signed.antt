@@ -5,11 +5,8 @@ use mathlib.Core.Path.{_≡_, refl, ap}
 use mathlib.Core.Bool.{true, false, true≢false}
 use lib.IntN.{ℤ, pos, negsuc, natAbs, _-ℤ_}
 use lib.Signed.{ltZ}
-use mir.Syntax.{w64}
-use mir.Val.{SFits}
 use borrow.Author.Tests.{ltb-true}
 use Rattle.codec.specs.Words.{signed-word}
-use Rattle.codec.specs.Sized.{FitsSigned}
 
 -- a negative number's distance from 0 is at least 1
 pub negative-far : (v : ℤ) → ltZ v (pos 0) ≡ true → 1 ≤ natAbs v
@@ -31,8 +28,3 @@ word-not-negative (negsuc n) left = absurd (true≢false left)
 pub minus-one-less : (n : ℕ) → negsuc 0 -ℤ pos n ≡ negsuc n
 minus-one-less zero = refl
 minus-one-less (suc n) = let same : 0 + n ≡ n = omega arith in ap (λ (k : ℕ). negsuc (suc k)) same
-
--- a value of the declared type fits
-pub fits-signed : (z : ℤ) → SFits w64 z → FitsSigned z
-fits-signed (pos n) f = omega (arith, f .sfits)
-fits-signed (negsuc n) f = omega (arith, f .sfits)

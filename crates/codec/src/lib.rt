@@ -1,8 +1,6 @@
-// The bytes of a model and of what the calls answer, for callers in other languages: a model is read from
-// any bytes, and answers are written into a buffer that the caller lends. Every number is a word of 8
-// bytes. The contracts cite `specs/Encoded.antt` and `specs/Decoded.antt`.
+// The bytes of a model, for callers in other languages: a model is read from any bytes, and a number or a
+// field of a part is made a word of 8 bytes, of which the crate `encoding` builds a model's bytes. The
+// contracts cite `specs/Words.antt`, `specs/Encoded.antt` and `specs/Decoded.antt`.
 pub mod decode;
-mod encode;
-mod fields;
-mod word;
-pub mod write;
+pub mod fields;
+pub mod word;

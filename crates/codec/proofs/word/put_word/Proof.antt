@@ -1,6 +1,6 @@
 -- `put_word` puts the lower half and the upper half of the word.
 use native.Mathlib.Omega.{arith}
-use Rattle.codec.proofs.Pieces.{bytes-then, one-word}
+use Rattle.codec.specs.Pieces.{bytes-then, one-word}
 use Rattle.codec.specs.Words.{word-bytes}
 use borrow.Author.Needs.{needs}
 use Rattle.codec.proofs.word.put_word.Statement.{statement}

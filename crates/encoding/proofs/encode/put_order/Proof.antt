@@ -1,0 +1,89 @@
+-- `put_order` puts one place after the other. The loop's invariant: the words of the first i places were put, in a buffer as long as it was; the
+-- measure is how many are left.
+use Prim.Native.Nat.{ℕ, _-_, _≤_, _<_}
+use native.Mathlib.Omega.{arith}
+use mathlib.Core.Path.{_≡_, refl, ap}
+use lib.ListN.{length, getD}
+use Rattle.codec.specs.Words.{table}
+use Rattle.codec.specs.Encoded.{order-words}
+use Rattle.codec.specs.Put.{WordsPut}
+use Rattle.codec.specs.Pieces.{no-words, words-then, words-as}
+use Rattle.codec.specs.Tables.{table-more, below-more}
+use borrow.Author.Needs.{needs}
+use Rattle.encoding.proofs.encode.put_order.Statement.{statement}
+use Rattle.encoding.proofs.encode.put_order.Tie as tie
+
+abbrev Inv-loop : tie.InvT-loop
+Inv-loop out₀ at order next₀ i₀ out next i =
+    (i ≤ 32) × (length out ≡ length out₀) × WordsPut i (table (λ (k : ℕ). getD order k 0) i) at out₀ out next ×
+    ((j : ℕ) → j < i → getD order j 0 < 65536)
+
+abbrev μ-loop : tie.MeasureT-loop
+μ-loop out₀ at order next₀ i₀ out next i = 32 - i
+
+loop-holds : tie.Need-loop-holds Inv-loop μ-loop
+unfolding table
+loop-holds c = (omega arith, refl, no-words _ _, λ j h. absurd (omega arith))
+
+mul-place-word : tie.Need-mul-place-word Inv-loop μ-loop
+mul-place-word c = search needs
+
+array-read-place-word : tie.Need-array-read-place-word Inv-loop μ-loop
+array-read-place-word c = search needs
+
+place-word-requires : tie.Need-place-word-requires Inv-loop μ-loop
+place-word-requires c κs = search needs
+
+put-word-requires : tie.Need-put-word-requires Inv-loop μ-loop
+put-word-requires c κs = search needs
+
+add-i : tie.Need-add-i Inv-loop μ-loop
+add-i c = search needs
+
+loop-less : tie.Need-loop-less Inv-loop μ-loop
+loop-less c = search needs
+
+loop-again : tie.Need-loop-again Inv-loop μ-loop
+loop-again c =
+    let put = c .before .before in
+    let turn = put .before .before .before .before in
+    let start = turn .before .before in
+    let f : ℕ → ℕ = λ (k : ℕ). getD (start .args .t3) k 0 in
+    let word = simp (put .before .place-word .ensures .0) at (put .put-word .ensures .0) in (
+      omega arith,
+      omega arith,
+      words-as (words-then (turn .loop .inv .2) word) (table-more f (turn .loop .i)) refl,
+      below-more (λ (j : ℕ). f j < 65536) (turn .loop .i) (turn .loop .inv .3) (put .before .place-word .ensures .1),
+    )
+
+same-length : tie.Need-same-length Inv-loop μ-loop
+same-length c = search needs
+
+returns : tie.Need-returns Inv-loop μ-loop
+unfolding order-words
+returns c =
+    let turn = c .before in
+    let start = turn .before .before in
+    let f : ℕ → ℕ = λ (k : ℕ). getD (start .args .t3) k 0 in
+    let done : turn .loop .i ≡ 32 = omega arith in
+    let each = turn .loop .inv .3 in (
+      words-as (turn .loop .inv .2) (ap (table f) done) done,
+      record { places = start .good .1 .1 .0 .1 .0 .1; each = λ j h. each j (omega arith) },
+    )
+
+pub put-order-spec : {M : Type 1} → statement M
+put-order-spec =
+    tie.close
+    (tie.spec
+    Inv-loop
+    μ-loop
+    loop-holds
+    mul-place-word
+    array-read-place-word
+    place-word-requires
+    put-word-requires
+    add-i
+    loop-less
+    loop-again
+    same-length
+    returns)

@@ -1,0 +1,88 @@
+-- `put_parts` puts one part after the other. The loop's invariant: the words of the first i parts were put, in a buffer as long as it was; the
+-- measure is how many are left.
+use Prim.Native.Nat.{ℕ, _-_, _*_, _≤_, _<_}
+use native.Mathlib.Omega.{arith}
+use mathlib.Core.Path.{_≡_, refl, ap}
+use mathlib.Core.List.{List}
+use lib.ListN.{length}
+use Rattle.machine.specs.Model.{part-at}
+use Rattle.codec.specs.Words.{rows}
+use Rattle.codec.specs.Encoded.{part-words, parts-words}
+use Rattle.codec.specs.Put.{WordsPut}
+use Rattle.codec.specs.Sized.{SizedPart}
+use Rattle.codec.specs.Pieces.{no-words, words-then, words-as}
+use Rattle.codec.specs.Tables.{rows-more, below-more}
+use borrow.Author.Needs.{needs}
+use Rattle.encoding.proofs.encode.put_parts.Statement.{statement}
+use Rattle.encoding.proofs.encode.put_parts.Tie as tie
+
+abbrev Inv-loop : tie.InvT-loop
+Inv-loop out₀ at parts next₀ i₀ out next i =
+    (i ≤ 32) × (length out ≡ length out₀) × WordsPut (25 * i) (rows (λ (k : ℕ). part-words (part-at parts k)) i) at out₀ out next ×
+    ((j : ℕ) → j < i → SizedPart (part-at parts j))
+
+abbrev μ-loop : tie.MeasureT-loop
+μ-loop out₀ at parts next₀ i₀ out next i = 32 - i
+
+loop-holds : tie.Need-loop-holds Inv-loop μ-loop
+unfolding rows
+loop-holds c = (omega arith, refl, no-words _ _, λ j h. absurd (omega arith))
+
+mul-p : tie.Need-mul-p Inv-loop μ-loop
+mul-p c = omega arith
+
+array-copy-out-p : tie.Need-array-copy-out-p Inv-loop μ-loop
+array-copy-out-p c = omega arith
+
+put-part-requires : tie.Need-put-part-requires Inv-loop μ-loop
+put-part-requires c κs = omega arith
+
+add-i : tie.Need-add-i Inv-loop μ-loop
+add-i c = omega arith
+
+loop-less : tie.Need-loop-less Inv-loop μ-loop
+loop-less c = omega arith
+
+loop-again : tie.Need-loop-again Inv-loop μ-loop
+loop-again c =
+    let put = c .before .before in
+    let turn = put .before .before .before .before in
+    let start = turn .before .before in
+    let f : ℕ → List ℕ = λ (k : ℕ). part-words (part-at (start .args .t3) k) in
+    let more = words-then (turn .loop .inv .2) (put .put-part .ensures .0) in (
+      omega arith,
+      omega arith,
+      words-as more (rows-more f (turn .loop .i)) (omega arith),
+      below-more (λ (j : ℕ). SizedPart (part-at (start .args .t3) j)) (turn .loop .i) (turn .loop .inv .3) (put .put-part .ensures .1),
+    )
+
+same-length : tie.Need-same-length Inv-loop μ-loop
+same-length c = search needs
+
+returns : tie.Need-returns Inv-loop μ-loop
+unfolding parts-words
+returns c =
+    let turn = c .before in
+    let start = turn .before .before in
+    let f : ℕ → List ℕ = λ (k : ℕ). part-words (part-at (start .args .t3) k) in
+    let done : turn .loop .i ≡ 32 = omega arith in
+    let each = turn .loop .inv .3 in (
+      words-as (turn .loop .inv .2) (ap (rows f) done) (omega arith),
+      record { places = start .good .1 .1 .0 .1 .0 .1; each = λ j h. each j (omega arith) },
+    )
+
+pub put-parts-spec : {M : Type 1} → statement M
+put-parts-spec =
+    tie.close
+    (tie.spec
+    Inv-loop
+    μ-loop
+    loop-holds
+    mul-p
+    array-copy-out-p
+    put-part-requires
+    add-i
+    loop-less
+    loop-again
+    same-length
+    returns)

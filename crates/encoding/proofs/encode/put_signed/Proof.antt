@@ -1,0 +1,26 @@
+-- `put_signed` puts the number's word; a signed number passed through a word stays the same.
+use mir.Syntax.{w64}
+use mir.ValLaws.{toZ-ofZ}
+use borrow.Author.Needs.{needs}
+use Rattle.encoding.proofs.Signed.{fits-signed}
+use Rattle.encoding.proofs.encode.put_signed.Statement.{statement}
+use Rattle.encoding.proofs.encode.put_signed.Tie as tie
+
+signed-word-requires : tie.Need-signed-word-requires
+signed-word-requires c κs = search needs
+
+put-word-requires : tie.Need-put-word-requires
+put-word-requires c κs = search needs
+
+same-length : tie.Need-same-length
+same-length c = search needs
+
+returns : tie.Need-returns
+returns c =
+    let start = c .before .before .before .before .before .before in
+    let back = toZ-ofZ w64 (start .args .v) (start .fits .v) in
+    let put = simp (c .before .before .before .signed-word .ensures, back) at (c .before .before .put-word .ensures .0) in
+    (put, fits-signed (start .args .v) (start .fits .v))
+
+pub put-signed-spec : {M : Type 1} → statement M
+put-signed-spec = tie.close (tie.spec signed-word-requires put-word-requires same-length returns)

@@ -1,0 +1,75 @@
+-- `put_state` puts the words of the definition one behind the other; a signed number passed through a word stays the same.
+use mir.Syntax.{w64}
+use mir.ValLaws.{toZ-ofZ}
+use Rattle.codec.specs.Pieces.{words-then}
+use mathlib.Core.List.{append-assoc}
+use Rattle.codec.specs.Encoded.{state-words}
+use borrow.Author.Needs.{needs}
+use Rattle.encoding.proofs.encode.put_state.Statement.{statement}
+use Rattle.encoding.proofs.encode.put_state.Tie as tie
+
+put-word-requires : tie.Need-put-word-requires
+put-word-requires c κs = search needs
+
+put-signed-requires : tie.Need-put-signed-requires
+put-signed-requires c κs = search needs
+
+put-signal-requires : tie.Need-put-signal-requires
+put-signal-requires c κs = search needs
+
+put-signal-requires-2 : tie.Need-put-signal-requires-2
+put-signal-requires-2 c κs = search needs
+
+side-code-requires : tie.Need-side-code-requires
+side-code-requires c κs = search needs
+
+put-word-requires-2 : tie.Need-put-word-requires-2
+put-word-requires-2 c κs = search needs
+
+mark-code-requires : tie.Need-mark-code-requires
+mark-code-requires c κs = search needs
+
+put-word-requires-3 : tie.Need-put-word-requires-3
+put-word-requires-3 c κs = search needs
+
+same-length : tie.Need-same-length
+same-length c = search needs
+
+returns : tie.Need-returns
+unfolding state-words
+returns c =
+    let sixth = c .before .before in
+    let fifth = sixth .before .before .before .before .before in
+    let fourth = fifth .before .before .before .before .before in
+    let third = fourth .before .before .before .before in
+    let second = third .before .before .before .before in
+    let first = second .before .before .before .before .before in
+    let start = first .before .before .before in
+    let back = toZ-ofZ w64 (start .args .s .held) (record { sfits = second .before .struct-told .given .1 .0 .1 }) in
+    let two = words-then (first .put-word .ensures .0) (second .put-signed .ensures .0) in
+    let two = simp back at two in
+    let last = words-then (fifth .put-word2 .ensures .0) (sixth .put-word3 .ensures .0) in
+    let last = simp (fifth .before .side-code .ensures, sixth .before .mark-code .ensures) at last in (
+      words-then two (words-then (third .put-signal .ensures .0) (words-then (fourth .put-signal2 .ensures .0) last)),
+      record {
+        local = first .put-word .ensures .1;
+        held = rw back at (second .put-signed .ensures .1);
+        signal = third .put-signal .ensures .1;
+        output = fourth .put-signal2 .ensures .1;
+      },
+    )
+
+pub put-state-spec : {M : Type 1} → statement M
+put-state-spec =
+    tie.close
+    (tie.spec
+    put-word-requires
+    put-signed-requires
+    put-signal-requires
+    put-signal-requires-2
+    side-code-requires
+    put-word-requires-2
+    mark-code-requires
+    put-word-requires-3
+    same-length
+    returns)
