@@ -3,12 +3,12 @@
 //!
 //!     calls [--calls N] [--seed S] [--only CASE] [--trace 1]
 //!
-//! A case loads a generated stream with both, plays some steps, and then alters the model and plays on. Every answer is
-//! compared word for word: the places in use with the second implementation's model, the unused ones, which hold noise,
-//! with what was handed in. Where a model cannot be said in the second implementation's types it is unsound, so the
-//! answer is by rule: 24, counts 0, and the model as it was. What differs is printed with its seed, case and bytes;
-//! --only repeats one case, --trace tells each case's number before it is tried. The status is 0 only if nothing
-//! differs and all sorts were reached.
+//! The streams that `differ` sweeps are loaded with both. Then each case loads a generated stream, plays some steps, alters
+//! the model and plays on. Every answer is compared word for word: the places in use with the second implementation's
+//! model, the unused ones, which hold noise, with what was handed in. Where a model cannot be said in the second
+//! implementation's types it is unsound, so the answer is by rule: 24, counts 0, and the model as it was. What differs is
+//! printed with its seed, case and bytes; --only repeats one case, --trace tells each case's number before it is tried.
+//! The status is 0 only if nothing differs and all sorts were reached.
 
 mod alter;
 #[allow(dead_code)]
@@ -333,15 +333,23 @@ fn compare(arguments: &Arguments) -> Result<String, String> {
     let mut seen = Seen::default();
     let mut last = Last::default();
     let start = Instant::now();
+    let report = |name: String, what: String, last: &Last| {
+        let bytes: String = last.bytes.iter().map(|byte| format!("{byte:02x}")).collect();
+        format!("{name} differs: {what}\n{} {bytes}", last.what)
+    };
+    let swept = if arguments.only.is_none() { swept::swept() } else { vec![] };
+    for (number, stream) in swept.iter().enumerate() {
+        last = Last { what: "load of".to_string(), bytes: stream.clone() };
+        load(stream, &mut Random::of_case(seed, number as u64), &mut seen)
+            .map_err(|what| report(format!("swept stream {number} of seed {seed}"), what, &last))?;
+    }
     let mut number = arguments.only.unwrap_or(0);
     loop {
         if arguments.trace {
             eprintln!("case {number} of seed {seed}");
         }
-        try_case(seed, number, &mut seen, &mut last).map_err(|what| {
-            let bytes: String = last.bytes.iter().map(|byte| format!("{byte:02x}")).collect();
-            format!("case {number} of seed {seed} differs: {what}\n{} {bytes}", last.what)
-        })?;
+        try_case(seed, number, &mut seen, &mut last)
+            .map_err(|what| report(format!("case {number} of seed {seed}"), what, &last))?;
         number += 1;
         if arguments.only.is_some() {
             return Ok(format!("case {} of seed {seed}: nothing differs", number - 1));
@@ -355,7 +363,11 @@ fn compare(arguments: &Arguments) -> Result<String, String> {
         return Err(format!("{number} cases of seed {seed} reached too little: {}", missing.join("; ")));
     }
     let seconds = start.elapsed().as_secs_f64();
-    Ok(format!("calls: {number} cases of seed {seed} in {seconds:.1} s, nothing differs: {}", seen.figures()))
+    Ok(format!(
+        "calls: {} swept streams and {number} cases of seed {seed} in {seconds:.1} s, nothing differs: {}",
+        swept.len(),
+        seen.figures()
+    ))
 }
 
 fn main() -> ExitCode {
