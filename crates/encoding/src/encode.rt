@@ -192,7 +192,7 @@ fn put_parts(out: &mut [u8], at: usize, parts: [Part; PARTS]) -> usize
 }
 
 // A model.
-pub fn put_model(out: &mut [u8], at: usize, m: Model) -> usize
+pub(crate) fn put_model(out: &mut [u8], at: usize, m: Model) -> usize
     requires { ⌜ at + 6688 ≤ length (now out) ⌝ }
     ensures { λ r. ⌜ WordsPut 836 (model-words m) at (now (out .entry)) (now (out .exit)) r ⌝ }
     ensures fits { λ r. ⌜ Sized m ⌝ }

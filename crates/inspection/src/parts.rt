@@ -56,7 +56,7 @@ fn part_fits(p: Part, parts: usize, magnitude: u8, t: Ticks) -> bool
 }
 
 // Whether every part in use may be one of the model's, by the master's magnitude.
-pub fn parts_fit(m: Model, magnitude: u8) -> bool
+pub(crate) fn parts_fit(m: Model, magnitude: u8) -> bool
     requires { ⌜ m .count ≤ 32 ⌝ }
     requires { ⌜ magnitude ≤ last-magnitude ⌝ }
     ensures { λ r. ⌜ r ≡ every (part-fits (m .count) magnitude (tick (m .point))) (trimmed m .parts) ⌝ }

@@ -23,7 +23,7 @@ pub struct Survey {
 
 // The survey of a model: the largest of the default magnitude and the preferences of the parts in use, and their
 // direct sources.
-pub fn surveyed(m: Model) -> Survey
+pub(crate) fn surveyed(m: Model) -> Survey
     requires { ⌜ m .count ≤ 32 ⌝ }
     ensures { λ r. ⌜ r .magnitude ≡ magnitude-of (table-of (trimmed m)) ⌝ }
     ensures { λ r. ⌜ take (m .count) (r .direct) ≡ map (λ (p : Part). direct-of (p .component)) (take (m .count) (m .parts)) ⌝ }

@@ -17,7 +17,7 @@ ghost use mathlib.Core.Path.{_≡_};
 ghost use Rattle.loading.specs.Blank.{blank-model, blank-place, refused-blank};
 
 // A part with all of it 0.
-pub fn blank_part() -> Part
+pub(crate) fn blank_part() -> Part
     ensures { λ r. ⌜ r ≡ blank-place ⌝ }
 {
     let spans = [0u32; SPANS];
@@ -64,7 +64,7 @@ fn no_model() -> Model
 }
 
 // A refusal with this number and position.
-pub fn refused(number: u64, at: usize) -> Loaded
+pub(crate) fn refused(number: u64, at: usize) -> Loaded
     ensures { λ r. ⌜ r ≡ refused-blank number at ⌝ }
 {
     let model = no_model();

@@ -89,7 +89,7 @@ fn accept(read: TableRead, ending: Ending) -> Loaded
 }
 
 // What loading comes to, by what reading the table came to.
-pub fn finished(read: TableRead) -> Loaded
+pub(crate) fn finished(read: TableRead) -> Loaded
     requires { ⌜ (read .number ≡ 0 → Ended read) ⌝ }
     requires { ⌜ (concluded read .number ≡ 0 → concluded read .position ≤ last-position) ⌝ }
     ensures { λ r. ⌜ trimmed-loaded r ≡ concluded read ⌝ }

@@ -56,7 +56,7 @@ fn first_part(c: Component, magnitude: u8) -> Part
 }
 
 // The first parts of the first `count` components, by the master's magnitude. The places behind them are blank.
-pub fn first_parts(parts: [Component; PARTS], count: usize, magnitude: u8) -> [Part; PARTS]
+pub(crate) fn first_parts(parts: [Component; PARTS], count: usize, magnitude: u8) -> [Part; PARTS]
     requires { ⌜ count ≤ 32 ⌝ }
     requires { ⌜ magnitude ≤ last-magnitude ⌝ }
     ensures { λ r. ⌜ map trimmed-part (take count r) ≡ map (first-by magnitude) (components count parts) ⌝ }

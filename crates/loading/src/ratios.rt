@@ -12,7 +12,7 @@ ghost use Rattle.machine.specs.Table.{magnitude-of};
 ghost use Rattle.loading.specs.Places.{components, periods-within, table-in};
 
 // The largest of the default magnitude and the preferences of the first `count` components.
-pub fn master_magnitude(parts: [Component; PARTS], count: usize, default: u8) -> u8
+pub(crate) fn master_magnitude(parts: [Component; PARTS], count: usize, default: u8) -> u8
     requires { ⌜ count ≤ 32 ⌝ }
     ensures { λ r. ⌜ r ≡ magnitude-of (table-in default count parts) ⌝ }
 {
@@ -27,7 +27,7 @@ pub fn master_magnitude(parts: [Component; PARTS], count: usize, default: u8) ->
 }
 
 // Whether no P of the first `count` components is above the last tick, by the master's magnitude.
-pub fn periods_fit(parts: [Component; PARTS], count: usize, magnitude: u8) -> bool
+pub(crate) fn periods_fit(parts: [Component; PARTS], count: usize, magnitude: u8) -> bool
     requires { ⌜ count ≤ 32 ⌝ }
     requires { ⌜ magnitude ≤ last-magnitude ⌝ }
     ensures { λ r. ⌜ r ≡ periods-within magnitude (components count parts) ⌝ }

@@ -27,7 +27,7 @@ fn smaller(a: u64, b: u64) -> u64
 }
 
 // A round at `h`: the least of the longest steps of at most `h` that the parts accept.
-pub fn round_of(m: Model, h: u64) -> u64
+pub(crate) fn round_of(m: Model, h: u64) -> u64
     requires { ⌜ sound (trimmed m) ≡ true ⌝ }
     requires { ⌜ tick (m .point) + h ≤ last-tick ⌝ }
     ensures { λ r. ⌜ r ≡ round (trimmed m) h ⌝ }
@@ -52,7 +52,7 @@ pub fn round_of(m: Model, h: u64) -> u64
 }
 
 // Whether some part is due.
-pub fn any_due_of(m: Model) -> bool
+pub(crate) fn any_due_of(m: Model) -> bool
     requires { ⌜ sound (trimmed m) ≡ true ⌝ }
     ensures { λ r. ⌜ r ≡ any-due (trimmed m) ⌝ }
 {
@@ -76,7 +76,7 @@ pub fn any_due_of(m: Model) -> bool
 }
 
 // Whether some part of the trial objects to the step of `h` that led there.
-pub fn any_objects_of(h: u64, trial: Model) -> bool
+pub(crate) fn any_objects_of(h: u64, trial: Model) -> bool
     requires { ⌜ sound (trimmed trial) ≡ true ⌝ }
     ensures { λ r. ⌜ r ≡ any-objects h (trimmed trial) ⌝ }
 {

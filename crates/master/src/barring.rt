@@ -35,7 +35,7 @@ fn stays_in_time(t: u64, w: u64) -> bool
 
 // The number that bars a call with the wanted step `w`, of a model that is sound or not and stands at the
 // tick t.
-pub fn barred_number(sound: bool, t: u64, w: u64) -> u64
+pub(crate) fn barred_number(sound: bool, t: u64, w: u64) -> u64
     ensures { λ r. ⌜ r ≡ barred-by sound t w ⌝ }
 {
     let unsound = refusal(!sound, 24);

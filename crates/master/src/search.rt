@@ -43,7 +43,7 @@ fn changed_nothing(least: u64, h: u64) -> bool
 
 // The answer to a call that nothing bars: rounds lower h under a ceiling until one changes nothing; the
 // step is then refused, or made on trial, and an objection to the trial halves the ceiling.
-pub fn searched_answer(m: Model, w: u64) -> Answer
+pub(crate) fn searched_answer(m: Model, w: u64) -> Answer
     requires { ⌜ sound (trimmed m) ≡ true ⌝ }
     requires { ⌜ w ≤ 1_000_000_000 ⌝ }
     requires { ⌜ tick (m .point) + w ≤ last-tick ⌝ }

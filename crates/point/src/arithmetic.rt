@@ -9,7 +9,7 @@ ghost use Prim.Native.Nat.{_≤_};
 ghost use Rattle.machine.specs.Signal.{clamp, integral, integrated, is-signal, is-value, product, total};
 
 // The nearer end of the range of values, for a number outside it.
-pub fn clamped(v: i64) -> i64
+pub(crate) fn clamped(v: i64) -> i64
     ensures { λ r. ⌜ r ≡ clamp v ⌝ }
 {
     if 1_000_000_000 < v {
@@ -22,7 +22,7 @@ pub fn clamped(v: i64) -> i64
 }
 
 // A gain's output.
-pub fn product_of(a: i64, x: Signal) -> Signal
+pub(crate) fn product_of(a: i64, x: Signal) -> Signal
     requires { ⌜ is-value a ≡ true ⌝ }
     requires { ⌜ is-signal x ≡ true ⌝ }
     ensures { λ r. ⌜ r ≡ product a x ⌝ }
@@ -34,7 +34,7 @@ pub fn product_of(a: i64, x: Signal) -> Signal
 }
 
 // An adder's output.
-pub fn total_of(x: Signal, y: Signal) -> Signal
+pub(crate) fn total_of(x: Signal, y: Signal) -> Signal
     requires { ⌜ is-signal x ≡ true ⌝ }
     requires { ⌜ is-signal y ≡ true ⌝ }
     ensures { λ r. ⌜ r ≡ total x y ⌝ }
@@ -52,7 +52,7 @@ pub fn total_of(x: Signal, y: Signal) -> Signal
 }
 
 // What a held number becomes over `d` local ticks.
-pub fn integral_of(held: i64, x: Signal, d: u64) -> i64
+pub(crate) fn integral_of(held: i64, x: Signal, d: u64) -> i64
     requires { ⌜ is-value held ≡ true ⌝ }
     requires { ⌜ is-signal x ≡ true ⌝ }
     requires { ⌜ d ≤ 1_000_000_000 ⌝ }
@@ -65,7 +65,7 @@ pub fn integral_of(held: i64, x: Signal, d: u64) -> i64
 }
 
 // The number that a signal counts as where it is integrated.
-pub fn integrated_of(x: Signal) -> i64
+pub(crate) fn integrated_of(x: Signal) -> i64
     ensures { λ r. ⌜ r ≡ integrated x ⌝ }
 {
     match x {

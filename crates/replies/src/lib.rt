@@ -4,4 +4,4 @@
 pub mod due;
 pub mod longest;
 pub mod objection;
-pub mod span;
+mod span;

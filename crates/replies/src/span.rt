@@ -19,7 +19,7 @@ fn is_span(d: u64, span: u32) -> bool
 }
 
 // Whether `d` is 0 or a span.
-pub fn allowed(spans: [u32; SPANS], count: usize, d: u64) -> bool
+pub(crate) fn allowed(spans: [u32; SPANS], count: usize, d: u64) -> bool
     requires { ⌜ count ≤ most-spans ⌝ }
     ensures { λ r. ⌜ r ≡ allowed (take count spans) d ⌝ }
 {
@@ -52,7 +52,7 @@ fn larger_below(largest: u64, span: u32, d: u64) -> u64
 }
 
 // The largest of 0 and the spans that lies below `d`.
-pub fn largest_below(spans: [u32; SPANS], count: usize, d: u64) -> u64
+pub(crate) fn largest_below(spans: [u32; SPANS], count: usize, d: u64) -> u64
     requires { ⌜ count ≤ most-spans ⌝ }
     ensures { λ r. ⌜ r ≡ largest-below (take count spans) d ⌝ }
 {

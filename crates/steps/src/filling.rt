@@ -13,7 +13,7 @@ ghost use Rattle.steps.specs.Fillable.{Fillable};
 
 // The outputs of `new` at its point, in its part order; `old` stands at the point before, which delays
 // read.
-pub fn filled_model(old: Model, new: Model) -> Model
+pub(crate) fn filled_model(old: Model, new: Model) -> Model
     requires { ⌜ Fillable (trimmed old) (trimmed new) ⌝ }
     ensures { λ r. ⌜ Changed new (filled (trimmed old .parts) (new .point) (trimmed new .order) (trimmed new .parts)) r ⌝ }
 {

@@ -1,9 +1,9 @@
 // The steps of a whole model: every part moved, the outputs of a point filled in part order, every part
 // settled, and the step that these make; and the start point filled. Each function's contract is an
 // equation with a definition of `machine`.
-pub mod filling;
-pub mod moving;
+mod filling;
+mod moving;
 pub mod port;
-pub mod settling;
+mod settling;
 pub mod start;
 pub mod step;

@@ -15,7 +15,7 @@ ghost use Rattle.machine.specs.Step.{all-moved};
 ghost use Rattle.steps.specs.Trimmed.{Changed};
 
 // All parts moved by a step of `h`, one after the other in place: moving changes no stored output.
-pub fn all_moved(m: Model, h: u64) -> Model
+pub(crate) fn all_moved(m: Model, h: u64) -> Model
     requires { ⌜ sound (trimmed m) ≡ true ⌝ }
     requires { ⌜ h ≤ 1_000_000_000 ⌝ }
     requires { ⌜ tick (m .point) + h ≤ last-tick ⌝ }

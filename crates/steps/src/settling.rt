@@ -36,7 +36,7 @@ fn settles(k: Kind) -> bool
 
 // The outputs of `new` filled, `old` standing at the point before, and then all parts settled, one after the
 // other in place: settling changes no stored output. A part that settling does not change is passed over.
-pub fn settled_model(old: Model, new: Model) -> Model
+pub(crate) fn settled_model(old: Model, new: Model) -> Model
     requires { ⌜ Fillable (trimmed old) (trimmed new) ⌝ }
     ensures { λ r. ⌜ Changed new (all-settled (filled (trimmed old .parts) (new .point) (trimmed new .order) (trimmed new .parts))) r ⌝ }
 {

@@ -67,7 +67,7 @@ fn command(s: &[u8], at: usize, progress: Progress, rows: [[u32; SPANS]; PARTS],
 }
 
 // The rows behind a command with byte b: a Span's value is in the last part's row.
-pub fn rows_behind(
+pub(crate) fn rows_behind(
     rows: [[u32; SPANS]; PARTS],
     progress: Progress,
     b: u8,
@@ -130,7 +130,12 @@ fn placed(s: &[u8], at: usize, progress: Progress, rows: [[u32; SPANS]; PARTS], 
 }
 
 // The turn at a position, behind the progress and its rows.
-pub fn turn_at(s: &[u8], at: usize, progress: Progress, rows: [[u32; SPANS]; PARTS]) -> TurnRead
+pub(crate) fn turn_at(
+    s: &[u8],
+    at: usize,
+    progress: Progress,
+    rows: [[u32; SPANS]; PARTS],
+) -> TurnRead
     requires { ⌜ (progress .count ≤ 32) × Readable (reading-of progress rows) ⌝ }
     ensures { λ r. ⌜ Turned (now (s .entry)) at progress rows r ⌝ }
 {
