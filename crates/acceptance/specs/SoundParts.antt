@@ -1,30 +1,27 @@
--- What soundness says of the point and of each part of a model, and so what the laws of rounds ask: every part is in good order and has at most 8
--- spans, and the P of every detector is at least 1. The idea: the stored ratios are those that the table gives, each 1 or a power of ten, and a
--- kind that waits for multiples of P, or measures by P, names p. Assumes nothing.
-use Prim.Native.Nat.{ℕ, _-_, _^_, _/_, _≤_, _<_}
+-- A sound model has what the laws of rounds ask: every part is in good order and has at most 8 spans, and the P of every detector is at least 1.
+-- The idea: the stored ratios are those that the table gives, each 1 or a power of ten, and a kind that waits for multiples of P, or measures by
+-- P, names p. Assumes nothing.
+use Prim.Native.Nat.{ℕ, _-_, _^_, _≤_, _<_}
 use native.Mathlib.Omega.{arith}
 use native.Mathlib.Nat.{one-le-pow, mul-pos}
-use mathlib.Core.Path.{_≡_, refl, sym, ap, _∙_}
+use mathlib.Core.Path.{_≡_, refl, ap, _∙_}
 use mathlib.Core.Bool.{Bool, true, false, and-eq-true-iff}
-use lib.ListN.{length, getD, length-map, List·getD-map}
+use lib.ListN.{length}
 use lib.Dec.{eqb}
 use borrow.Author.Tests.{leb-true}
 use Rattle.machine.specs.declared.part.Kind.{Kind}
 use Rattle.machine.specs.declared.part.Kind.the-variants.{Constant, Gain, Adder, Square, Pulse, Delay, Integrator, ResetIntegrator, Detector, Hold, Sampler, Drive}
 use Rattle.machine.specs.declared.part.Component.{Component}
-use Rattle.machine.specs.declared.part.Part.{Part}
 use Rattle.machine.specs.declared.model.Model.{Model}
-use Rattle.machine.specs.Time.{last-tick, last-microstep, tick, in-time, ratio-of, no-preference, local-count}
-use Rattle.machine.specs.Signal.{is-signal}
+use Rattle.machine.specs.Time.{ratio-of, no-preference}
 use Rattle.machine.specs.Kind.{names-p, is-positive, operands-fit, period}
-use Rattle.machine.specs.Model.{most-spans, blank-component, blank-part, part-at}
-use Rattle.machine.specs.Table.{table-of, magnitude-of, component-ratio, ratios}
+use Rattle.machine.specs.Model.{most-spans, part-at}
+use Rattle.machine.specs.Table.{table-of, magnitude-of, component-ratio}
 use Rattle.machine.specs.Load.{is-drive}
 use Rattle.machine.specs.Sound.{sound}
 use Rattle.machine.specs.Accept.{Class, waiting, delaying, detecting, driving, free, class, class-of}
 use Rattle.laws.specs.Bools.{cond-cases}
-use Rattle.laws.specs.Lists.{all-at, getD-map-in}
-use Rattle.soundness.specs.Facts.{ComponentFits, table-facts, StateFits, sound-facts}
+use Rattle.soundness.specs.SoundParts.{sound-component, sound-ratio-given, sound-local}
 use Rattle.acceptance.specs.Rounds.{AllFit, AllFew}
 
 -- a ratio is 1 or a power of ten
@@ -64,55 +61,17 @@ named-positive c fits named =
     let facts = simp (named, and-eq-true-iff) at fits in
     leb-true 1 (c .p) (facts .1 .0)
 
--- the point of a sound model is in range
-pub sound-time : (m : Model) → sound m ≡ true → (tick (m .point) ≤ last-tick) × (m .point .n ≤ last-microstep)
-unfolding in-time
-sound-time m is-sound =
-    let facts = simp and-eq-true-iff at (sound-facts m is-sound .time) in
-    (leb-true (tick (m .point)) last-tick (facts .0), leb-true (m .point .n) last-microstep (facts .1))
-
 module _ (m : Model) (is-sound : sound m ≡ true) (i : ℕ) (within : i < length (m .parts)) where
-  -- each component is one that loading accepts
-  sound-component : ComponentFits (length (table-of m .parts)) (part-at (m .parts) i .component)
-  unfolding table-of
-  sound-component =
-      let components = table-facts (table-of m) (sound-facts m is-sound .table) .components in
-      rw (List·getD-map (λ (p : Part). p .component) (m .parts) i blank-part) at
-      (all-at (ComponentFits (length (table-of m .parts))) (table-of m .parts) blank-component i components (simp length-map within))
-
-  -- each ratio is the one that the table gives
-  sound-ratio-given : part-at (m .parts) i .ratio ≡ component-ratio (table-of m) (part-at (m .parts) i .component)
-  unfolding ratios table-of
-  sound-ratio-given =
-      sym (getD-map-in (λ (p : Part). p .ratio) (m .parts) i blank-part 0 within) ∙
-      ap (λ l. getD l i 0) (sound-facts m is-sound .ratios) ∙
-      getD-map-in (component-ratio (table-of m)) (table-of m .parts) i blank-component 0 (simp length-map within) ∙
-      ap (component-ratio (table-of m)) (List·getD-map (λ (p : Part). p .component) (m .parts) i blank-part)
-
-  -- so it is positive
+  -- each ratio is positive
   sound-ratio : 0 < part-at (m .parts) i .ratio
   unfolding component-ratio
-  sound-ratio = rw sound-ratio-given (ratio-positive (magnitude-of (table-of m)) (part-at (m .parts) i .component .preference))
-
-  -- each state fits
-  sound-state : StateFits (tick (m .point)) (part-at (m .parts) i)
-  sound-state =
-      all-at (StateFits (tick (m .point))) (m .parts) blank-part i (sound-facts m is-sound .states) within
-
-  -- each local count is floor(t / r)
-  pub sound-local : part-at (m .parts) i .state .local .0 ≡ tick (m .point) / part-at (m .parts) i .ratio
-  unfolding local-count
-  sound-local = sound-state .local
-
-  -- each output is a value in range, or absent
-  pub sound-output : is-signal (part-at (m .parts) i .state .output) ≡ true
-  sound-output = sound-state .output
+  sound-ratio = rw (sound-ratio-given m is-sound i within) (ratio-positive (magnitude-of (table-of m)) (part-at (m .parts) i .component .preference))
 
   -- the P of a part is positive, where its class names p
   sound-period : class-names-p (class-of (part-at (m .parts) i)) ≡ true → 0 < period (part-at (m .parts) i)
   sound-period named =
       let component = part-at (m .parts) i .component in
-      mul-pos (named-positive component (sound-component .operands) (named-by-class (component .kind) ∙ named)) sound-ratio
+      mul-pos (named-positive component (sound-component m is-sound i within .operands) (named-by-class (component .kind) ∙ named)) sound-ratio
 
   -- so is that of a detector
   pub sound-detectors : class-of (part-at (m .parts) i) ≡ detecting → 0 < period (part-at (m .parts) i)

@@ -1,6 +1,4 @@
 -- What the contracts and proofs of this crate cite beside the machine's definitions.
 pub mod Parts
-pub mod Fronts
 pub mod Trimmed
-pub mod Magnitude
 pub mod Whole

@@ -14,7 +14,8 @@ use Rattle.machine.specs.Lists.{every}
 use Rattle.machine.specs.Time.{larger, master-magnitude}
 use Rattle.machine.specs.Table.{table-of}
 use Rattle.laws.specs.Lists.{getD-map-in}
-use Rattle.inspection.specs.Fronts.{every-on, magnitude-on}
+use Rattle.laws.specs.Loops.{every-on}
+use Rattle.soundness.specs.Magnitude.{magnitude-on}
 
 -- the preferences of the parts in use
 unfoldable pub preferences : Model → List ℕ

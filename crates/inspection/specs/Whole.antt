@@ -17,7 +17,7 @@ use Rattle.machine.specs.Table.{table-of, magnitude-of, component-ratio, ratios
 use Rattle.machine.specs.Sound.{component-fits, table-fits, state-fits, sound}
 use Rattle.laws.specs.Lists.{every-at, every-intro}
 use Rattle.soundness.specs.Facts.{table-facts, sound-facts}
-use Rattle.inspection.specs.Magnitude.{known-there, known-back}
+use Rattle.soundness.specs.Magnitude.{known-there, known-back}
 use Rattle.inspection.specs.Parts.{state-holds, part-fits}
 use Rattle.inspection.specs.Trimmed.{parts-count, components-count}
 

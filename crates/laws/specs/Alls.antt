@@ -3,7 +3,7 @@ use Prim.Native.Nat.{ℕ, zero, suc}
 use mathlib.Core.Path.{_≡_, refl, sym, ap, ap₂, _∙_}
 use mathlib.Core.Bool.{Bool, true, and-eq-true-iff}
 use mathlib.Core.List.{List, [], _∷_, _++_, map}
-use lib.ListN.{length, getD, set, length-map}
+use lib.ListN.{length, getD, set, length-map, List·getD-map}
 use Rattle.machine.specs.Lists.{every, All}
 
 module _ {ℓ} {A : Type ℓ} (P : A → Type 0) where
@@ -48,15 +48,19 @@ module _ {ℓ} {A : Type ℓ} (P : A → Type 0) where
   all-give Q [] gives h = tt
   all-give Q (x ∷ xs) gives h = (gives x (h .0), all-give Q xs gives (h .1))
 
+-- lists that are mapped to the same are of the same length
+pub length-same-map {ℓ κ} : {A : Type ℓ} {B : Type κ} (f : A → B) (k l : List A) → map f k ≡ map f l → length k ≡ length l
+length-same-map f k l e = sym (length-map k f) ∙ ap length e ∙ length-map l f
+
+-- and their elements at each index are mapped to the same
+pub same-at {ℓ κ} : {A : Type ℓ} {B : Type κ} (f : A → B) (k l : List A) (i : ℕ) (d : A) → map f k ≡ map f l → f (getD k i d) ≡ f (getD l i d)
+same-at f k l i d e = sym (List·getD-map f k i d) ∙ ap (λ x. getD x i (f d)) e ∙ List·getD-map f l i d
+
 module _ {ℓ} {A B : Type ℓ} (f : A → B) where
   -- what g keeps of each element, it keeps of the list
   pub map-kept : (g : A → A) (l : List A) → ((a : A) → f (g a) ≡ f a) → map f (map g l) ≡ map f l
   map-kept g [] h = refl
   map-kept g (x ∷ xs) h = ap₂ _∷_ (h x) (map-kept g xs h)
-
-  -- lists that are mapped to the same are of the same length
-  pub length-same-map : (k l : List A) → map f k ≡ map f l → length k ≡ length l
-  length-same-map k l e = sym (length-map k f) ∙ ap length e ∙ length-map l f
 
   -- where f takes what has P to what has Q, all elements of the mapped list have Q
   pub all-map : (P : A → Type 0) (Q : B → Type 0) (l : List A) → ((a : A) → P a → Q (f a)) → All P l → All Q (map f l)

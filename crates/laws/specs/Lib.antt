@@ -3,7 +3,10 @@ pub mod Bools
 pub mod Lists
 pub mod Alls
 pub mod Last
+pub mod Loops
+pub mod Partway
 pub mod Numbers
 pub mod Below
 pub mod Marks
 pub mod Once
+pub mod WordMarks

@@ -7,12 +7,12 @@ use mathlib.Core.Path.{_≡_, refl, ap, ap₂, sym, subst, _∙_}
 use mathlib.Core.Bool.{Bool, true, false, false≢true}
 use mathlib.Core.Logic.{_⊎_, inl, inr, ⊎-elim}
 use mathlib.Core.List.{List, [], _∷_, _++_, append-nil, map, flatMap, List·Memᴰ, List·Memᴰ·head, List·Memᴰ·tail, List·Memᴰ·not-nil, List·Memᴰ·cases-cons, List·Memᴰ·eq-of-singleton, List·Memᴰ·append-cases}
-use lib.ListN.{length, getD, length-append}
+use lib.ListN.{length, getD, take, length-append}
 use lib.Seq.{append-snoc}
 use lib.Dec.{eqb}
 use borrow.Author.Tests.{eqb-true, eq-eqb}
 use Rattle.machine.specs.Lists.{every, any, member, same, All}
-use Rattle.laws.specs.Bools.{either, and-left, and-right, and-intro, or-cases, or-left, or-right, or-false-left, or-false-right}
+use Rattle.laws.specs.Bools.{either, and-left, and-right, and-intro, or-cases, or-left, or-right}
 
 module _ {ℓ} {A : Type ℓ} where
   -- what `every` says at each index, and back
@@ -28,13 +28,7 @@ module _ {ℓ} {A : Type ℓ} where
   every-intro f (x ∷ xs) d h =
       and-intro (f x) (every f xs) (h 0 (omega arith)) (every-intro f xs d (λ i p. h (suc i) (omega arith)))
 
-  -- where `any` is false no element passes the test, and where it is true one does
-  pub any-none : (f : A → Bool) (l : List A) (d : A) (i : ℕ) → any f l ≡ false → i < length l → f (getD l i d) ≡ false
-  unfolding any
-  any-none f [] d i h p = absurd (omega arith)
-  any-none f (x ∷ xs) d zero h p = or-false-left (f x) (any f xs) h
-  any-none f (x ∷ xs) d (suc i) h p = any-none f xs d i (or-false-right (f x) (any f xs) h) (omega arith)
-
+  -- where `any` is true some element passes the test, and back
   pub any-one : (f : A → Bool) (l : List A) (d : A) → any f l ≡ true → (i : ℕ) × (i < length l) × (f (getD l i d) ≡ true)
   unfolding any
   any-one f [] d h = absurd (false≢true h)
@@ -76,6 +70,12 @@ pub map-cong {ℓ ℓ′} : {A : Type ℓ} {B : Type ℓ′} (f g : A → B) (l 
 map-cong f g [] d h = refl
 map-cong f g (x ∷ xs) d h = ap₂ _∷_ (h 0 (omega arith)) (map-cong f g xs d (λ i p. h (suc i) (omega arith)))
 
+-- the first elements of a mapped list
+pub take-map {ℓ ℓ′} : {A : Type ℓ} {B : Type ℓ′} (f : A → B) (n : ℕ) (l : List A) → take n (map f l) ≡ map f (take n l)
+take-map f zero l = refl
+take-map f (suc n) [] = refl
+take-map f (suc n) (x ∷ xs) = ap (λ t. f x ∷ t) (take-map f n xs)
+
 -- lists of numbers that are the same are equal, and back
 pub same-equal : (xs ys : List ℕ) → same xs ys ≡ true → xs ≡ ys
 unfolding same
@@ -85,7 +85,7 @@ same-equal (x ∷ xs) [] h = absurd (false≢true h)
 same-equal (x ∷ xs) (y ∷ ys) h =
     ap₂ _∷_ (eqb-true x y (and-left (eqb x y) (same xs ys) h)) (same-equal xs ys (and-right (eqb x y) (same xs ys) h))
 
-pub same-refl : (xs : List ℕ) → same xs xs ≡ true
+same-refl : (xs : List ℕ) → same xs xs ≡ true
 unfolding same
 same-refl [] = refl
 same-refl (x ∷ xs) = and-intro (eqb x x) (same xs xs) (eq-eqb x x refl) (same-refl xs)

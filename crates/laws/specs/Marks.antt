@@ -3,8 +3,8 @@ use Prim.Native.Nat.{ℕ, zero, suc, _<_}
 use native.Mathlib.Omega.{arith}
 use mathlib.Core.Path.{_≡_, refl, ap, _∙_}
 use mathlib.Core.Bool.{Bool, true, false, false≢true}
-use mathlib.Core.List.{List, [], _∷_, List·Memᴰ, List·Memᴰ·head, List·Memᴰ·tail}
-use lib.ListN.{length, getD, set, replicate}
+use mathlib.Core.List.{List, [], _∷_, _++_, List·Memᴰ, List·Memᴰ·head, List·Memᴰ·tail}
+use lib.ListN.{length, getD, set, replicate, length-set}
 use lib.Seq.{getD-set-other}
 
 -- a mark is one of the list's
@@ -17,6 +17,18 @@ marked-below (b ∷ marks) (suc k) e = omega (arith, marked-below marks k e)
 unfoldable pub cleared : List Bool → List ℕ → List Bool
 cleared marks [] = marks
 cleared marks (k ∷ ks) = cleared (set marks k false) ks
+
+-- one number more is cleared
+pub cleared-added : (marks : List Bool) (ks : List ℕ) (k : ℕ) → cleared marks (ks ++ (k ∷ [])) ≡ set (cleared marks ks) k false
+unfolding cleared
+cleared-added marks [] k = refl
+cleared-added marks (j ∷ ks) k = cleared-added (set marks j false) ks k
+
+-- there are as many places for marks as before
+pub length-cleared : (marks : List Bool) (ks : List ℕ) → length (cleared marks ks) ≡ length marks
+unfolding cleared
+length-cleared marks [] = refl
+length-cleared marks (k ∷ ks) = length-cleared (set marks k false) ks ∙ length-set marks k false
 
 -- how many marks there are
 unfoldable pub left : List Bool → ℕ
@@ -60,6 +72,10 @@ left-set (true ∷ marks) zero e = refl
 left-set (false ∷ marks) zero e = absurd (false≢true e)
 left-set (true ∷ marks) (suc k) e = ap suc (left-set marks k e)
 left-set (false ∷ marks) (suc k) e = left-set marks k e
+
+-- where no mark is left none is set
+pub none-left : (marks : List Bool) (j : ℕ) → left marks ≡ 0 → getD marks j false ≡ true → ⊥
+none-left marks j e m = omega (arith, left-set marks j m)
 
 -- where marks are left there is one
 pub one-left : (marks : List Bool) → 0 < left marks → (k : ℕ) × (getD marks k false ≡ true)

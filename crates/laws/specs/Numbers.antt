@@ -3,9 +3,10 @@ use Prim.Native.Nat.{ℕ, zero, suc, _/_, _≤_, _<_, min, max}
 use native.Mathlib.Omega.{arith}
 use native.Mathlib.Nat.{le-div-iff-mul-le, div-mul-le-self, div-zero, le-trans}
 use mathlib.Core.Path.{_≡_}
+use mathlib.Core.Bool.{true, false, not, _&&_}
 use mathlib.Core.Logic.{_⊎_, inl, inr, ⊎-elim, ⊎-map}
-use lib.Dec.{leb}
-use borrow.Author.Tests.{leb-true, leb-false}
+use lib.Dec.{leb, ltb}
+use borrow.Author.Tests.{leb-true, leb-false, le-leb, lt-leb, ltb-true, ltb-false}
 use Rattle.laws.specs.Bools.{either}
 
 -- of two numbers one is at most the other
@@ -20,8 +21,25 @@ max-one a b = ⊎-elim (λ le. inr (omega arith)) (λ lt. inl (omega arith)) (at
 pub min-one : (a b : ℕ) → (min a b ≡ a) ⊎ (min a b ≡ b)
 min-one a b = ⊎-elim (λ le. inl (omega arith)) (λ lt. inr (omega arith)) (at-most a b)
 
+-- as tests: not below is at least
+pub not-ltb : (a b : ℕ) → not (ltb a b) ≡ leb b a
+not-ltb a b = by-test (either (ltb a b))
+  where
+    by-test : (ltb a b ≡ true) ⊎ (ltb a b ≡ false) → not (ltb a b) ≡ leb b a
+    by-test (inl t) = rw (t, lt-leb b a (ltb-true a b t))
+    by-test (inr t) = rw (t, le-leb b a (ltb-false a b t))
+
+-- both of two numbers are at most p where the larger is
+pub and-leb : (a b p : ℕ) → (leb a p && leb b p) ≡ leb (max a b) p
+and-leb a b p = by-test (either (leb a p)) (either (leb b p))
+  where
+    by-test : (leb a p ≡ true) ⊎ (leb a p ≡ false) → (leb b p ≡ true) ⊎ (leb b p ≡ false) → (leb a p && leb b p) ≡ leb (max a b) p
+    by-test (inl t) (inl u) = rw (t, u, le-leb (max a b) p (omega (arith, leb-true a p t, leb-true b p u)))
+    by-test (inl t) (inr u) = rw (t, u, lt-leb (max a b) p (omega (arith, leb-false b p u)))
+    by-test (inr t) other = rw (t, lt-leb (max a b) p (omega (arith, leb-false a p t)))
+
 -- a larger number divided is no smaller
-pub div-mono : (r a b : ℕ) → 0 < r → a ≤ b → a / r ≤ b / r
+div-mono : (r a b : ℕ) → 0 < r → a ≤ b → a / r ≤ b / r
 div-mono r a b pos h = le-div-iff-mul-le pos .1 (le-trans (div-mul-le-self a r) h)
 
 -- whatever the divisor: divided by 0 both give 0

@@ -20,7 +20,7 @@ use Rattle.soundness.specs.Facts.{ComponentFits, component-test, table-test}
 use Rattle.soundness.specs.Passed.{end-passed}
 use Rattle.placing.specs.declared.Placed.{Placed}
 use Rattle.placing.specs.Order.{InOrder, order-trimmed}
-use Rattle.inspection.specs.Magnitude.{known-there}
+use Rattle.soundness.specs.Magnitude.{known-there}
 use Rattle.steps.specs.Start.{unfilled}
 use Rattle.table.specs.declared.table.TableRead.{TableRead}
 use Rattle.table.specs.Concluded.{Ended, concluded, end-loaded, table-read}

@@ -6,7 +6,7 @@ use native.Mathlib.Numerals.{add-one}
 use mathlib.Core.Path.{_≡_, refl, sym, ap, _∙_}
 use mathlib.Core.Bool.{Bool, true, false, _||_}
 use mathlib.Core.List.{[], _∷_}
-use lib.ListN.{length, drop, length-map, List·getD-map, drop-of-length-le}
+use lib.ListN.{length, drop, drop-of-length-le}
 use lib.Seq.{drop-cons}
 use Rattle.machine.specs.declared.time.Point.{Point}
 use Rattle.machine.specs.declared.signal.Signal.{Signal}
@@ -15,15 +15,15 @@ use Rattle.machine.specs.declared.model.Model.{Model}
 use Rattle.machine.specs.Lists.{any}
 use Rattle.machine.specs.Time.{last-tick, tick, local-count}
 use Rattle.machine.specs.Kind.{period}
-use Rattle.machine.specs.Table.{table-of}
-use Rattle.machine.specs.Model.{blank-component, blank-part, part-at, reading0, trimmed, trimmed-part, trimmed-component}
+use Rattle.machine.specs.Model.{blank-part, part-at, reading0, trimmed, trimmed-part, trimmed-component}
 use Rattle.machine.specs.Sound.{sound}
 use Rattle.machine.specs.Accept.{Class, waiting, delaying, detecting, driving, free, class-of, due, due-as, longest}
 use Rattle.machine.specs.Advance.{least, objects, objects-as}
 use Rattle.laws.specs.Bools.{or-left}
 use Rattle.laws.specs.Lists.{all-at}
 use Rattle.laws.specs.Numbers.{div-grows}
-use Rattle.soundness.specs.Facts.{ComponentFits, table-facts, sound-facts}
+use Rattle.soundness.specs.Facts.{sound-facts}
+use Rattle.soundness.specs.SoundParts.{sound-component}
 use Rattle.acceptance.specs.SoundParts.{sound-fit, sound-few}
 use Rattle.replies.specs.Asked.{AskFits}
 use Rattle.steps.specs.Reading.{part-trimmed, reading-trimmed}
@@ -32,13 +32,7 @@ use Rattle.steps.specs.SoundParts.{sound-wired, sound-periods}
 
 -- each part of a sound model has at most 8 spans
 sound-spans : (m : Model) → sound m ≡ true → (i : ℕ) → i < length (m .parts) → part-at (m .parts) i .component .«span_count» ≤ 8
-unfolding table-of
-sound-spans m is-sound i within =
-    let components = table-facts (table-of m) (sound-facts m is-sound .table) .components in
-    let fits =
-    rw (List·getD-map (λ (p : Part). p .component) (m .parts) i blank-part) at
-    (all-at (ComponentFits (length (table-of m .parts))) (table-of m .parts) blank-component i components (simp length-map within)) in
-    rw (fits .counted) (sound-few m is-sound i within)
+sound-spans m is-sound i within = rw (sound-component m is-sound i within .counted) (sound-few m is-sound i within)
 
 -- whether a part is due, and whether it objects, reads nothing that trimming cuts away
 due-as-trimmed : (c : Class) (p : Part) (now : Point) (x : Signal) → due-as c (trimmed-part p) now x ≡ due-as c p now x

@@ -16,7 +16,7 @@ use Rattle.machine.specs.Step.{step-made}
 use Rattle.machine.specs.Sound.{sound}
 use Rattle.machine.specs.Advance.{followed, search-from, searched, turn, tried, round, any-due, any-objects, answer-with}
 use Rattle.laws.specs.Bools.{cond-true, cond-false}
-use Rattle.acceptance.specs.SoundParts.{sound-time}
+use Rattle.soundness.specs.SoundParts.{sound-time}
 use Rattle.stepsearch.specs.Fuel.{Falls, unrolled}
 use Rattle.stepsearch.specs.Fair.{fair-falls}
 use Rattle.stepsearch.specs.Turns.{turn-fair}

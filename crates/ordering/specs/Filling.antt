@@ -7,13 +7,14 @@ use native.Mathlib.Omega.{arith}
 use mathlib.Core.Path.{_≡_, refl, ap, ap₂, sym, _∙_}
 use mathlib.Core.Logic.{⊎-elim}
 use mathlib.Core.List.{List, [], _∷_, _++_, map, map-map, List·Memᴰ, List·Memᴰ·head, List·Memᴰ·tail, Memᴰ·append-right}
-use lib.ListN.{length, set, length-map, List·getD-map, List·getD-eq-default}
+use lib.ListN.{length, set, List·getD-eq-default}
 use lib.Seq.{getD-set-same, getD-set-other, map-set-same, ext-getD}
 use Rattle.machine.specs.declared.time.Point.{Point}
 use Rattle.machine.specs.declared.part.Part.{Part}
 use Rattle.machine.specs.Model.{blank-part, part-at}
 use Rattle.machine.specs.Table.{DirectWire}
 use Rattle.machine.specs.Step.{with-output, shown, filled}
+use Rattle.laws.specs.Alls.{length-same-map, same-at}
 use Rattle.laws.specs.Lists.{split-in, in-or-not, along}
 use Rattle.laws.specs.Once.{Once, once-apart, once-rest}
 use Rattle.ordering.specs.Order.{CompleteOrder}
@@ -26,11 +27,11 @@ pub record Filling (old : List Part) (now : Point) (ps qs : List Part) : Type 0 
 
 -- where all but stored outputs is kept, the parts are as many
 kept-length : (ps qs : List Part) → map unshown qs ≡ map unshown ps → length qs ≡ length ps
-kept-length ps qs e = sym (length-map qs unshown) ∙ (ap length e ∙ length-map ps unshown)
+kept-length ps qs e = length-same-map unshown qs ps e
 
 -- each of them is kept
 kept-at : (ps qs : List Part) → map unshown qs ≡ map unshown ps → (i : ℕ) → unshown (part-at qs i) ≡ unshown (part-at ps i)
-kept-at ps qs e i = sym (List·getD-map unshown qs i blank-part) ∙ (ap (λ l. part-at l i) e ∙ List·getD-map unshown ps i blank-part)
+kept-at ps qs e i = same-at unshown qs ps i blank-part e
 
 -- and so are the components
 kept-components : (ps qs : List Part) → map unshown qs ≡ map unshown ps → components qs ≡ components ps

@@ -35,7 +35,7 @@ module _ (cs : List Component) (marks : List Bool) where
   found-first = lowest-found cs marks (length cs) 0 (omega arith)
 
 -- as many places as there are marks left are enough
-pub placed-enough :
+placed-enough :
     (n k : ℕ) (cs : List Component) (marks : List Bool) → left marks ≤ n → left marks ≤ k → placed n cs marks ≡ placed k cs marks
 unfolding placed
 placed-enough zero zero cs marks few more = refl

@@ -2,13 +2,12 @@
 -- the part being as the step moved it, or as it is first. Settling changes no stored output, so this holds before it and after.
 -- Assumes nothing.
 use Prim.Native.Nat.{ℕ, _<_}
-use mathlib.Core.Path.{_≡_, refl, ap, sym, _∙_}
+use mathlib.Core.Path.{_≡_, refl, sym, _∙_}
 use mathlib.Core.Bool.{true}
-use mathlib.Core.List.{List, [], map, map-map, map-id}
-use lib.ListN.{length, getD, length-map, List·getD-map}
+use mathlib.Core.List.{List, [], map-map, map-id}
+use lib.ListN.{length, length-map}
 use Rattle.machine.specs.declared.time.Point.{Point}
 use Rattle.machine.specs.declared.signal.Signal.{Signal}
-use Rattle.machine.specs.declared.signal.Signal.the-variants.{Absent}
 use Rattle.machine.specs.declared.part.Kind.{Kind}
 use Rattle.machine.specs.declared.part.Kind.the-variants.{Constant, Gain, Adder, Square, Pulse, Delay, Integrator, ResetIntegrator, Detector, Hold, Sampler, Drive}
 use Rattle.machine.specs.declared.part.State.{State}
@@ -19,7 +18,7 @@ use Rattle.machine.specs.Model.{blank-part, part-at, reading0}
 use Rattle.machine.specs.Table.{Table, part-order, ordered}
 use Rattle.machine.specs.Step.{moved, filled, settled-as, settled, all-moved, all-settled, step-made}
 use Rattle.machine.specs.Fresh.{first-part, first-parts, fresh}
-use Rattle.laws.specs.Lists.{map-cong}
+use Rattle.laws.specs.Alls.{map-kept, same-at}
 use Rattle.ordering.specs.Order.{order-complete}
 use Rattle.ordering.specs.Row.{row, stored, row-direct, components}
 use Rattle.ordering.specs.Filling.{Filling, filled-filling}
@@ -40,23 +39,13 @@ settled-as-output Hold x s = refl
 settled-as-output Sampler x s = refl
 settled-as-output Drive x s = refl
 
--- the stored outputs, by number
-abbrev outputs : List Part → List Signal
-outputs qs = map (λ (p : Part). p .state .output) qs
-
--- settling changes none of them
-outputs-settled : (qs : List Part) → outputs (all-settled qs) ≡ outputs qs
+-- so settling changes no part's stored output
+stored-settled : (qs : List Part) (i : ℕ) → stored (all-settled qs) i ≡ stored qs i
 unfolding all-settled settled
-outputs-settled qs =
-    map-map (λ (p : Part). p .state .output) (λ (p : Part). settled (reading0 qs p) p) qs ∙
-    map-cong (λ (p : Part). settled (reading0 qs p) p .state .output) (λ (p : Part). p .state .output) qs blank-part
-    (λ i h. settled-as-output (part-at qs i .component .kind) (reading0 qs (part-at qs i)) (part-at qs i .state))
-
--- the same of part i
-pub stored-settled : (qs : List Part) (i : ℕ) → stored (all-settled qs) i ≡ stored qs i
 stored-settled qs i =
-    sym (List·getD-map (λ (p : Part). p .state .output) (all-settled qs) i blank-part) ∙
-    (ap (λ l. getD l i Absent) (outputs-settled qs) ∙ List·getD-map (λ (p : Part). p .state .output) qs i blank-part)
+    same-at (λ (p : Part). p .state .output) (all-settled qs) qs i blank-part
+    (map-kept (λ (p : Part). p .state .output) (λ (p : Part). settled (reading0 qs p) p) qs
+    (λ p. settled-as-output (p .component .kind) (reading0 qs p) (p .state)))
 
 -- so where parts are filled, their stored outputs after settling are still the rows, for the outputs stored after settling
 settled-rows : (old : List Part) (now : Point) (ps qs : List Part) → Filling old now ps qs → (i : ℕ) → i < length ps →
@@ -75,7 +64,7 @@ module _
     (full : ordered (components (m .parts)) ≡ true)
     (order : m .order ≡ part-order (components (m .parts))) where
   -- before settling: a step fills the moved parts
-  pub step-filling :
+  step-filling :
       Filling (m .parts) (led-to (m .point) h) (all-moved (tick (m .point)) h (m .parts))
       (filled (m .parts) (led-to (m .point) h) (m .order) (all-moved (tick (m .point)) h (m .parts)))
   step-filling =
@@ -99,7 +88,7 @@ first-components t = map-map (λ (p : Part). p .component) (first-part t) (t .pa
 
 module _ (t : Table) (full : ordered (t .parts) ≡ true) where
   -- before settling: the start point is filled from the first parts
-  pub fresh-filling : Filling [] start (first-parts t) (filled [] start (part-order (t .parts)) (first-parts t))
+  fresh-filling : Filling [] start (first-parts t) (filled [] start (part-order (t .parts)) (first-parts t))
   fresh-filling = filled-filling [] start (first-parts t) (part-order (t .parts)) (rw (first-components t) (order-complete (t .parts) full))
 
   -- after settling: each stored output is the row of the first part, its sources' outputs being those stored now; there is no point before

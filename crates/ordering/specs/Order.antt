@@ -79,7 +79,7 @@ placing-next cs marks (some k) on f later = (
 )
 
 -- `placed` places so
-pub placing : (n : ℕ) (cs : List Component) (marks : List Bool) → Placing cs marks (placed n cs marks)
+placing : (n : ℕ) (cs : List Component) (marks : List Bool) → Placing cs marks (placed n cs marks)
 unfolding placed
 placing zero cs marks = tt
 placing (suc n) cs marks =

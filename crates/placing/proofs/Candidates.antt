@@ -18,7 +18,7 @@ use Rattle.machine.specs.Table.{source-placed}
 use Rattle.laws.specs.Bools.{either, and-left}
 use Rattle.placing.specs.declared.Direct.{Direct}
 use Rattle.placing.specs.declared.Found.the-variants.{At, Nothing}
-use Rattle.placing.specs.Marks.{FirstMark, marks-of, none-behind, wider}
+use Rattle.laws.specs.WordMarks.{FirstMark, marks-of, none-behind, wider}
 use Rattle.placing.specs.Direct.{both-placed, found-as, lowest-among}
 
 -- no candidate from k on: nothing is found

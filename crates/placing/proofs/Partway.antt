@@ -14,7 +14,7 @@ use lib.Pow.{pow-pos}
 use lib.Count.{ones, ones-le, ones-ones}
 use Rattle.machine.specs.declared.part.Component.{Component}
 use Rattle.placing.specs.declared.Direct.{Direct}
-use Rattle.placing.specs.Marks.{all-marks, cleared, marks-of}
+use Rattle.laws.specs.WordMarks.{all-marks, cleared, marks-of}
 use Rattle.placing.specs.Direct.{direct-of, lowest-among}
 use Rattle.placing.specs.Order.{InOrder, order-by, order-direct, placed-by}
 use Rattle.placing.proofs.Candidates.{found-marked}

@@ -1,4 +1,3 @@
--- The marks of a word, and the order of parts as the code finds it, by the direct sources of the parts alone.
-pub mod Marks
+-- The order of parts as the code finds it, by the direct sources of the parts alone.
 pub mod Direct
 pub mod Order

@@ -11,7 +11,7 @@ ghost use mathlib.Core.Path.{_≡_};
 ghost use mathlib.Core.List.{map};
 ghost use Prim.Native.Nat.{_-_, _^_, _≤_};
 ghost use Rattle.machine.specs.Table.{source-placed};
-ghost use Rattle.placing.specs.Marks.{marks-of};
+ghost use Rattle.laws.specs.WordMarks.{marks-of};
 ghost use Rattle.placing.specs.Direct.{direct-source, direct-of, both-placed, lowest-among, found-as};
 ghost use Rattle.placing.specs.Order.{InOrder};
 

@@ -3,20 +3,21 @@
 use Prim.Native.Nat.{ℕ, suc, _≤_, _<_, max}
 use native.Mathlib.Omega.{arith}
 use native.Mathlib.Nat.{eq-or-lt-of-le}
-use mathlib.Core.Path.{_≡_, refl, sym, ap₂, _∙_}
-use mathlib.Core.Bool.{Bool, true, false, cond, not, _&&_}
+use mathlib.Core.Path.{_≡_, sym, ap₂, _∙_}
+use mathlib.Core.Bool.{true, false, cond, not, _&&_}
 use mathlib.Core.Logic.{_⊎_, inl, inr, ⊎-elim}
-use mathlib.Core.List.{List, [], _∷_}
-use lib.ListN.{length, getD, set, replicate, getD-replicate, length-replicate, length-set, List·getD-eq-default, take}
+use mathlib.Core.List.{List}
+use lib.ListN.{length, getD, set, replicate, getD-replicate, length-replicate, List·getD-eq-default, take}
 use lib.Seq.{getD-set-same, getD-set-other}
 use lib.Dec.{eqb, leb, ltb}
-use borrow.Author.Tests.{eqb-true, eqb-false, leb-true, leb-false, le-leb, lt-leb, lt-ltb, le-ltb, ltb-true, ltb-false}
+use borrow.Author.Tests.{eqb-true, eqb-false, leb-true, leb-false, le-leb, lt-ltb, le-ltb}
 use Rattle.machine.specs.declared.part.Source.{Source}
 use Rattle.machine.specs.declared.part.Source.the-variants.{Unwired, From}
 use Rattle.machine.specs.Model.{most-parts}
 use Rattle.machine.specs.Table.{source-placed}
 use Rattle.laws.specs.Bools.{either}
-use Rattle.laws.specs.Marks.{cleared, clear-set}
+use Rattle.laws.specs.Marks.{cleared, clear-set, length-cleared}
+use Rattle.laws.specs.Numbers.{not-ltb, and-leb}
 use Rattle.placing.specs.declared.Direct.{Direct}
 use Rattle.placing.specs.Direct.{both-placed}
 use Rattle.precedence.specs.Turns.{marks-at, marks-next}
@@ -37,31 +38,9 @@ pub record PlacedAfter (n : ℕ) (ks after : List ℕ) (i : ℕ) : Type 0 where
   pub known : (k : ℕ) → k < n → (getD after k 0 ≤ i) ⊎ (most-parts < getD after k 0)
 
 -- as many marks as parts
-length-cleared : (marks : List Bool) (ks : List ℕ) → length (cleared marks ks) ≡ length marks
-unfolding cleared
-length-cleared marks [] = refl
-length-cleared marks (k ∷ ks) = length-cleared (set marks k false) ks ∙ length-set marks k false
-
 length-marks : (n : ℕ) (ks : List ℕ) (p : ℕ) → length (marks-at n ks p) ≡ n
 unfolding marks-at
 length-marks n ks p = length-cleared (replicate n true) (take p ks) ∙ length-replicate n true
-
--- not below is at least
-not-ltb : (a b : ℕ) → not (ltb a b) ≡ leb b a
-not-ltb a b = by-test (either (ltb a b))
-  where
-    by-test : (ltb a b ≡ true) ⊎ (ltb a b ≡ false) → not (ltb a b) ≡ leb b a
-    by-test (inl t) = rw (t, lt-leb b a (ltb-true a b t))
-    by-test (inr t) = rw (t, le-leb b a (ltb-false a b t))
-
--- both are at most p where the larger is
-and-leb : (a b p : ℕ) → (leb a p && leb b p) ≡ leb (max a b) p
-and-leb a b p = by-test (either (leb a p)) (either (leb b p))
-  where
-    by-test : (leb a p ≡ true) ⊎ (leb a p ≡ false) → (leb b p ≡ true) ⊎ (leb b p ≡ false) → (leb a p && leb b p) ≡ leb (max a b) p
-    by-test (inl t) (inl u) = rw (t, u, le-leb (max a b) p (omega (arith, leb-true a p t, leb-true b p u)))
-    by-test (inl t) (inr u) = rw (t, u, lt-leb (max a b) p (omega (arith, leb-false b p u)))
-    by-test (inr t) other = rw (t, lt-leb (max a b) p (omega (arith, leb-false a p t)))
 
 module _ (n : ℕ) (ks after : List ℕ) (i : ℕ) (placed : PlacedAfter n ks after i) (p : ℕ) (passed : p ≤ i) where
   -- a source is placed after p places where its number is at most p

@@ -8,7 +8,7 @@ use mathlib.Core.Path.{_≡_, refl, sym, ap, _∙_}
 use mathlib.Core.Bool.{Bool, true, false, _&&_, false≢true}
 use mathlib.Core.Logic.{_⊎_, inl, inr, ⊎-elim}
 use mathlib.Core.Option.{Option, some, none}
-use mathlib.Core.List.{List, [], _∷_, _++_, map}
+use mathlib.Core.List.{List, [], _∷_, map}
 use lib.ListN.{length, getD, take, drop, set, replicate}
 use lib.Seq.{drop-cons, getD-set-other, getD-take, length-take-le, split-at, take-suc, take-take}
 use lib.Dec.{leb, eqb}
@@ -20,7 +20,7 @@ use Rattle.machine.specs.Model.{blank-component}
 use Rattle.machine.specs.Table.{component-at, ready, lowest-ready, placed, part-order, ordered}
 use Rattle.laws.specs.Bools.{either, and-left, and-right, and-intro}
 use Rattle.laws.specs.Lists.{equal-same, getD-map-in, same-equal}
-use Rattle.laws.specs.Marks.{cleared, left, left-replicate, left-set, marked-before}
+use Rattle.laws.specs.Marks.{cleared, cleared-added, left, left-replicate, left-set, marked-before, none-left}
 use Rattle.ordering.specs.Order.{Found, Lowest, Placing, lowest-first, lowest-found}
 use Rattle.placing.specs.declared.Direct.{Direct}
 use Rattle.placing.specs.Direct.{both-placed, direct-of}
@@ -40,12 +40,6 @@ pub record InTurn (n : ℕ) (ds : List Direct) (ks : List ℕ) (i : ℕ) : Type 
   pub unplaced : getD (marks-at n ks i) (getD ks i 0) false ≡ true
   pub sources-placed : both-placed (marks-at n ks i) (getD ds (getD ks i 0) no-sources) ≡ true
   pub passed-by : (p : ℕ) → p < i → getD ks i 0 < getD ks p 0 → both-placed (marks-at n ks p) (getD ds (getD ks i 0) no-sources) ≡ false
-
--- one number more is cleared
-cleared-added : (marks : List Bool) (ks : List ℕ) (k : ℕ) → cleared marks (ks ++ (k ∷ [])) ≡ set (cleared marks ks) k false
-unfolding cleared
-cleared-added marks [] k = refl
-cleared-added marks (j ∷ ks) k = cleared-added (set marks j false) ks k
 
 -- the marks after one place more
 pub marks-next : (n : ℕ) (ks : List ℕ) (i : ℕ) → i < length ks → marks-at n ks (suc i) ≡ set (marks-at n ks i) (getD ks i 0) false
@@ -83,10 +77,6 @@ cleared-at n ks (suc d) p j h m e = by-mark (either (getD (marks-at n ks (suc p)
         (i : ℕ) × (p ≤ i) × (i < p + suc d) × (getD ks i 0 ≡ j)
     by-mark (inl t) later = let (i, le, lt, at) = later t (rw next at e) in (i, omega arith, omega arith, at)
     by-mark (inr t) later = (p, omega arith, omega arith, here (either (eqb j (getD ks p 0))) t)
-
--- where no mark is left none is set
-none-left : (marks : List Bool) (j : ℕ) → left marks ≡ 0 → getD marks j false ≡ true → ⊥
-none-left marks j e m = omega (arith, left-set marks j m)
 
 -- the search finds the lowest part that may go
 found-lowest : (cs : List Component) (marks : List Bool) (k : ℕ) → Lowest cs marks k → (o : Option ℕ) → Found cs marks 0 o → o ≡ some k

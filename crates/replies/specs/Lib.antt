@@ -1,3 +1,2 @@
 -- What the contracts and proofs of this crate cite beside `machine`'s definitions.
 pub mod Asked
-pub mod Laws

@@ -125,7 +125,7 @@ pub record StateFits (t : ℕ) (p : Part) : Type 0 where
   pub output : is-signal (p .state .output) ≡ true
 
 -- a state that passes the test
-pub state-facts : (t : ℕ) (p : Part) → state-fits t p ≡ true → StateFits t p
+state-facts : (t : ℕ) (p : Part) → state-fits t p ≡ true → StateFits t p
 unfolding state-fits
 state-facts t p h =
     let k = simp and-eq-true-iff at h in
@@ -138,7 +138,7 @@ state-facts t p h =
     }
 
 -- a state of which that holds passes the test
-pub state-test : (t : ℕ) (p : Part) → StateFits t p → state-fits t p ≡ true
+state-test : (t : ℕ) (p : Part) → StateFits t p → state-fits t p ≡ true
 unfolding state-fits
 state-test t p f =
     simp and-eq-true-iff

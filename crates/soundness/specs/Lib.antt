@@ -1,5 +1,8 @@
--- Soundness tied to loading, and kept by steps. The results are in Fresh, Stepped, Accepted, Fuel and Bytes; the other files carry them.
+-- Soundness tied to loading, and kept by steps. The results are in Magnitude, SoundParts, Fresh, Stepped, Accepted, Fuel and Bytes; the other files
+-- carry them.
 pub mod Facts
+pub mod Magnitude
+pub mod SoundParts
 pub mod Ranges
 pub mod Kept
 pub mod Fresh

@@ -29,7 +29,7 @@ use Rattle.laws.specs.Alls.{all-default, all-set, all-map}
 use Rattle.laws.specs.Bools.{cond-cases}
 
 -- clamping gives a value
-pub clamp-value : (z : ℤ) → is-value (clamp z) ≡ true
+clamp-value : (z : ℤ) → is-value (clamp z) ≡ true
 unfolding clamp is-value
 clamp-value (pos n) = le-leb (min n 1_000_000_000) largest-value (omega arith)
 clamp-value (negsuc n) = le-leb (suc (min n 999_999_999)) largest-value (omega arith)

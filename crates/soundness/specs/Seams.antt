@@ -38,7 +38,7 @@ module _ (bs : List ℕ) where
   byte-there at n l e = sym (getD-drop at bs n 0) ∙ ap (λ (k : List ℕ). getD k n 0) e
 
   -- the byte at the position itself
-  pub byte-here : (at : ℕ) (l : List ℕ) → drop at bs ≡ l → byte-at bs at ≡ getD l 0 0
+  byte-here : (at : ℕ) (l : List ℕ) → drop at bs ≡ l → byte-at bs at ≡ getD l 0 0
   byte-here at l e = rw add-zero at (byte-there at 0 l e)
 
   -- a word that was written is read

@@ -33,7 +33,7 @@ led-tick p h =
     (λ e. rw (eqb-true h 0 e) (omega arith)) (λ e. refl)
 
 -- it leads to a point of the time where the tick is not past the last, and for a step of 0 the microstep is below the last
-pub led-in-time : (p : Point) (h : ℕ) → tick p + h ≤ last-tick → (h ≡ 0 → p .n < last-microstep) → in-time (led-to p h) ≡ true
+led-in-time : (p : Point) (h : ℕ) → tick p + h ≤ last-tick → (h ≡ 0 → p .n < last-microstep) → in-time (led-to p h) ≡ true
 unfolding led-to in-time
 led-in-time p h far more =
     cond-cases (λ (q : Point). in-time q ≡ true) (eqb h 0) (point (tick p) (p .n + 1)) (point (tick p + h) 0)
@@ -71,7 +71,7 @@ moved-counted t h ps f =
     f
 
 -- a step keeps whatever of the cores moving keeps
-step-kept :
+pub step-kept :
     {B : Type 0} (f : Core → B) (m : Model) (h : ℕ) →
     ((p : Part) → f (core (moved (tick (m .point)) h (reading0 (m .parts) p) p)) ≡ f (core p)) →
     map (λ (p : Part). f (core p)) (step-made m h .parts) ≡ map (λ (p : Part). f (core p)) (m .parts)
@@ -81,7 +81,7 @@ step-kept f m h keeps =
     map-kept (λ (p : Part). f (core p)) (λ (p : Part). moved (tick (m .point)) h (reading0 (m .parts) p) p) (m .parts) keeps
 
 -- so it keeps the table
-pub step-table : (m : Model) (h : ℕ) → table-of (step-made m h) ≡ table-of m
+step-table : (m : Model) (h : ℕ) → table-of (step-made m h) ≡ table-of m
 unfolding table-of step-made moved
 step-table m h =
     ap (λ (cs : List Component). record { magnitude = m .magnitude; parts = cs }) (step-kept (λ (c : Core). c .component) m h (λ p. refl))

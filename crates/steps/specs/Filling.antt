@@ -15,7 +15,7 @@ use Rattle.machine.specs.Lists.{All}
 use Rattle.machine.specs.Kind.{output-as, output}
 use Rattle.machine.specs.Model.{blank-part, part-at, reading0, reading1, trimmed-part, trimmed-component}
 use Rattle.machine.specs.Step.{with-output, shown, filled}
-use Rattle.steps.specs.Partway.{same-at}
+use Rattle.laws.specs.Alls.{same-at}
 use Rattle.steps.specs.Reading.{WiredBelow, part-trimmed, reading-trimmed}
 
 -- an element changed in a mapped list

@@ -10,7 +10,8 @@ use Rattle.machine.specs.declared.part.Source.{Source}
 use Rattle.machine.specs.declared.part.Source.the-variants.{Unwired, From}
 use Rattle.machine.specs.declared.part.Part.{Part}
 use Rattle.machine.specs.Model.{blank-part, part-at, reading, reading0}
-use Rattle.steps.specs.Partway.{partway, partway-next, partway-later, partway-kept, same-at}
+use Rattle.laws.specs.Alls.{same-at}
+use Rattle.laws.specs.Partway.{partway, partway-next, partway-later, partway-kept}
 use Rattle.steps.specs.Reading.{source-index, heard, heard0}
 
 -- where the stored outputs are the same, so is every reading

@@ -1,5 +1,4 @@
 -- What the contracts and proofs of this crate cite beside `machine`'s definitions.
-pub mod Partway
 pub mod Reading
 pub mod Trimmed
 pub mod Fillable

@@ -17,11 +17,10 @@ use Rattle.machine.specs.Signal.{is-signal}
 use Rattle.machine.specs.Kind.{period, output}
 use Rattle.machine.specs.Model.{blank-part, part-at, with-parts, reading, reading0, reading1, trimmed, trimmed-part, trimmed-component}
 use Rattle.machine.specs.Step.{with-output, shown, filled}
-use Rattle.laws.specs.Alls.{length-same-map}
+use Rattle.laws.specs.Alls.{length-same-map, same-at}
 use Rattle.laws.specs.Lists.{all-at}
 use Rattle.soundness.specs.Ranges.{InRange, filled-in-range}
 use Rattle.point.specs.Ranges as point
-use Rattle.steps.specs.Partway.{same-at}
 use Rattle.steps.specs.Reading.{SourceBelow, WiredBelow, source-index, index-below, heard, heard0, heard1, part-trimmed, reading-trimmed}
 use Rattle.steps.specs.Trimmed.{Changed, same-unused}
 use Rattle.steps.specs.Fillable.{Fillable, places-in-use, wired-few, wired-places, wired-at, reading-in-range}

@@ -1,8 +1,8 @@
 -- What soundness says of the parts of a model: where their ports are wired to, and that no P is above 10^18. Assumes nothing.
 use Prim.Native.Nat.{ℕ, _*_, _≤_, _<_}
-use mathlib.Core.Path.{_≡_, sym, ap, _∙_}
+use mathlib.Core.Path.{_≡_, sym, _∙_}
 use mathlib.Core.Bool.{true}
-use lib.ListN.{length, getD, length-map, List·getD-map}
+use lib.ListN.{length, length-map}
 use lib.Dec.{leb, ltb}
 use borrow.Author.Tests.{leb-true, ltb-true}
 use Rattle.machine.specs.declared.part.Source.{Source}
@@ -14,11 +14,12 @@ use Rattle.machine.specs.Lists.{All}
 use Rattle.machine.specs.Time.{last-tick}
 use Rattle.machine.specs.Kind.{ports, period}
 use Rattle.machine.specs.Model.{blank-component, blank-part, part-at}
-use Rattle.machine.specs.Table.{table-of, component-ratio, ratios, periods-fit}
+use Rattle.machine.specs.Table.{table-of, component-ratio, periods-fit}
 use Rattle.machine.specs.Sound.{sound, source-fits}
 use Rattle.laws.specs.Bools.{and-right}
-use Rattle.laws.specs.Lists.{all-at, all-intro, every-at, getD-map-in}
+use Rattle.laws.specs.Lists.{all-intro, every-at}
 use Rattle.soundness.specs.Facts.{ComponentFits, TableFits, table-facts, Soundness, sound-facts}
+use Rattle.soundness.specs.SoundParts.{table-component, sound-component, sound-ratio-given}
 use Rattle.steps.specs.Reading.{SourceBelow, WiredBelow}
 use Rattle.steps.specs.Fillable.{Wired}
 
@@ -48,11 +49,6 @@ module _ (m : Model) (is-sound : sound m ≡ true) where
   unfolding table-of
   sound-many = length-map (m .parts) (λ (p : Part). p .component) ∙ sym (facts .counted)
 
-  -- the component i of the table is that of the part i
-  component-of : (i : ℕ) → getD (table-of m .parts) i blank-component ≡ part-at (m .parts) i .component
-  unfolding table-of
-  component-of i = List·getD-map (λ (p : Part). p .component) (m .parts) i blank-part
-
   -- a sound model is wired within its parts
   pub sound-wired : Wired m
   sound-wired =
@@ -62,21 +58,11 @@ module _ (m : Model) (is-sound : sound m ≡ true) where
         sources =
             all-intro (λ (p : Part). WiredBelow (m .count) (p .component)) (m .parts) blank-part
             (λ i h.
-            let within : i < length (table-of m .parts) = rw (sound-many, facts .counted) h in
-            let fits = all-at (ComponentFits (length (table-of m .parts))) (table-of m .parts) blank-component i (table .components) within in
-            rw (sound-many, component-of i) at
-            (component-wired (length (table-of m .parts)) (getD (table-of m .parts) i blank-component) fits));
+            rw sound-many at
+            (component-wired (length (table-of m .parts)) (part-at (m .parts) i .component) (sound-component m is-sound i h)));
       }
 
-  -- each ratio is the one that the table gives
-  ratio-given : (i : ℕ) → i < length (m .parts) → part-at (m .parts) i .ratio ≡ component-ratio (table-of m) (part-at (m .parts) i .component)
-  unfolding ratios table-of
-  ratio-given i within =
-      sym (getD-map-in (λ (p : Part). p .ratio) (m .parts) i blank-part 0 within) ∙ ap (λ l. getD l i 0) (facts .ratios) ∙
-      getD-map-in (component-ratio (table-of m)) (table-of m .parts) i blank-component 0 (simp length-map within) ∙
-      ap (component-ratio (table-of m)) (component-of i)
-
-  -- so no P is above 10^18
+  -- no P is above 10^18
   pub sound-periods : All (λ (p : Part). period p ≤ last-tick) (m .parts)
   unfolding periods-fit
   sound-periods =
@@ -85,6 +71,6 @@ module _ (m : Model) (is-sound : sound m ≡ true) where
       let within : i < length (table-of m .parts) = rw (sound-many, facts .counted) h in
       let fits =
       every-at (λ (c : Component). leb (c .p * component-ratio (table-of m) c) last-tick) (table-of m .parts) blank-component i (table .periods) within in
-      rw (ratio-given i h)
+      rw (sound-ratio-given m is-sound i h)
       (leb-true (part-at (m .parts) i .component .p * component-ratio (table-of m) (part-at (m .parts) i .component)) last-tick
-      (rw (component-of i) at fits)))
+      (rw (table-component m i) at fits)))

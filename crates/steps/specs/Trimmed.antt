@@ -12,7 +12,8 @@ use Rattle.machine.specs.declared.part.Part.{Part}
 use Rattle.machine.specs.declared.model.Model.{Model}
 use Rattle.machine.specs.Model.{blank-part, part-at, with-parts, reading0, trimmed-component, trimmed-part, trimmed, spare-spans, SameUnused}
 use Rattle.laws.specs.Lists.{map-cong}
-use Rattle.steps.specs.Partway.{partway, partway-front, partway-back, partway-kept, same-at}
+use Rattle.laws.specs.Alls.{same-at}
+use Rattle.laws.specs.Partway.{partway, partway-front, partway-back, partway-kept}
 use Rattle.steps.specs.Reading.{WiredBelow, reading-trimmed}
 
 -- the model r is m with the parts ps, in the places in use; the others are as in m

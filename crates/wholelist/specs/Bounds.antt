@@ -1,5 +1,5 @@
--- Bounds of what advancing answers to a sound model, for printing: every number of a line fits its place. Of the outcome, by what bars the call or
--- by what the search finds; of the model, by its being sound again, since a committed step stays within the time. Assumes nothing.
+-- What advancing answers to a sound model stays in document 01's ranges: the number, step and counts, by what bars the call or by what the search
+-- finds; the model's point and outputs, by its being sound again, since a committed step stays within the time. Assumes nothing.
 use Prim.Native.Nat.{ℕ, _+_, _≤_, _<_}
 use native.Mathlib.Omega.{arith}
 use native.Mathlib.Decide.{ℕ-discrete}
@@ -21,8 +21,8 @@ use Rattle.machine.specs.Advance.{Outcome, longest-wanted, barred, outcome, ans
 use Rattle.machine.specs.Calls.{Advanced}
 use Rattle.machine.specs.WholeList.{most-rounds, most-revisions}
 use Rattle.laws.specs.Bools.{cond-cases}
+use Rattle.soundness.specs.SoundParts.{sound-time, sound-output}
 use Rattle.soundness.specs.Stepped.{step-sound}
-use Rattle.acceptance.specs.SoundParts.{sound-time, sound-output}
 use Rattle.stepsearch.specs.Turns.{turn-told}
 use Rattle.stepsearch.specs.Outcomes.{not-barred, outcome-barred, outcome-found}
 use Rattle.wholelist.specs.Owed.{round-owes, every-outcome}

@@ -20,7 +20,7 @@ use Rattle.machine.specs.Advance.{outcome, answer-with, advance}
 use Rattle.machine.specs.Calls.{Advanced, Call, Chain, last-model, committed, points-led-to, visited}
 use Rattle.machine.specs.WholeList.{OfCall, WholeList}
 use Rattle.laws.specs.Bools.{either}
-use Rattle.acceptance.specs.SoundParts.{sound-local}
+use Rattle.soundness.specs.SoundParts.{sound-local}
 use Rattle.wholelist.specs.Points.{points-after}
 use Rattle.wholelist.specs.Steps.{AllAccepted, steps-tick, steps-reached, steps-passed}
 use Rattle.wholelist.specs.Owed.{of-call}

@@ -8,7 +8,7 @@ use lib.ListN.{length, take, drop}
 use lib.Seq.{take-all}
 use Rattle.machine.specs.Model.{blank-component}
 use Rattle.placing.specs.Direct.{direct-of}
-use Rattle.placing.proofs.Lists.{mapped-more}
+use Rattle.laws.specs.Partway.{mapped-more}
 use Rattle.placing.proofs.all_direct.Statement.{statement}
 use Rattle.placing.proofs.all_direct.Tie as tie
 

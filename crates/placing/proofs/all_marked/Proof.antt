@@ -3,7 +3,7 @@ use Prim.Native.Nat.{_^_, _≤_, _<_}
 use native.Mathlib.Omega.{arith}
 use lib.Pow.{pow-pos, pow-mono}
 use borrow.Author.Needs.{needs}
-use Rattle.placing.specs.Marks.{one-mark}
+use Rattle.laws.specs.WordMarks.{one-mark}
 use Rattle.placing.proofs.all_marked.Statement.{statement}
 use Rattle.placing.proofs.all_marked.Tie as tie
 

@@ -8,7 +8,7 @@ use lib.ListN.{length}
 use lib.Count.{trailingZeros}
 use Rattle.machine.specs.declared.part.Source.the-variants.{Unwired}
 use Rattle.placing.specs.declared.Direct.{Direct}
-use Rattle.placing.specs.Marks.{Cleared, FirstMark, cleared, first-mark, marks-of, no-marks, one-mark}
+use Rattle.laws.specs.WordMarks.{Cleared, FirstMark, cleared, first-mark, marks-of, no-marks, one-mark}
 use Rattle.placing.specs.Direct.{lowest-among}
 use Rattle.placing.proofs.Candidates.{found, none-left, passed}
 use Rattle.placing.proofs.lowest.Statement.{statement}

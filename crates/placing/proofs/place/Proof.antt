@@ -11,9 +11,9 @@ use lib.Count.{ones, ones-le}
 use borrow.Author.Needs.{needs}
 use Rattle.placing.specs.declared.Direct.{Direct}
 use Rattle.placing.specs.declared.Found.the-variants.{At}
-use Rattle.placing.specs.Marks.{Cleared, cleared, marks-of, one-mark}
+use Rattle.laws.specs.WordMarks.{Cleared, cleared, marks-of, one-mark}
 use Rattle.placing.specs.Direct.{direct-of, found-as, lowest-among}
-use Rattle.placing.proofs.Lists.{take-map}
+use Rattle.laws.specs.Lists.{take-map}
 use Rattle.placing.proofs.Candidates.{found-at, found-marked, found-nothing, lowest-word}
 use Rattle.placing.proofs.Partway.{Partway, ended, started, turned}
 use Rattle.placing.proofs.place.Statement.{statement}

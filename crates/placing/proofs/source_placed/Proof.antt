@@ -5,7 +5,7 @@ use mathlib.Core.Bool.{not}
 use lib.Dec.{eqb, eqb·suc-zero}
 use borrow.Author.Needs.{needs}
 use Rattle.machine.specs.Table.{source-placed}
-use Rattle.placing.specs.Marks.{digit-mark, none-behind, mark-at}
+use Rattle.laws.specs.WordMarks.{digit-mark, none-behind, mark-at}
 use Rattle.placing.proofs.source_placed.Statement.{statement}
 use Rattle.placing.proofs.source_placed.Tie as tie
 

@@ -12,8 +12,8 @@ use Rattle.machine.specs.Time.{master-magnitude}
 use Rattle.machine.specs.Table.{magnitude-of, table-of}
 use Rattle.placing.specs.declared.Direct.{Direct}
 use Rattle.placing.specs.Direct.{direct-of}
-use Rattle.placing.proofs.Lists.{mapped-more}
-use Rattle.inspection.specs.Fronts.{magnitude-end}
+use Rattle.laws.specs.Partway.{mapped-more}
+use Rattle.soundness.specs.Magnitude.{magnitude-end}
 use Rattle.inspection.specs.Trimmed.{preferences, preferences-count, preferences-on}
 use Rattle.inspection.proofs.survey.surveyed.Statement.{statement}
 use Rattle.inspection.proofs.survey.surveyed.Tie as tie

@@ -7,7 +7,7 @@ use mathlib.Core.List.{List, map, _++_}
 use lib.ListN.{length, set, take, drop}
 use Rattle.machine.specs.declared.part.Part.{Part}
 use Rattle.machine.specs.Model.{blank-component, trimmed-part}
-use Rattle.placing.proofs.Lists.{mapped-more}
+use Rattle.laws.specs.Partway.{mapped-more}
 use Rattle.loading.specs.Places.{first-by, first-stored}
 use borrow.Author.Needs.{needs}
 use Rattle.loading.proofs.first.first_parts.Statement.{statement}

@@ -13,7 +13,7 @@ use Rattle.machine.specs.Lists.{any, member}
 use Rattle.machine.specs.Accept.{allowed}
 use Rattle.laws.specs.Bools.{or-right}
 use Rattle.laws.specs.Lists.{any-intro}
-use Rattle.replies.specs.Laws.{any-further}
+use Rattle.laws.specs.Loops.{any-further}
 use Rattle.replies.proofs.span.allowed.Statement.{statement}
 use Rattle.replies.proofs.span.allowed.Tie as tie
 

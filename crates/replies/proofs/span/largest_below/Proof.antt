@@ -9,7 +9,7 @@ use lib.Dec.{ltb}
 use lib.ListN.{length, getD, take}
 use borrow.Author.Needs.{needs}
 use Rattle.machine.specs.Accept.{largest-below}
-use Rattle.replies.specs.Laws.{foldl-further}
+use Rattle.laws.specs.Loops.{foldl-further}
 use Rattle.replies.proofs.span.largest_below.Statement.{statement}
 use Rattle.replies.proofs.span.largest_below.Tie as tie
 

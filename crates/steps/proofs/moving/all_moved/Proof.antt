@@ -11,7 +11,7 @@ use Rattle.machine.specs.Time.{tick}
 use Rattle.machine.specs.Model.{part-at, with-parts, reading0, trimmed}
 use Rattle.machine.specs.Sound.{sound}
 use Rattle.machine.specs.Step.{moved, all-moved}
-use Rattle.steps.specs.Partway.{partway}
+use Rattle.laws.specs.Partway.{partway}
 use Rattle.steps.specs.Reading.{source-index}
 use Rattle.steps.specs.Trimmed.{all-changed, replaced}
 use Rattle.steps.specs.Fillable.{place-fits, wired-few, wired-places, wired-at, source-place}

@@ -10,7 +10,7 @@ use Rattle.machine.specs.declared.part.Part.{Part}
 use Rattle.machine.specs.declared.model.Model.{Model}
 use Rattle.machine.specs.Model.{blank-part, with-parts, reading0, part-at, trimmed}
 use Rattle.machine.specs.Step.{settled, all-settled}
-use Rattle.steps.specs.Partway.{partway, partway-same}
+use Rattle.laws.specs.Partway.{partway, partway-same}
 use Rattle.steps.specs.Reading.{source-index}
 use Rattle.steps.specs.Trimmed.{all-changed, replaced}
 use Rattle.steps.specs.Fillable.{place-fits, Wired, wired-few, wired-places, wired-at, source-place}

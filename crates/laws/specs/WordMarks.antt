@@ -1,5 +1,5 @@
--- The marks of a word: its binary digits as a list of Bools, lowest first, and what happens to them as parts are placed. Every law is over the width, the
--- number of digits, by induction on it with a split on the lowest digit. Assumes nothing.
+-- The marks of a word: its binary digits as a list of Bools, lowest first; how trailing zeros find the first one, and what clearing one by subtraction
+-- comes to. Every law is over the width, the number of digits, by induction on it with a split on the lowest digit. Assumes nothing.
 use Prim.Native.Nat.{ℕ, zero, suc, _-_, _*_, _/_, _%_, _^_, _≤_, _<_}
 use native.Mathlib.Omega.{arith}
 use native.Mathlib.Nat.{pow-suc, mul-comm, one-mul, div-one, div-div-eq-div-mul}

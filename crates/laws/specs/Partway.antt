@@ -1,11 +1,24 @@
--- A list whose first elements are changed and whose others are not yet, which is what a loop over an array holds partway; and what two lists
--- share of which a part of each element is the same. Assumes nothing.
+-- A list whose first elements are changed and whose others are not yet, which is what a loop over an array holds partway. Assumes nothing.
 use Prim.Native.Nat.{ℕ, zero, suc, _+_, _≤_, _<_}
 use native.Mathlib.Omega.{arith}
 use native.Mathlib.Numerals.{add-one}
-use mathlib.Core.Path.{_≡_, refl, ap, ap₂, sym, _∙_}
+use mathlib.Core.Path.{_≡_, refl, ap, ap₂, sym}
 use mathlib.Core.List.{List, [], _∷_, _++_, map}
-use lib.ListN.{length, getD, set, take, drop, List·getD-map}
+use lib.ListN.{length, getD, set, take, drop}
+
+module _ {ℓ ℓ′} {A : Type ℓ} {B : Type ℓ′} (f : A → B) where
+  -- a list r in which the first i elements of l are stored, changed by f: the next one stored
+  mapped-suc : (l : List A) (r : List B) (i : ℕ) (d : A) → i < length l → length l ≡ length r →
+      set (map f (take i l) ++ drop i r) i (f (getD l i d)) ≡ map f (take (suc i) l) ++ drop (suc i) r
+  mapped-suc [] r i d h e = absurd (omega arith)
+  mapped-suc (x ∷ xs) [] i d h e = absurd (omega arith)
+  mapped-suc (x ∷ xs) (y ∷ ys) zero d h e = refl
+  mapped-suc (x ∷ xs) (y ∷ ys) (suc i) d h e = ap (λ l. f x ∷ l) (mapped-suc xs ys i d (omega arith) (omega arith))
+
+  -- the same, as a loop counts
+  pub mapped-more : (l : List A) (r : List B) (i : ℕ) (d : A) → i < length l → length l ≡ length r →
+      set (map f (take i l) ++ drop i r) i (f (getD l i d)) ≡ map f (take (i + 1) l) ++ drop (i + 1) r
+  mapped-more l r i d h e = rw add-one (mapped-suc l r i d h e)
 
 module _ {ℓ} {A : Type ℓ} (f : A → A) where
   -- the first i elements changed by f
@@ -13,14 +26,8 @@ module _ {ℓ} {A : Type ℓ} (f : A → A) where
   partway i l = map f (take i l) ++ drop i l
 
   -- the next element changed
-  partway-suc : (i : ℕ) (l : List A) (d : A) → i < length l → set (partway i l) i (f (getD l i d)) ≡ partway (suc i) l
-  partway-suc i [] d h = absurd (omega arith)
-  partway-suc zero (x ∷ xs) d h = refl
-  partway-suc (suc i) (x ∷ xs) d h = ap (λ l. f x ∷ l) (partway-suc i xs d (omega arith))
-
-  -- the same, as a loop counts
   pub partway-next : (i : ℕ) (l : List A) (d : A) → i < length l → set (partway i l) i (f (getD l i d)) ≡ partway (i + 1) l
-  partway-next i l d h = rw add-one (partway-suc i l d h)
+  partway-next i l d h = mapped-more f l l i d h refl
 
   -- the next element passed over, since f keeps it
   partway-same-suc : (i : ℕ) (l : List A) (d : A) → f (getD l i d) ≡ getD l i d → i < length l → partway i l ≡ partway (suc i) l
@@ -55,7 +62,3 @@ module _ {ℓ} {A : Type ℓ} (f : A → A) where
   partway-kept g zero l keeps = refl
   partway-kept g (suc i) [] keeps = refl
   partway-kept g (suc i) (x ∷ xs) keeps = ap₂ _∷_ (keeps x) (partway-kept g i xs keeps)
-
--- what is the same of all elements of two lists is the same at each index
-pub same-at {ℓ κ} : {A : Type ℓ} {B : Type κ} (g : A → B) (k l : List A) (i : ℕ) (d : A) → map g k ≡ map g l → g (getD k i d) ≡ g (getD l i d)
-same-at g k l i d e = sym (List·getD-map g k i d) ∙ ap (λ x. getD x i (g d)) e ∙ List·getD-map g l i d
