@@ -4,7 +4,7 @@ use mathlib.Core.Path.{_≡_, refl}
 use mathlib.Core.List.{[], _∷_}
 use native.Mathlib.Omega.{arith}
 use Rattle.machine.specs.declared.model.Model.{Model}
-use Rattle.machine.specs.Model.{SameUnused, spare-spans}
+use Rattle.machine.specs.Model.{spare-spans}
 use Rattle.machine.specs.Advance.{advance}
 use Rattle.machine.specs.Calls.{Advanced, Chain, machine-calls}
 use Rattle.machine.specs.Played.{crossing}

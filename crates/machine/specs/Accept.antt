@@ -2,7 +2,7 @@
 -- as a function. All take one part, the point, and the reading x of the part's port 0. Assumes nothing.
 use Prim.Native.Nat.{ℕ, _+_, _-_, _*_, _/_, _%_, _≤_, min, max}
 use mathlib.Core.Path.{_≡_}
-use mathlib.Core.Bool.{Bool, true, false, cond, _||_}
+use mathlib.Core.Bool.{Bool, false, cond, _||_}
 use mathlib.Core.List.{List, foldl, List·Memᴰ}
 use mathlib.Core.Logic.{_⊎_}
 use lib.Dec.{eqb, ltb}

@@ -1,7 +1,7 @@
 -- Document 01, "One advance": rounds, ceilings, trials, objections, refusals and counts. A ceiling bounds the step; a round asks every part once;
 -- a revision is a trial dropped. Assumes nothing.
-use Prim.Native.Nat.{ℕ, zero, suc, _+_, _*_, _/_, min}
-use mathlib.Core.Bool.{Bool, true, false, cond, not, _&&_}
+use Prim.Native.Nat.{ℕ, zero, suc, _+_, _/_, min}
+use mathlib.Core.Bool.{Bool, false, cond, not, _&&_}
 use mathlib.Core.List.{List, [], _∷_}
 use lib.Dec.{eqb, leb, ltb}
 use Rattle.machine.specs.declared.part.Part.{Part}
@@ -38,6 +38,7 @@ objects-as detecting h p = marked (p .state .mark) && ltb (period p) h
 objects-as driving h p = false
 objects-as free h p = false
 
+-- the same by the part's kind, and of some part of the trial
 unfoldable pub objects : ℕ → Part → Bool
 objects h p = objects-as (class-of p) h p
 
@@ -79,24 +80,28 @@ search-from turn (suc f) c h n v = followed (turn h) (search-from turn f) c h n 
 unfoldable pub searched : Model → ℕ → Outcome
 searched m w = search-from (turn m) (suc w) w w 0 0
 
--- what bars a call before any round: the model not sound 24, "w is 0 or above 10^9" 20, "t + w above 10^18" 23; 0 where nothing does
+-- the longest step that can be wanted
 abbrev pub longest-wanted : ℕ
 longest-wanted = 1_000_000_000
 
+-- "Advancing tests 24, 20, 23, then runs": what bars a call before any round, the model not sound 24, "w is 0 or above 10^9" 20, "t + w above 10^18" 23;
+-- 0 where nothing does
 unfoldable pub barred : Model → ℕ → ℕ
 barred m w =
     cond (sound m)
     (cond (leb 1 w && leb w longest-wanted) (cond (leb (tick (m .point) + w) last-tick) 0 23) 20)
     24
 
--- a call that is barred has counts 0
+-- a call that is barred has "counts 0"
 abbrev pub barred-outcome : ℕ → Outcome
 barred-outcome number = record { number = number; step = 0; rounds = 0; revisions = 0; ceiling = 0 }
 
+-- how a call ends: barred, or as its search ends
 unfoldable pub outcome : Model → ℕ → Outcome
 outcome m w = cond (eqb (barred m w) 0) (searched m w) (barred-outcome (barred m w))
 
--- the answer: the model with the step made where it is committed, else the model handed in
+-- "The answer holds the model, number (0 if committed), step, rounds, revisions and last ceiling": the model with the step made where it is committed,
+-- else the model handed in
 unfoldable pub answer-with : Model → Outcome → Answer
 answer-with m o =
     record {

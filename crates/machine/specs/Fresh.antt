@@ -1,6 +1,5 @@
 -- Document 01, "Kinds of part": the fresh model of a table, at the start point. "The same rules fill the start point."
 -- Assumes nothing.
-use Prim.Native.Nat.{ℕ}
 use mathlib.Core.Bool.{cond}
 use mathlib.Core.List.{List, [], map}
 use lib.ListN.{length}

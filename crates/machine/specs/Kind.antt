@@ -19,7 +19,7 @@ use Rattle.machine.specs.declared.part.Part.{Part}
 use Rattle.machine.specs.Time.{tick}
 use Rattle.machine.specs.Signal.{is-value, product, total, first-present, sampled}
 
--- the number of each kind
+-- the number of each kind, in the first column of the table of kinds
 abbrev pub kind-number : Kind → ℕ
 kind-number Constant = 0
 kind-number Gain = 1
@@ -34,14 +34,16 @@ kind-number Hold = 9
 kind-number Sampler = 10
 kind-number Drive = 11
 
--- the kinds by their numbers
+-- the kinds in the order of their numbers
 abbrev pub kinds : List Kind
 kinds =
     Constant ∷ Gain ∷ Adder ∷ Square ∷ Pulse ∷ Delay ∷ Integrator ∷ ResetIntegrator ∷ Detector ∷ Hold ∷ Sampler ∷ Drive ∷ []
 
+-- there is a kind with this number; another is "unknown"
 unfoldable pub kind-known : ℕ → Bool
 kind-known k = ltb k 12
 
+-- the kind with this number
 unfoldable pub kind-of : ℕ → Kind
 kind-of k = getD kinds k Constant
 
@@ -89,7 +91,7 @@ direct1 Hold = false
 direct1 Sampler = true
 direct1 Drive = false
 
--- the operands that a kind names; a drive is "as 6", and names a as an integrator does
+-- which of the operands a, b and p a kind's line names; a drive is "as 6", and names a as an integrator does
 abbrev pub names-a : Kind → Bool
 names-a Constant = true
 names-a Gain = true
@@ -141,7 +143,7 @@ abbrev pub is-zero : ℤ → Bool
 is-zero (pos n) = eqb n 0
 is-zero (negsuc n) = false
 
--- "An operand that a kind doesn't name must be 0 ..; a and b are values"
+-- "An operand that a kind doesn't name must be 0; p, where named, is 1 to 10^9; a and b are values"
 unfoldable pub operands-fit : Kind → ℤ → ℤ → ℕ → Bool
 operands-fit k a b p =
     cond (names-a k) (is-value a) (is-zero a) && cond (names-b k) (is-value b) (is-zero b) && cond (names-p k) (is-positive p) (eqb p 0)
@@ -182,7 +184,7 @@ marked Clear = false
 marked Rising = true
 marked Falling = true
 
--- the output of each kind, for a part p at the point now: x and y are the readings of ports 0 and 1 at that point, `before` that of port 0 at
+-- the column "Output" of the table of kinds, for a part p at the point now: x and y are the readings of ports 0 and 1 at that point, `before` that of port 0 at
 -- the point before; the part's record holds the held number and signal, and the mark set at the point before
 unfoldable pub output-as : Kind → Part → Point → (x y before : Signal) → Signal
 output-as Constant p now x y before = Value (p .component .a)

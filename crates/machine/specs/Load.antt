@@ -18,7 +18,7 @@ use Rattle.machine.specs.Model.{most-parts, most-spans, no-model}
 use Rattle.machine.specs.Table.{Table, component-at, periods-fit, ordered}
 use Rattle.machine.specs.Fresh.{fresh}
 
--- the command bytes
+-- "Commands of one byte": Begin, Part, Span, Wire and End; in the score, a wanted step
 abbrev pub begin-byte : ℕ
 begin-byte = 0x01
 
@@ -41,7 +41,7 @@ want-byte = 0x06
 unfoldable pub known-command : ℕ → Bool
 known-command b = leb begin-byte b && leb b want-byte
 
--- the fixed width of each command, its byte included
+-- "then operands of fixed width": the width of each command, its byte included
 unfoldable pub command-width : ℕ → ℕ
 command-width b =
     cond (eqb b begin-byte) 2
@@ -92,14 +92,14 @@ refused number at = record { number = number; position = at; model = no-model }
 abbrev pub unless-refused : ℕ → ℕ → ℕ → Reading → Read
 unless-refused number at next rd = cond (eqb number 0) (onward next rd) (ended (refused number at))
 
--- Begin: the default magnitude
+-- 01h Begin: "e, 1 byte", which is a magnitude, else 5; and what is read then, a table of no parts yet
 unfoldable pub begin-refusal : ℕ → ℕ
 begin-refusal e = cond (magnitude-known e) 0 5
 
 unfoldable pub begun-with : ℕ → Reading
 begun-with e = record { begun = true; spannable = false; table = record { magnitude = e; parts = [] } }
 
--- Part: its five operands, as a component that no span or wire has reached yet
+-- 02h Part: "kind 1, preference 1, a 4, b 4, p 4", as a component that no span or wire has reached yet
 unfoldable pub part-read : List ℕ → ℕ → Component
 part-read bs at =
     record {
@@ -114,6 +114,7 @@ part-read bs at =
       port1 = Unwired;
     }
 
+-- "A part may prefer one, 0 to 15; FFh means none"
 unfoldable pub preference-known : ℕ → Bool
 preference-known q = magnitude-known q || eqb q no-preference
 
@@ -123,10 +124,11 @@ part-refusal cs kind c =
     cond (leb most-parts (length cs)) 6
     (cond (kind-known kind && preference-known (c .preference) && operands-fit (c .kind) (c .a) (c .b) (c .p)) 0 5)
 
--- a drive may be followed by spans
+-- kind 11, which spans may follow
 unfoldable pub is-drive : Kind → Bool
 is-drive k = eqb (kind-number k) 11
 
+-- "Parts number from 0": the part is put behind those read before it
 unfoldable pub with-part : Reading → Component → Reading
 with-part rd c =
     record {
@@ -135,7 +137,7 @@ with-part rd c =
       table = record { magnitude = rd .table .magnitude; parts = rd .table .parts ++ (c ∷ []) };
     }
 
--- Span: the last part's number, its last span (0 if there is none), and the part with one span more
+-- 03h Span "follows a drive or that drive's earlier span": the last part's number, its last span (0 if there is none), and the part with one span more
 unfoldable pub last-part : List Component → ℕ
 last-part cs = length cs - 1
 
@@ -170,7 +172,7 @@ with-component rd spannable k c =
       table = record { magnitude = rd .table .magnitude; parts = set (rd .table .parts) k c };
     }
 
--- Wire: the source of a component's port, and the component with that port wired
+-- 04h Wire, "source part, receiving part, receiving port": the source of a component's port, whether it is wired, and the component with that port wired
 unfoldable pub source-of : Component → ℕ → Source
 source-of c port = cond (eqb port 0) (c .port0) (c .port1)
 
@@ -199,11 +201,11 @@ wire-refusal cs source receiver port =
     (cond (wired (source-of (component-at cs receiver) port)) 8 0)
     7
 
--- End: "no parts", then "some P above 10^18", then "a loop exists": then no order has all parts
+-- 05h End: "no parts", then "some P above 10^18", then "a loop exists": then no order has all parts
 unfoldable pub end-refusal : Table → ℕ
 end-refusal t = cond (eqb (length (t .parts)) 0) 9 (cond (periods-fit t) (cond (ordered (t .parts)) 0 11) 10)
 
--- a stream is accepted at End: the position after it, and the fresh model of the table
+-- "An accepted load also returns the position after it", after End; its model is the fresh one of the table
 unfoldable pub accepted : ℕ → Table → Loaded
 accepted at t = record { number = 0; position = at + 1; model = fresh t }
 

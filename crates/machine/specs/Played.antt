@@ -1,8 +1,8 @@
 -- Document 01, "Played examples": the ten cases marked *, as rows of a single statement. Each is about the definitions that the promises cite.
 -- Assumes nothing.
-use Prim.Native.Nat.{ℕ, _+_, _-_, _/_}
+use Prim.Native.Nat.{ℕ, _+_, _-_}
 use mathlib.Core.Path.{_≡_}
-use mathlib.Core.Bool.{Bool, true}
+use mathlib.Core.Bool.{true}
 use mathlib.Core.List.{List, [], _∷_, _++_, map}
 use lib.ListN.{replicate}
 use lib.IntN.{ℤ, pos, negsuc}
@@ -12,18 +12,16 @@ use Rattle.machine.specs.declared.part.Kind.{Kind}
 use Rattle.machine.specs.declared.part.Kind.the-variants.{Constant, Square, Delay, Integrator, Detector, Drive}
 use Rattle.machine.specs.declared.part.Source.{Source}
 use Rattle.machine.specs.declared.part.Source.the-variants.{Unwired, From}
+use Rattle.machine.specs.declared.part.Side.the-variants.{Unset}
+use Rattle.machine.specs.declared.part.Mark.the-variants.{Clear}
 use Rattle.machine.specs.declared.part.Component.{Component}
-use Rattle.machine.specs.declared.part.Part.{Part}
-use Rattle.machine.specs.declared.part.State.{State}
 use Rattle.machine.specs.declared.model.Model.{Model}
-use Rattle.machine.specs.declared.model.Answer.{Answer}
 use Rattle.machine.specs.Time.{point, last-tick, no-preference}
-use Rattle.machine.specs.Model.{part-at, with-state, with-parts}
-use Rattle.machine.specs.Table.{Table}
+use Rattle.machine.specs.Model.{part-at, with-parts}
 use Rattle.machine.specs.Fresh.{fresh}
 use Rattle.machine.specs.Load.{load, refused}
 use Rattle.machine.specs.Sound.{sound}
-use Rattle.machine.specs.Advance.{Outcome, round, outcome, advance}
+use Rattle.machine.specs.Advance.{round, outcome, advance}
 use Rattle.machine.specs.Calls.{Call, committed, last-model, machine-calls}
 use Rattle.machine.specs.Rehearse.{rehearsed}
 
@@ -130,8 +128,8 @@ constant-at t =
             held = pos 0;
             signal = Absent;
             output = Value (pos 1);
-            side = Rattle.machine.specs.declared.part.Side.the-variants.Unset;
-            mark = Rattle.machine.specs.declared.part.Mark.the-variants.Clear;
+            side = Unset;
+            mark = Clear;
           };
     } ∷ [])
 
@@ -140,22 +138,14 @@ abbrev pub wired-to-itself : ℕ → List ℕ
 wired-to-itself kind =
     0x01 ∷ 0x00 ∷ 0x02 ∷ kind ∷ 0xFF ∷ 0x01 ∷ replicate 11 0x00 ++ (0x04 ∷ 0x00 ∷ 0x00 ∷ 0x00 ∷ 0x05 ∷ [])
 
--- the byte stream of the first example
+-- the byte stream of the first example: Begin and a constant; a drive; its spans; the wire and End; the score
 abbrev pub example : List ℕ
 example =
-    0x01 ∷ 0x00 ∷ 0x02 ∷ 0x00 ∷ 0xFF ∷ 0x01 ∷ 0x00 ∷ 0x00 ∷ 0x00 ∷ replicate 8 0x00 ++
-    (0x02 ∷ 0x0B ∷ 0xFF ∷ replicate 12 0x00 ++
-    (0x03 ∷ 0x02 ∷ 0x00 ∷ 0x00 ∷ 0x00 ∷ 0x03 ∷ 0x05 ∷ 0x00 ∷ 0x00 ∷ 0x00 ∷ 0x04 ∷ 0x00 ∷ 0x01 ∷ 0x00 ∷ 0x05 ∷ 0x06 ∷ 0x07 ∷ 0x00 ∷ 0x00 ∷ 0x00 ∷ 0x06 ∷
-    0x04 ∷
-    0x00 ∷
-    0x00 ∷
-    0x00 ∷
-    0x06 ∷
-    0x01 ∷
-    0x00 ∷
-    0x00 ∷
-    0x00 ∷
-    []))
+    (0x01 ∷ 0x00 ∷ 0x02 ∷ 0x00 ∷ 0xFF ∷ 0x01 ∷ 0x00 ∷ 0x00 ∷ 0x00 ∷ replicate 8 0x00) ++
+    ((0x02 ∷ 0x0B ∷ 0xFF ∷ replicate 12 0x00) ++
+    ((0x03 ∷ 0x02 ∷ 0x00 ∷ 0x00 ∷ 0x00 ∷ 0x03 ∷ 0x05 ∷ 0x00 ∷ 0x00 ∷ 0x00 ∷ []) ++
+    ((0x04 ∷ 0x00 ∷ 0x01 ∷ 0x00 ∷ 0x05 ∷ []) ++
+    (0x06 ∷ 0x07 ∷ 0x00 ∷ 0x00 ∷ 0x00 ∷ 0x06 ∷ 0x04 ∷ 0x00 ∷ 0x00 ∷ 0x00 ∷ 0x06 ∷ 0x01 ∷ 0x00 ∷ 0x00 ∷ 0x00 ∷ []))))
 
 -- what it prints: `5 0 5 2 0 1 5`, `7 0 2 2 0 1 7`, `refused 22`
 abbrev pub example-lines : List ℕ
@@ -164,6 +154,7 @@ example-lines =
     55 ∷ 32 ∷ 48 ∷ 32 ∷ 50 ∷ 32 ∷ 50 ∷ 32 ∷ 48 ∷ 32 ∷ 49 ∷ 32 ∷ 55 ∷ 10 ∷
     114 ∷ 101 ∷ 102 ∷ 117 ∷ 115 ∷ 101 ∷ 100 ∷ 32 ∷ 50 ∷ 50 ∷ 10 ∷ []
 
+-- the statement: a row for each case
 pub record Played : Type 0 where
   -- the byte stream "prints" its three lines
   pub printed : rehearsed example ≡ example-lines

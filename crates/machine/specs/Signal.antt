@@ -24,7 +24,7 @@ abbrev pub present : Signal → Bool
 present Absent = false
 present (Value v) = true
 
--- the signal is absent, or its number is a value in range
+-- "a value or absent": the signal is absent, or its number is a value in range
 unfoldable pub is-signal : Signal → Bool
 is-signal Absent = true
 is-signal (Value v) = is-value v
@@ -34,28 +34,28 @@ abbrev pub integrated : Signal → ℤ
 integrated Absent = pos 0
 integrated (Value v) = v
 
--- clamp(a × x); absent if x is
+-- kind 1, gain: "clamp(a × x); absent if x is"
 unfoldable pub product : ℤ → Signal → Signal
 product a Absent = Absent
 product a (Value v) = Value (clamp (a *ℤ v))
 
--- the clamped sum of the present inputs, absent if none
+-- kind 2, adder: "clamped sum of the present inputs, absent if none"
 unfoldable pub total : Signal → Signal → Signal
 total Absent Absent = Absent
 total Absent (Value w) = Value (clamp w)
 total (Value v) Absent = Value (clamp v)
 total (Value v) (Value w) = Value (clamp (v +ℤ w))
 
--- x if it is present, else y
+-- x "if present", else y: kind 7, reset integrator, takes port 1 or else the held number, and kind 9, hold, its input or else the held signal
 abbrev pub first-present : Signal → Signal → Signal
 first-present Absent y = y
 first-present (Value v) y = Value v
 
--- x if y is present, else absent
+-- kind 10, sampler: "port 0 if port 1 is present, else absent"
 abbrev pub sampled : Signal → Signal → Signal
 sampled x Absent = Absent
 sampled x (Value w) = x
 
--- clamp(held + x × d)
+-- kinds 6, 7, 11 on a step: "held := clamp(held + x × d)"
 unfoldable pub integral : ℤ → Signal → ℕ → ℤ
 integral held x d = clamp (held +ℤ (integrated x *ℤ pos d))

@@ -1,7 +1,7 @@
 -- Document 01, "The table's bytes": when a model is sound, and refused with 24 otherwise. Asked of a trimmed model.
 -- Assumes nothing.
-use Prim.Native.Nat.{ℕ, _/_}
-use mathlib.Core.Bool.{Bool, true, false, cond, _&&_}
+use Prim.Native.Nat.{ℕ}
+use mathlib.Core.Bool.{Bool, true, cond, _&&_}
 use mathlib.Core.List.{List, [], _∷_, map}
 use lib.ListN.{length}
 use lib.Dec.{eqb, leb, ltb}
@@ -34,7 +34,7 @@ spans-fit c =
     eqb (c .«span_count») (length (c .spans)) && leb (length (c .spans)) (cond (is-drive (c .kind)) most-spans 0) &&
     spans-rise 0 (c .spans)
 
--- a component that loading accepts, in a table of n parts
+-- a component that loading accepts, in a table of n parts; its kind can be no other
 unfoldable pub component-fits : ℕ → Component → Bool
 component-fits n c =
     preference-known (c .preference) && operands-fit (c .kind) (c .a) (c .b) (c .p) && spans-fit c &&

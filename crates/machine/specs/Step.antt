@@ -25,7 +25,7 @@ gain-of t h p = gained t (p .ratio) (p .state .local) h .0
 unfoldable pub moved-held : Part → Signal → ℕ → ℤ
 moved-held p x d = cond (integrates (p .component .kind)) (integral (p .state .held) x d) (p .state .held)
 
--- the part with d added to its local count, and its held number moved
+-- the part with its d "added to its local count", and its held number moved
 unfoldable pub moved : ℕ → ℕ → Signal → Part → Part
 moved t h x p =
     with-state p

@@ -1,6 +1,4 @@
--- Document 01, "Time" and "Kinds of part", of a whole table: its ratios, what P comes to, the order of its parts, and loops.
--- A table is its default magnitude and, for each part, its component: kind, preference, operands, spans and the source of each port.
--- Assumes nothing.
+-- Document 01, "Time" and "Kinds of part", of a whole table: its ratios, what P comes to, the order of its parts, and loops. Assumes nothing.
 use Prim.Native.Nat.{ℕ, zero, suc, _*_, _<_}
 use mathlib.Core.Path.{_≡_}
 use mathlib.Core.Bool.{Bool, true, false, cond, not, _&&_, _||_}
@@ -19,6 +17,7 @@ use Rattle.machine.specs.Time.{last-tick, master-magnitude, ratio-of}
 use Rattle.machine.specs.Kind.{direct0, direct1}
 use Rattle.machine.specs.Model.{blank-component}
 
+-- a table: its default magnitude and, by part number, each part's component, which is its kind, preference, operands, spans and the source of each port
 pub record Table : Type 0 where
   pub magnitude : ℕ
   pub parts : List Component
@@ -31,17 +30,18 @@ component-at cs k = getD cs k blank-component
 unfoldable pub table-of : Model → Table
 table-of m = record { magnitude = m .magnitude; parts = map (λ (p : Part). p .component) (m .parts) }
 
--- the master's magnitude of a table, and the ratios of its parts, by number
+-- "The master's magnitude" of a table
 unfoldable pub magnitude-of : Table → ℕ
 magnitude-of t = master-magnitude (t .magnitude) (map (λ (c : Component). c .preference) (t .parts))
 
+-- "A part's ratio", for a component of the table, and the ratios of all its parts, by number
 unfoldable pub component-ratio : Table → Component → ℕ
 component-ratio t c = ratio-of (magnitude-of t) (c .preference)
 
 unfoldable pub ratios : Table → List ℕ
 ratios t = map (component-ratio t) (t .parts)
 
--- no P is above 10^18
+-- no P is above 10^18; else refusal 10, "some P above 10^18"
 unfoldable pub periods-fit : Table → Bool
 periods-fit t = every (λ (c : Component). leb (c .p * component-ratio t c) last-tick) (t .parts)
 
@@ -72,11 +72,11 @@ unfoldable pub placed : ℕ → List Component → List Bool → List ℕ
 placed zero cs marks = []
 placed (suc n) cs marks = next-part (lowest-ready marks 0 cs) (λ k. placed n cs (set marks k false))
 
--- the part order: at first all parts are marked
+-- "the part order that loading gave": at first all parts are marked
 unfoldable pub part-order : List Component → List ℕ
 part-order cs = placed (length cs) cs (replicate (length cs) true)
 
--- whether the order has all parts; where it has not, no unplaced part was ready
+-- whether the order has all parts; where it has not, no unplaced part was ready, and "a loop exists": refusal 11
 unfoldable pub ordered : List Component → Bool
 ordered cs = leb (length cs) (length (part-order cs))
 

@@ -4,7 +4,6 @@ use Prim.Native.Nat.{ℕ, _+_, _-_, _/_, _^_, max}
 use mathlib.Core.Bool.{Bool, cond, _&&_}
 use mathlib.Core.List.{List, [], _∷_}
 use lib.Dec.{eqb, leb, ltb}
-use Rattle.machine.specs.declared.time.Ticks.{Ticks}
 use Rattle.machine.specs.declared.time.LocalTicks.{LocalTicks}
 use Rattle.machine.specs.declared.time.Point.{Point}
 use Rattle.machine.specs.declared.time.Comparison.{Comparison}
@@ -46,7 +45,7 @@ compared p q =
 unfoldable pub led-to : Point → ℕ → Point
 led-to p h = cond (eqb h 0) (point (tick p) (p .n + 1)) (point (tick p + h) 0)
 
--- t and n are in their ranges
+-- t and n are in these ranges, so that the point is one of the time
 unfoldable pub in-time : Point → Bool
 in-time p = leb (tick p) last-tick && leb (p .n) last-microstep
 
