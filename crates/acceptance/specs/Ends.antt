@@ -15,6 +15,7 @@ use Rattle.machine.specs.Time.{tick}
 use Rattle.machine.specs.Kind.{period}
 use Rattle.machine.specs.Step.{gain-of}
 use Rattle.machine.specs.Accept.{Class, waiting, delaying, detecting, driving, free, class-of, due, next-multiple, allowed, largest-below, last-adding, longest-as, longest}
+use Rattle.laws.specs.Bools.{cond-cases}
 use Rattle.laws.specs.Numbers.{min-one}
 use Rattle.acceptance.specs.Spans.{largest-below-is}
 
@@ -42,13 +43,9 @@ ends-as-few free p t few = omega arith
 -- a part with at most 8 spans has at most 9 ends
 pub ends-few : (p : Part) (now : Point) (x : Signal) → length (p .component .spans) ≤ 8 → length (ends p now x) ≤ 9
 unfolding ends
-ends-few p now x few = by-test (due p now x) (ends-as-few (class-of p) p (tick now) few)
-  where
-    by-test :
-        (b : Bool) → length (ends-as (class-of p) p (tick now)) ≤ 9 →
-        length (cond b (0 ∷ []) (ends-as (class-of p) p (tick now))) ≤ 9
-    by-test true other = omega arith
-    by-test false other = other
+ends-few p now x few =
+    cond-cases (λ (l : List ℕ). length l ≤ 9) (due p now x) (0 ∷ []) (ends-as (class-of p) p (tick now)) (λ e. omega arith)
+    (λ e. ends-as-few (class-of p) p (tick now) few)
 
 -- the longest step of at most h is h or an end, for a part that is not due
 drops-as : (c : Class) (p : Part) (t h : ℕ) → (longest-as c p t h ≡ h) ⊎ List·Memᴰ (longest-as c p t h) (ends-as c p t)
@@ -56,14 +53,11 @@ unfolding longest-as ends-as
 drops-as waiting p t h = ⊎-map (λ e. e) List·Memᴰ·head (min-one h (next-multiple (period p) t - t))
 drops-as delaying p t h = inl refl
 drops-as detecting p t h = inl refl
-drops-as driving p t h = by-test (allowed (p .component .spans) (gain-of t h p))
-  where
-    step : Bool → ℕ
-    step b = cond b h (last-adding (p .ratio) t (largest-below (p .component .spans) (gain-of t h p)))
-
-    by-test : (b : Bool) → (step b ≡ h) ⊎ List·Memᴰ (step b) (map (last-adding (p .ratio) t) (0 ∷ p .component .spans))
-    by-test true = inl refl
-    by-test false = inr (Memᴰ·map (last-adding (p .ratio) t) (largest-below-is (p .component .spans) (gain-of t h p) .among))
+drops-as driving p t h =
+    let spans = p .component .spans in
+    let last : ℕ → ℕ = last-adding (p .ratio) t in
+    cond-cases (λ (l : ℕ). (l ≡ h) ⊎ List·Memᴰ l (map last (0 ∷ spans))) (allowed spans (gain-of t h p)) h (last (largest-below spans (gain-of t h p)))
+    (λ e. inl refl) (λ e. inr (Memᴰ·map last (largest-below-is spans (gain-of t h p) .among)))
 drops-as free p t h = inl refl
 
 -- the longest step of at most h that a part accepts is h, or one of the part's ends

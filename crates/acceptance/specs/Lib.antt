@@ -1,6 +1,6 @@
 -- Laws of which steps a part accepts, and of one round of an advance.
-pub mod Ends
+pub mod Spans
 pub mod Longest
+pub mod Ends
 pub mod Rounds
 pub mod SoundParts
-pub mod Spans

@@ -85,9 +85,9 @@ module _ (m : Model) (h : ℕ) where
           (longest-drops p (m .point) (reading0 (m .parts) p) h)))
           (min-one best (longest-in m h p))
 
--- how many of the parts' ends lie below h
-unfoldable pub pot : Model → ℕ → ℕ
-pot m h = below h (flatMap (ends-in m) (m .parts))
+-- the potential at h, which each round that lowers h uses up some of: how many of the parts' ends lie below h
+unfoldable pub potential : Model → ℕ → ℕ
+potential m h = below h (flatMap (ends-in m) (m .parts))
 
 -- a round gives at most h
 pub round-within : (m : Model) (h : ℕ) → round m h ≤ h
@@ -114,9 +114,9 @@ round-most m fit h j few accepted =
     longest-most p (m .point) (reading0 (m .parts) p) h (fit i within) j few (accepted i within))
 
 -- there are at most 9 ends a part
-pub pot-bound : (m : Model) → AllFew m → (h : ℕ) → pot m h ≤ 9 * length (m .parts)
-unfolding pot
-pot-bound m few h =
+pub potential-bound : (m : Model) → AllFew m → (h : ℕ) → potential m h ≤ 9 * length (m .parts)
+unfolding potential
+potential-bound m few h =
     le-trans (below-few h (flatMap (ends-in m) (m .parts)))
     (flatMap-few (ends-in m) (m .parts) blank-part 9
     (λ i within.
@@ -124,13 +124,13 @@ pot-bound m few h =
     ends-few p (m .point) (reading0 (m .parts) p) (few i within)))
 
 -- no fewer lie below a larger h
-pub pot-mono : (m : Model) (j h : ℕ) → j ≤ h → pot m j ≤ pot m h
-unfolding pot
-pot-mono m j h le = below-mono j h (flatMap (ends-in m) (m .parts)) le
+pub potential-mono : (m : Model) (j h : ℕ) → j ≤ h → potential m j ≤ potential m h
+unfolding potential
+potential-mono m j h le = below-mono j h (flatMap (ends-in m) (m .parts)) le
 
 -- where a round lowers h, fewer ends lie below
-pub round-drops : (m : Model) (h : ℕ) → (round m h ≡ h → ⊥) → pot m (round m h) < pot m h
-unfolding pot round
+pub round-drops : (m : Model) (h : ℕ) → (round m h ≡ h → ⊥) → potential m (round m h) < potential m h
+unfolding potential round
 round-drops m h lowered =
     ⊎-elim (λ e. absurd (lowered e))
     (⊎-elim (λ e. absurd (lowered e)) (λ end. below-drops (round m h) h end (omega (arith, round-within m h))))

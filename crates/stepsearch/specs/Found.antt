@@ -29,12 +29,12 @@ pub record Found (turn : ℕ → Turn) (ok : ℕ → Type 0) (most w : ℕ) (o :
   pub revisions : o .revisions ≤ 29
 
 -- what holds of a search so far, at h under the ceiling c after n rounds and v revisions, with b revisions left
-record SoFar (ok : ℕ → Type 0) (pot : ℕ → ℕ) (most w c h n v b : ℕ) : Type 0 where
+record SoFar (ok : ℕ → Type 0) (potential : ℕ → ℕ) (most w c h n v b : ℕ) : Type 0 where
   within : h ≤ c
   ceiling : c ≤ w
   longest : (j : ℕ) → j ≤ c → ok j → j ≤ h
   small : h < 2 ^ suc b
-  rounds : n + pot h + suc b ≤ most + 30
+  rounds : n + potential h + suc b ≤ most + 30
   revisions : v + b ≤ 29
 
 -- half of an h that is at least 2 leaves one revision less
@@ -42,11 +42,11 @@ halved : (h b : ℕ) → 2 ≤ h → h < 2 ^ suc b → (b′ : ℕ) × (b ≡ su
 halved h zero two small = absurd (omega arith)
 halved h (suc b) two small = (b, refl, omega arith)
 
-module _ {turn : ℕ → Turn} {ok : ℕ → Type 0} {pot : ℕ → ℕ} {most : ℕ} (fair : Fair turn ok pot most) (w : ℕ) where
+module _ {turn : ℕ → Turn} {ok : ℕ → Type 0} {potential : ℕ → ℕ} {most : ℕ} (fair : Fair turn ok potential most) (w : ℕ) where
   -- what holds so far holds still after a lower h, and after a halving
-  lowered : (c h l n v b : ℕ) → SoFar ok pot most w c h n v b → turn h ≡ Lower l → SoFar ok pot most w c l (n + 1) v b
+  lowered : (c h l n v b : ℕ) → SoFar ok potential most w c h n v b → turn h ≡ Lower l → SoFar ok potential most w c l (n + 1) v b
   lowered c h l n v b so-far e =
-      let fewer : pot l < pot h = fair .drops h l e in
+      let fewer : potential l < potential h = fair .drops h l e in
       let less : l < h = fair .lower h l e in
       record {
         within = omega arith;
@@ -57,11 +57,11 @@ module _ {turn : ℕ → Turn} {ok : ℕ → Type 0} {pot : ℕ → ℕ} {most :
         revisions = so-far .revisions;
       }
 
-  revised : (c h n v b : ℕ) → SoFar ok pot most w c h n v b → turn h ≡ Halve →
-      (b′ : ℕ) × SoFar ok pot most w (h / 2) (h / 2) (n + 1) (v + 1) b′
+  revised : (c h n v b : ℕ) → SoFar ok potential most w c h n v b → turn h ≡ Halve →
+      (b′ : ℕ) × SoFar ok potential most w (h / 2) (h / 2) (n + 1) (v + 1) b′
   revised c h n v b so-far e =
       let (b′, left, small) = halved h b (fair .halve h e) (so-far .small) in
-      let fewer : pot (h / 2) ≤ pot h = fair .mono (h / 2) h (omega arith) in (
+      let fewer : potential (h / 2) ≤ potential h = fair .mono (h / 2) h (omega arith) in (
         b′,
         record {
           within = omega arith;
@@ -74,8 +74,8 @@ module _ {turn : ℕ → Turn} {ok : ℕ → Type 0} {pot : ℕ → ℕ} {most :
       )
 
   -- what follows a turn is found, if what goes on from a search so far is
-  followed-found : (t : Turn) (on : ℕ → ℕ → ℕ → ℕ → Outcome) (c h n v b : ℕ) → turn h ≡ t → SoFar ok pot most w c h n v b →
-      ((c′ k n′ v′ b′ : ℕ) → k < h → SoFar ok pot most w c′ k n′ v′ b′ → Found turn ok most w (on c′ k n′ v′)) →
+  followed-found : (t : Turn) (on : ℕ → ℕ → ℕ → ℕ → Outcome) (c h n v b : ℕ) → turn h ≡ t → SoFar ok potential most w c h n v b →
+      ((c′ k n′ v′ b′ : ℕ) → k < h → SoFar ok potential most w c′ k n′ v′ b′ → Found turn ok most w (on c′ k n′ v′)) →
       Found turn ok most w (followed t on c h n v)
   followed-found (Lower l) on c h n v b e so-far later =
       later c l (n + 1) v b (fair .lower h l e) (lowered c h l n v b so-far e)
@@ -113,7 +113,7 @@ module _ {turn : ℕ → Turn} {ok : ℕ → Type 0} {pot : ℕ → ℕ} {most :
       }
 
   -- a search that goes on from a search so far finds what is asked
-  found-from : (f c h n v b : ℕ) → h < f → SoFar ok pot most w c h n v b → Found turn ok most w (search-from turn f c h n v)
+  found-from : (f c h n v b : ℕ) → h < f → SoFar ok potential most w c h n v b → Found turn ok most w (search-from turn f c h n v)
   unfolding search-from
   found-from zero c h n v b p so-far = absurd (omega arith)
   found-from (suc f) c h n v b p so-far =
@@ -123,7 +123,7 @@ module _ {turn : ℕ → Turn} {ok : ℕ → Type 0} {pot : ℕ → ℕ} {most :
   -- the search from w, which is below 2 ^ 30, finds what is asked
   pub found : w ≤ longest-wanted → Found turn ok most w (search-from turn (suc w) w w 0 0)
   found p =
-      let few : pot w ≤ most = fair .bound w in
+      let few : potential w ≤ most = fair .bound w in
       found-from (suc w) w w 0 0 29 (omega arith)
       (record {
         within = omega arith;

@@ -86,14 +86,14 @@ barred-facts m k other =
     }
 
 -- what the search finds for a call that is not barred
-pub outcome-found : {m : Model} {pot : ℕ → ℕ} → RoundOwes m pot → (w : ℕ) → barred m w ≡ 0 →
+pub outcome-found : {m : Model} {potential : ℕ → ℕ} → RoundOwes m potential → (w : ℕ) → barred m w ≡ 0 →
     Found (turn m) (AllAccept m) (9 * length (m .parts)) w (outcome m w)
 unfolding searched
 outcome-found {m} owes w e = rw (outcome-searched m w e) (found (turn-fair owes) w (not-barred m w e .at-most))
 
 -- the outcome of every call has what demand 3 says, if a round owes what it should wherever a call is not barred
-pub outcome-facts : (m : Model) (pot : ℕ → ℕ) (w : ℕ) → (barred m w ≡ 0 → RoundOwes m pot) → OutcomeFacts m (outcome m w)
-outcome-facts m pot w owes = facts (ℕ-discrete (barred m w) 0)
+pub outcome-facts : (m : Model) (potential : ℕ → ℕ) (w : ℕ) → (barred m w ≡ 0 → RoundOwes m potential) → OutcomeFacts m (outcome m w)
+outcome-facts m potential w owes = facts (ℕ-discrete (barred m w) 0)
   where
     facts : Dec (barred m w ≡ 0) → OutcomeFacts m (outcome m w)
     facts (yes e) = found-facts m w (outcome m w) (outcome-found (owes e) w e)

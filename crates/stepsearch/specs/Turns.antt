@@ -80,16 +80,16 @@ objecting free h p e = absurd (false≢true e)
 
 -- what one round owes: it loses no step that all parts accept, changes nothing only where all accept h, and otherwise uses up some of a potential, at most
 -- nine for each part and no smaller at a larger h. And the P of every detector is at least 1
-pub record RoundOwes (m : Model) (pot : ℕ → ℕ) : Type 0 where
+pub record RoundOwes (m : Model) (potential : ℕ → ℕ) : Type 0 where
   pub round-within : (h : ℕ) → round m h ≤ h
   pub round-accepted : (h : ℕ) → round m h ≡ h → AllAccept m h
   pub round-most : (h j : ℕ) → j ≤ h → AllAccept m j → j ≤ round m h
-  pub round-drops : (h : ℕ) → (round m h ≡ h → ⊥) → pot (round m h) < pot h
-  pub pot-bound : (h : ℕ) → pot h ≤ 9 * length (m .parts)
-  pub pot-mono : (j h : ℕ) → j ≤ h → pot j ≤ pot h
+  pub round-drops : (h : ℕ) → (round m h ≡ h → ⊥) → potential (round m h) < potential h
+  pub potential-bound : (h : ℕ) → potential h ≤ 9 * length (m .parts)
+  pub potential-mono : (j h : ℕ) → j ≤ h → potential j ≤ potential h
   pub positive : (i : ℕ) → i < length (m .parts) → class-of (part-at (m .parts) i) ≡ detecting → 0 < period (part-at (m .parts) i)
 
-module _ {m : Model} {pot : ℕ → ℕ} (owes : RoundOwes m pot) where
+module _ {m : Model} {potential : ℕ → ℕ} (owes : RoundOwes m potential) where
   -- a part objects to a step of at least 2 alone
   objection-at-two : (h : ℕ) → any-objects h (step-made m h) ≡ true → 2 ≤ h
   unfolding any-objects objects
@@ -102,7 +102,7 @@ module _ {m : Model} {pot : ℕ → ℕ} (owes : RoundOwes m pot) where
       omega arith
 
   -- the machine's turns are fair
-  pub turn-fair : Fair (turn m) (AllAccept m) pot (9 * length (m .parts))
+  pub turn-fair : Fair (turn m) (AllAccept m) potential (9 * length (m .parts))
   turn-fair =
       record {
         lower = λ h l e. let (low, other) = turn-told m h (Lower l) e in omega (arith, owes .round-within h);
@@ -111,6 +111,6 @@ module _ {m : Model} {pot : ℕ → ℕ} (owes : RoundOwes m pot) where
         halve = λ h e. objection-at-two h (turn-told m h Halve e .1);
         commit = λ h e. owes .round-accepted h (turn-told m h Commit e .0);
         refuse = λ h k e. turn-told m h (Refuse k) e;
-        bound = owes .pot-bound;
-        mono = owes .pot-mono;
+        bound = owes .potential-bound;
+        mono = owes .potential-mono;
       }

@@ -10,27 +10,27 @@ use Rattle.machine.specs.Sound.{sound}
 use Rattle.machine.specs.Advance.{outcome}
 use Rattle.machine.specs.Calls.{Advanced}
 use Rattle.machine.specs.WholeList.{counts-of, OfCall}
-use Rattle.acceptance.specs.Rounds.{pot, round-within, round-accepted, round-most, round-drops, pot-bound, pot-mono}
+use Rattle.acceptance.specs.Rounds.{potential, round-within, round-accepted, round-most, round-drops, potential-bound, potential-mono}
 use Rattle.acceptance.specs.SoundParts.{sound-fit, sound-few, sound-detectors}
 use Rattle.stepsearch.specs.Turns.{RoundOwes}
 use Rattle.stepsearch.specs.Outcomes.{not-barred, OutcomeFacts, outcome-facts, advance-counts}
 
 -- what a round of a sound model owes
-pub round-owes : (m : Model) → sound m ≡ true → RoundOwes m (pot m)
+pub round-owes : (m : Model) → sound m ≡ true → RoundOwes m (potential m)
 round-owes m is-sound =
     record {
       round-within = round-within m;
       round-accepted = round-accepted m (sound-fit m is-sound);
       round-most = round-most m (sound-fit m is-sound);
       round-drops = round-drops m;
-      pot-bound = pot-bound m (sound-few m is-sound);
-      pot-mono = pot-mono m;
+      potential-bound = potential-bound m (sound-few m is-sound);
+      potential-mono = potential-mono m;
       positive = sound-detectors m is-sound;
     }
 
 -- the outcome of every call has what demand 3 says of it
 pub every-outcome : (m : Model) (w : ℕ) → OutcomeFacts m (outcome m w)
-every-outcome m w = outcome-facts m (pot m) w (λ e. round-owes m (not-barred m w e .is-sound))
+every-outcome m w = outcome-facts m (potential m) w (λ e. round-owes m (not-barred m w e .is-sound))
 
 -- so has every call that keeps what `advance` promises
 pub of-call : (m : Model) (w : ℕ) (r : Answer) → Advanced m w r → OfCall (record { given = m; wanted = w; answer = r })
