@@ -4,7 +4,7 @@ use Prim.Native.Nat.{ℕ, zero, suc, _+_, _/_, _%_, _≤_, _<_}
 use native.Mathlib.Omega.{arith}
 use mathlib.Core.Path.{_≡_, refl, ap}
 use mathlib.Core.Bool.{Bool, true, false, cond}
-use mathlib.Core.List.{List, [], _∷_, _++_}
+use mathlib.Core.List.{List, _∷_, _++_}
 use lib.ListN.{length}
 use lib.Dec.{eqb, leb, ltb}
 use borrow.Author.Tests.{ltb-false, le-ltb, lt-ltb, eqb-true}
@@ -23,6 +23,7 @@ Later at End = Unit {0}
 Later at (Wanted w next) = at < next
 Later at (Refused number position) = Unit {0}
 
+-- so it is with each of its commands, and at each position
 command-later : (bs : List ℕ) (at b : ℕ) → Later at (score-command bs at b)
 unfolding score-command command-width
 command-later bs at b =
