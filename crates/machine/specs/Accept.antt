@@ -21,6 +21,7 @@ use Rattle.machine.specs.Step.{gain-of}
 pub data Class : Type 0 where
   waiting delaying detecting driving free : Class
 
+-- the class of each kind
 abbrev pub class : Kind → Class
 class Constant = free
 class Gain = free
@@ -35,6 +36,7 @@ class Hold = free
 class Sampler = free
 class Drive = driving
 
+-- the class of a part's kind
 abbrev pub class-of : Part → Class
 class-of p = class (p .component .kind)
 
@@ -46,6 +48,7 @@ due-as detecting p now x = marked (p .state .mark)
 due-as driving p now x = false
 due-as free p now x = false
 
+-- the part is due, by its class
 unfoldable pub due : Part → Point → Signal → Bool
 due p = due-as (class-of p) p
 

@@ -38,10 +38,11 @@ objects-as detecting h p = marked (p .state .mark) && ltb (period p) h
 objects-as driving h p = false
 objects-as free h p = false
 
--- the same by the part's kind, and of some part of the trial
+-- the part objects to a step of h, by its class
 unfoldable pub objects : ℕ → Part → Bool
 objects h p = objects-as (class-of p) h p
 
+-- some part of the trial objects
 unfoldable pub any-objects : ℕ → Model → Bool
 any-objects h trial = any (objects h) (trial .parts)
 

@@ -32,6 +32,7 @@ first-state c =
 unfoldable pub first-part : Table → Component → Part
 first-part t c = record { component = c; ratio = component-ratio t c; state = first-state c }
 
+-- all parts of a table, before the start point is filled
 unfoldable pub first-parts : Table → List Part
 first-parts t = map (first-part t) (t .parts)
 

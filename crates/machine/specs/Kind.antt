@@ -62,7 +62,7 @@ ports Hold = 1
 ports Sampler = 2
 ports Drive = 1
 
--- "One that the output reads within a point is direct": whether port 0, and port 1, is a direct port
+-- "One that the output reads within a point is direct": whether port 0 is a direct port
 abbrev pub direct0 : Kind → Bool
 direct0 Constant = false
 direct0 Gain = true
@@ -77,6 +77,7 @@ direct0 Hold = true
 direct0 Sampler = true
 direct0 Drive = false
 
+-- whether port 1 is
 abbrev pub direct1 : Kind → Bool
 direct1 Constant = false
 direct1 Gain = false
@@ -91,7 +92,7 @@ direct1 Hold = false
 direct1 Sampler = true
 direct1 Drive = false
 
--- which of the operands a, b and p a kind's line names; a drive is "as 6", and names a as an integrator does
+-- whether a kind's line names the operand a; a drive is "as 6", and names it as an integrator does
 abbrev pub names-a : Kind → Bool
 names-a Constant = true
 names-a Gain = true
@@ -106,6 +107,7 @@ names-a Hold = false
 names-a Sampler = false
 names-a Drive = true
 
+-- whether it names b
 abbrev pub names-b : Kind → Bool
 names-b Constant = false
 names-b Gain = false
@@ -120,6 +122,7 @@ names-b Hold = false
 names-b Sampler = false
 names-b Drive = false
 
+-- whether it names p
 abbrev pub names-p : Kind → Bool
 names-p Constant = false
 names-p Gain = false
@@ -200,6 +203,7 @@ output-as Hold p now x y before = first-present x (p .state .signal)
 output-as Sampler p now x y before = sampled x y
 output-as Drive p now x y before = Value (p .state .held)
 
+-- the output of a part, by its kind
 unfoldable pub output : Part → Point → (x y before : Signal) → Signal
 output p = output-as (p .component .kind) p
 

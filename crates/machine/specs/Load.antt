@@ -50,10 +50,11 @@ command-width b =
     (cond (eqb b wire-byte) 4
     (cond (eqb b end-byte) 1 5))))
 
--- operands "are little-endian": one byte, and four
+-- the byte at a position
 unfoldable pub byte-at : List ℕ → ℕ → ℕ
 byte-at bs at = getD bs at 0
 
+-- operands "are little-endian": the number that four bytes make, the lowest first
 unfoldable pub word-at : List ℕ → ℕ → ℕ
 word-at bs at =
     byte-at bs at + 256 * byte-at bs (at + 1) + 65536 * byte-at bs (at + 2) + 16777216 * byte-at bs (at + 3)
@@ -92,10 +93,11 @@ refused number at = record { number = number; position = at; model = no-model }
 abbrev pub unless-refused : ℕ → ℕ → ℕ → Reading → Read
 unless-refused number at next rd = cond (eqb number 0) (onward next rd) (ended (refused number at))
 
--- 01h Begin: "e, 1 byte", which is a magnitude, else 5; and what is read then, a table of no parts yet
+-- 01h Begin: "e, 1 byte", which is a magnitude, else 5
 unfoldable pub begin-refusal : ℕ → ℕ
 begin-refusal e = cond (magnitude-known e) 0 5
 
+-- what is read then: a default magnitude, and no parts yet
 unfoldable pub begun-with : ℕ → Reading
 begun-with e = record { begun = true; spannable = false; table = record { magnitude = e; parts = [] } }
 
@@ -137,13 +139,15 @@ with-part rd c =
       table = record { magnitude = rd .table .magnitude; parts = rd .table .parts ++ (c ∷ []) };
     }
 
--- 03h Span "follows a drive or that drive's earlier span": the last part's number, its last span (0 if there is none), and the part with one span more
+-- 03h Span "follows a drive or that drive's earlier span", so that it is the last part's: that part's number
 unfoldable pub last-part : List Component → ℕ
 last-part cs = length cs - 1
 
+-- "the one before": the part's last span, 0 if there is none
 unfoldable pub last-span : Component → ℕ
 last-span c = getD (c .spans) (length (c .spans) - 1) 0
 
+-- the part with one span more
 unfoldable pub with-span : Component → ℕ → Component
 with-span c v =
     record {
@@ -172,14 +176,16 @@ with-component rd spannable k c =
       table = record { magnitude = rd .table .magnitude; parts = set (rd .table .parts) k c };
     }
 
--- 04h Wire, "source part, receiving part, receiving port": the source of a component's port, whether it is wired, and the component with that port wired
+-- 04h Wire, "source part, receiving part, receiving port": the source of the receiving part's port
 unfoldable pub source-of : Component → ℕ → Source
 source-of c port = cond (eqb port 0) (c .port0) (c .port1)
 
+-- the port is "already wired"
 abbrev pub wired : Source → Bool
 wired Unwired = false
 wired (From k) = true
 
+-- the receiving part with that port wired to the source part
 unfoldable pub with-wire : Component → ℕ → ℕ → Component
 with-wire c port source =
     record {
@@ -209,15 +215,17 @@ end-refusal t = cond (eqb (length (t .parts)) 0) 9 (cond (periods-fit t) (cond (
 unfoldable pub accepted : ℕ → Table → Loaded
 accepted at t = record { number = 0; position = at + 1; model = fresh t }
 
--- the commands with all their operands there, at position `at`
+-- the commands, each with all its operands there, at position `at`: Begin
 unfoldable pub begin-read : List ℕ → ℕ → Read
 begin-read bs at = unless-refused (begin-refusal (byte-at bs (at + 1))) at (at + 2) (begun-with (byte-at bs (at + 1)))
 
+-- Part
 unfoldable pub part-command : List ℕ → ℕ → Reading → Read
 part-command bs at rd =
     unless-refused (part-refusal (rd .table .parts) (byte-at bs (at + 1)) (part-read bs at)) at (at + 15)
     (with-part rd (part-read bs at))
 
+-- Span
 unfoldable pub span-command : List ℕ → ℕ → Reading → Read
 span-command bs at rd =
     let k = last-part (rd .table .parts) in
@@ -225,6 +233,7 @@ span-command bs at rd =
     let v = word-at bs (at + 1) in
     unless-refused (span-refusal c v) at (at + 5) (with-component rd true k (with-span c v))
 
+-- Wire
 unfoldable pub wire-command : List ℕ → ℕ → Reading → Read
 wire-command bs at rd =
     let source = byte-at bs (at + 1) in
@@ -233,6 +242,7 @@ wire-command bs at rd =
     unless-refused (wire-refusal (rd .table .parts) source receiver port) at (at + 4)
     (with-component rd false receiver (with-wire (component-at (rd .table .parts) receiver) port source))
 
+-- End
 unfoldable pub end-command : ℕ → Reading → Read
 end-command at rd =
     cond (eqb (end-refusal (rd .table)) 0)

@@ -62,14 +62,15 @@ unfoldable pub reading : List Part → Source → Signal
 reading ps Unwired = Absent
 reading ps (From k) = part-at ps k .state .output
 
--- the readings of a part's ports 0 and 1
+-- what a part's port 0 reads
 unfoldable pub reading0 : List Part → Part → Signal
 reading0 ps p = reading ps (p .component .port0)
 
+-- what its port 1 reads
 unfoldable pub reading1 : List Part → Part → Signal
 reading1 ps p = reading ps (p .component .port1)
 
--- a component without the places that no span is in; a part; a model without the places that no part is in
+-- a component without the places that no span is in
 unfoldable pub trimmed-component : Component → Component
 trimmed-component c =
     record {
@@ -84,9 +85,11 @@ trimmed-component c =
       port1 = c .port1;
     }
 
+-- a part with such a component
 unfoldable pub trimmed-part : Part → Part
 trimmed-part p = record { component = trimmed-component (p .component); ratio = p .ratio; state = p .state }
 
+-- a model of such parts, without the places that no part is in
 unfoldable pub trimmed : Model → Model
 trimmed m =
     record {
@@ -97,10 +100,11 @@ trimmed m =
       parts = map trimmed-part (take (m .count) (m .parts));
     }
 
--- what loading, and advancing, answered, with its model trimmed
+-- what loading answered, with its model trimmed
 unfoldable pub trimmed-loaded : Loaded → Loaded
 trimmed-loaded r = record { number = r .number; position = r .position; model = trimmed (r .model) }
 
+-- what advancing answered, with its model trimmed
 unfoldable pub trimmed-answer : Answer → Answer
 trimmed-answer r =
     record {

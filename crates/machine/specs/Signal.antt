@@ -11,6 +11,7 @@ use Rattle.machine.specs.declared.signal.Signal.the-variants.{Absent, Va
 abbrev pub largest-value : ℕ
 largest-value = 1_000_000_000
 
+-- the number is a value
 unfoldable pub is-value : ℤ → Bool
 is-value v = leb (natAbs v) largest-value
 

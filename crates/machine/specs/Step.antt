@@ -85,13 +85,15 @@ settled-as Hold x s =
 settled-as Sampler x s = s
 settled-as Drive x s = s
 
+-- a part settled so, by its kind
 unfoldable pub settled : Signal → Part → Part
 settled x p = with-state p (settled-as (p .component .kind) x (p .state))
 
--- the same of all parts, each by its readings in the list given
+-- all parts moved, each by what its port 0 reads in the list given
 unfoldable pub all-moved : ℕ → ℕ → List Part → List Part
 all-moved t h ps = map (λ (p : Part). moved t h (reading0 ps p) p) ps
 
+-- all parts settled, likewise
 unfoldable pub all-settled : List Part → List Part
 all-settled ps = map (λ (p : Part). settled (reading0 ps p) p) ps
 

@@ -34,10 +34,11 @@ table-of m = record { magnitude = m .magnitude; parts = map (λ (p : Part). p .c
 unfoldable pub magnitude-of : Table → ℕ
 magnitude-of t = master-magnitude (t .magnitude) (map (λ (c : Component). c .preference) (t .parts))
 
--- "A part's ratio", for a component of the table, and the ratios of all its parts, by number
+-- "A part's ratio", for a component of the table
 unfoldable pub component-ratio : Table → Component → ℕ
 component-ratio t c = ratio-of (magnitude-of t) (c .preference)
 
+-- the ratios of all its parts, by number
 unfoldable pub ratios : Table → List ℕ
 ratios t = map (component-ratio t) (t .parts)
 

@@ -11,10 +11,11 @@ use Rattle.machine.specs.declared.time.Comparison.the-variants.{Earlier,
 use Rattle.machine.specs.declared.time.Stepped.{Stepped}
 use Rattle.machine.specs.declared.time.Stepped.the-variants.{To, Past}
 
--- "The tick t runs from 0 to 10^18, the microstep n from 0 to 999"
+-- "The tick t runs from 0 to 10^18 .."
 abbrev pub last-tick : ℕ
 last-tick = 1_000_000_000_000_000_000
 
+-- ".. the microstep n from 0 to 999"
 abbrev pub last-microstep : ℕ
 last-microstep = 999
 
@@ -26,10 +27,11 @@ point t n = record { t = record { 0 = t }; n = n }
 abbrev pub tick : Point → ℕ
 tick p = p .t .0
 
--- "The start point (0, 0) and the last point (10^18, 999)"
+-- "The start point (0, 0) .."
 abbrev pub start : Point
 start = point 0 0
 
+-- ".. and the last point (10^18, 999)"
 abbrev pub last : Point
 last = point last-tick last-microstep
 
@@ -53,10 +55,11 @@ in-time p = leb (tick p) last-tick && leb (p .n) last-microstep
 unfoldable pub stepped : Point → ℕ → Stepped
 stepped p h = cond (in-time (led-to p h)) (To (led-to p h)) Past
 
--- "a default magnitude e (0 to 15 ..)"; a preference is "0 to 15; FFh means none"
+-- "a default magnitude e (0 to 15 ..)"
 abbrev pub last-magnitude : ℕ
 last-magnitude = 15
 
+-- a preference is "0 to 15; FFh means none"
 abbrev pub no-preference : ℕ
 no-preference = 255
 
