@@ -7,20 +7,18 @@ use mathlib.Core.List.{List, [], _∷_, _++_}
 use lib.ListN.{length, getD, drop, length-append, length-drop}
 use lib.Seq.{getD-append-seam, set-append-seam}
 use borrow.Author.Tests.{lt-ltb, lt-leb, le-leb}
-use Rattle.machine.specs.declared.part.Kind.{Kind}
-use Rattle.machine.specs.declared.part.Kind.the-variants.{Constant, Gain, Adder, Square, Pulse, Delay, Integrator, ResetIntegrator, Detector, Hold, Sampler, Drive}
 use Rattle.machine.specs.declared.part.Source.{Source}
 use Rattle.machine.specs.declared.part.Source.the-variants.{Unwired}
 use Rattle.machine.specs.declared.part.Component.{Component}
 use Rattle.machine.specs.Time.{magnitude-known}
-use Rattle.machine.specs.Kind.{kind-number, kind-known, kind-of, ports, is-positive, operands-fit}
+use Rattle.machine.specs.Kind.{ports, is-positive, operands-fit}
 use Rattle.machine.specs.Model.{most-parts, most-spans, blank-component}
 use Rattle.machine.specs.Table.{Table}
 use Rattle.machine.specs.Load.{begin-byte, part-byte, span-byte, wire-byte, end-byte, known-command, command-width, preference-known, is-drive, Reading, nothing-read, in-place, onward, ended, begin-refusal, begun-with, part-read, part-refusal, with-part, last-part, last-span, with-span, span-refusal, with-component, source-of, wired, with-wire, wire-refusal, end-refusal, accepted, begin-read, part-command, span-command, wire-command, end-command, whole-command}
 use Rattle.laws.specs.Last.{length-added, last-of-added, set-last-of-added}
 use Rattle.soundness.specs.Facts.{operand-values, operand-small}
 use Rattle.soundness.specs.Written.{word-bytes, signed-word, part-bytes}
-use Rattle.soundness.specs.Seams.{signed-back, further, byte-there, word-there, turn-there, read-all, after-turn}
+use Rattle.soundness.specs.Seams.{kind-back, signed-back, further, byte-there, word-there, turn-there, read-all, after-turn}
 
 -- the reading of a table once begun, with the components given
 abbrev pub so-far : Bool → ℕ → List Component → Reading
@@ -40,22 +38,6 @@ shaped c spans port0 port1 =
       port0 = port0;
       port1 = port1;
     }
-
--- the kind with the number of a kind is that kind
-kind-back : (k : Kind) → (kind-known (kind-number k) ≡ true) × (kind-of (kind-number k) ≡ k)
-unfolding kind-known kind-of
-kind-back Constant = (refl, refl)
-kind-back Gain = (refl, refl)
-kind-back Adder = (refl, refl)
-kind-back Square = (refl, refl)
-kind-back Pulse = (refl, refl)
-kind-back Delay = (refl, refl)
-kind-back Integrator = (refl, refl)
-kind-back ResetIntegrator = (refl, refl)
-kind-back Detector = (refl, refl)
-kind-back Hold = (refl, refl)
-kind-back Sampler = (refl, refl)
-kind-back Drive = (refl, refl)
 
 module _ (bs : List ℕ) where
   -- a Begin is read

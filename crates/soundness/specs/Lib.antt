@@ -12,7 +12,7 @@ pub mod Fuel
 pub mod Passed
 pub mod Accepted
 pub mod Written
-pub mod Octets
 pub mod Seams
+pub mod Octets
 pub mod Commands
 pub mod Bytes

@@ -9,13 +9,12 @@ use lib.ListN.{length}
 use lib.Dec.{eqb, ltb}
 use borrow.Author.Tests.{eqb-true, leb-true, ltb-true}
 use Rattle.machine.specs.declared.part.Kind.{Kind}
-use Rattle.machine.specs.declared.part.Kind.the-variants.{Constant, Gain, Adder, Square, Pulse, Delay, Integrator, ResetIntegrator, Detector, Hold, Sampler, Drive}
 use Rattle.machine.specs.declared.part.Source.{Source}
 use Rattle.machine.specs.declared.part.Source.the-variants.{Unwired, From}
 use Rattle.machine.specs.declared.part.Component.{Component}
 use Rattle.machine.specs.Lists.{All}
 use Rattle.machine.specs.Time.{last-magnitude, no-preference, magnitude-known}
-use Rattle.machine.specs.Kind.{kind-number, ports}
+use Rattle.machine.specs.Kind.{kind-number, kind-known, ports}
 use Rattle.machine.specs.Model.{most-parts}
 use Rattle.machine.specs.Table.{Table}
 use Rattle.machine.specs.Load.{end-byte, preference-known}
@@ -24,6 +23,7 @@ use Rattle.laws.specs.Bools.{and-right, or-cases}
 use Rattle.laws.specs.Alls.{all-append}
 use Rattle.soundness.specs.Facts.{ComponentFits, table-facts}
 use Rattle.soundness.specs.Written.{word-bytes, signed-word, part-bytes, spans-bytes, parts-bytes, port-bytes, wires-bytes, table-bytes}
+use Rattle.soundness.specs.Seams.{kind-back}
 
 -- a number that fits a byte
 abbrev pub Octet : ℕ → Type 0
@@ -36,18 +36,8 @@ word-octets v = (omega arith, (omega arith, (omega arith, (omega arith, tt))))
 
 -- the number of a kind
 kind-octet : (k : Kind) → Octet (kind-number k)
-kind-octet Constant = omega arith
-kind-octet Gain = omega arith
-kind-octet Adder = omega arith
-kind-octet Square = omega arith
-kind-octet Pulse = omega arith
-kind-octet Delay = omega arith
-kind-octet Integrator = omega arith
-kind-octet ResetIntegrator = omega arith
-kind-octet Detector = omega arith
-kind-octet Hold = omega arith
-kind-octet Sampler = omega arith
-kind-octet Drive = omega arith
+unfolding kind-known
+kind-octet k = omega (arith, ltb-true (kind-number k) 12 (kind-back k .0))
 
 -- a magnitude, and a preference
 magnitude-octet : (e : ℕ) → magnitude-known e ≡ true → Octet e

@@ -3,18 +3,37 @@
 use Prim.Native.Nat.{ℕ, suc, _+_, _-_, _≤_, _<_}
 use native.Mathlib.Omega.{arith}
 use native.Mathlib.Nat.{add-zero}
-use mathlib.Core.Path.{_≡_, sym, ap, _∙_}
+use mathlib.Core.Path.{_≡_, refl, sym, ap, _∙_}
 use mathlib.Core.Bool.{true}
 use mathlib.Core.List.{List, _∷_, _++_}
 use lib.ListN.{length, getD, drop, length-drop}
 use lib.Seq.{getD-drop, drop-drop}
 use lib.IntN.{ℤ, pos, negsuc}
 use borrow.Author.Tests.{leb-true, lt-ltb, le-leb, le-ltb}
+use Rattle.machine.specs.declared.part.Kind.{Kind}
+use Rattle.machine.specs.declared.part.Kind.the-variants.{Constant, Gain, Adder, Square, Pulse, Delay, Integrator, ResetIntegrator, Detector, Hold, Sampler, Drive}
 use Rattle.machine.specs.declared.model.Loaded.{Loaded}
 use Rattle.machine.specs.Signal.{is-value, largest-value}
+use Rattle.machine.specs.Kind.{kind-number, kind-known, kind-of}
 use Rattle.machine.specs.Load.{known-command, command-width, byte-at, word-at, signed, Reading, in-place, Read, whole-command, command-read, read-turn, read-on, read-from}
 use Rattle.soundness.specs.Fuel.{read-unrolled}
 use Rattle.soundness.specs.Written.{word-bytes, signed-word}
+
+-- a kind is the one that its number was written for
+pub kind-back : (k : Kind) → (kind-known (kind-number k) ≡ true) × (kind-of (kind-number k) ≡ k)
+unfolding kind-known kind-of
+kind-back Constant = (refl, refl)
+kind-back Gain = (refl, refl)
+kind-back Adder = (refl, refl)
+kind-back Square = (refl, refl)
+kind-back Pulse = (refl, refl)
+kind-back Delay = (refl, refl)
+kind-back Integrator = (refl, refl)
+kind-back ResetIntegrator = (refl, refl)
+kind-back Detector = (refl, refl)
+kind-back Hold = (refl, refl)
+kind-back Sampler = (refl, refl)
+kind-back Drive = (refl, refl)
 
 -- a signed word is the number that it was written for
 pub signed-back : (z : ℤ) → is-value z ≡ true → (signed-word z < 4294967296) × (signed (signed-word z) ≡ z)
