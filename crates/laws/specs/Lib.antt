@@ -4,6 +4,7 @@ pub mod Lists
 pub mod Alls
 pub mod Last
 pub mod Numbers
+pub mod Signed
 pub mod Below
 pub mod Marks
 pub mod Once

@@ -3,7 +3,7 @@
 use mathlib.Core.Path.{_∙_}
 use mir.Syntax.{w64}
 use mir.ValLaws.{toZ-ofZ}
-use Rattle.point.specs.Signed.{clamp-above, clamp-below, clamp-between}
+use Rattle.laws.specs.Signed.{clamp-above, clamp-below, clamp-between}
 use Rattle.point.proofs.arithmetic.clamped.Statement.{statement}
 use Rattle.point.proofs.arithmetic.clamped.Tie as tie
 

@@ -6,7 +6,7 @@ use borrow.Author.Needs.{needs}
 use mir.Syntax.{w64}
 use mir.ValLaws.{toZ-ofZ, toZ-pos}
 use Rattle.machine.specs.Signal.{integral}
-use Rattle.point.specs.Signed.{product-fits, product-most, signal-most, sum-fits, value-most}
+use Rattle.laws.specs.Signed.{product-fits, product-most, signal-most, sum-fits, value-most}
 use Rattle.point.proofs.arithmetic.integral_of.Statement.{statement}
 use Rattle.point.proofs.arithmetic.integral_of.Tie as tie
 

@@ -3,7 +3,7 @@ use borrow.Author.Needs.{needs}
 use mir.Syntax.{w64}
 use mir.ValLaws.{toZ-ofZ}
 use Rattle.machine.specs.Signal.{product}
-use Rattle.point.specs.Signed.{product-fits, signal-most, value-most}
+use Rattle.laws.specs.Signed.{product-fits, signal-most, value-most}
 use Rattle.point.proofs.arithmetic.product_of.Statement.{statement}
 use Rattle.point.proofs.arithmetic.product_of.Tie as tie
 

@@ -4,7 +4,7 @@ use borrow.Author.Needs.{needs}
 use mir.Syntax.{w64}
 use mir.ValLaws.{toZ-ofZ}
 use Rattle.machine.specs.Signal.{total}
-use Rattle.point.specs.Signed.{signal-most, sum-fits}
+use Rattle.laws.specs.Signed.{signal-most, sum-fits}
 use Rattle.point.proofs.arithmetic.total_of.Statement.{statement}
 use Rattle.point.proofs.arithmetic.total_of.Tie as tie
 

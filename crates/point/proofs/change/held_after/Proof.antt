@@ -3,7 +3,7 @@ use mathlib.Core.Path.{sym, _∙_}
 use mir.Syntax.{w64}
 use mir.ValLaws.{toZ-ofZ}
 use borrow.Author.Needs.{needs}
-use Rattle.point.specs.Signed.{value-back}
+use Rattle.laws.specs.Signed.{value-back}
 use Rattle.point.proofs.change.held_after.Statement.{statement}
 use Rattle.point.proofs.change.held_after.Tie as tie
 

@@ -11,7 +11,7 @@ use Rattle.machine.specs.declared.part.Part.{Part}
 use Rattle.machine.specs.Time.{gained, local-count}
 use Rattle.machine.specs.Step.{gain-of, moved, moved-held}
 use Rattle.point.specs.Ranges.{StepFits}
-use Rattle.point.specs.Signed.{value-back}
+use Rattle.laws.specs.Signed.{value-back}
 use Rattle.point.proofs.change.moved_part.Statement.{statement}
 use Rattle.point.proofs.change.moved_part.Tie as tie
 

@@ -3,7 +3,7 @@
 use mir.Syntax.{w64}
 use mir.ValLaws.{toZ-ofZ}
 use Rattle.machine.specs.Kind.{output, output-as}
-use Rattle.point.specs.Signed.{value-back}
+use Rattle.laws.specs.Signed.{value-back}
 use borrow.Author.Needs.{needs}
 use Rattle.point.proofs.output.output_of.Statement.{statement}
 use Rattle.point.proofs.output.output_of.Tie as tie
