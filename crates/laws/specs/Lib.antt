@@ -5,6 +5,7 @@ pub mod Alls
 pub mod Last
 pub mod Numbers
 pub mod Signed
+pub mod Kinds
 pub mod Below
 pub mod Marks
 pub mod Once

@@ -8,20 +8,20 @@ use mathlib.Core.Path.{_≡_, _∙_, refl, sym, ap}
 use mathlib.Core.Bool.{true, false, cond}
 use mathlib.Core.List.{List, [], _∷_}
 use denote.Enum.Declared.{tagOf}
-use types.Run.{OneOf, miss}
+use types.Run.{OneOf}
 use lib.ListN.{take}
 use borrow.Author.Needs.{needs}
 use Rattle.machine.proofs.part.Kind as tags
 use Rattle.machine.specs.declared.time.Point.{Point}
 use Rattle.machine.specs.declared.signal.Signal.{Signal}
 use Rattle.machine.specs.declared.part.Kind.{Kind}
-use Rattle.machine.specs.declared.part.Kind.the-variants.{Constant, Gain, Adder, Square, Pulse, Delay, Integrator, ResetIntegrator, Detector, Hold, Sampler, Drive}
 use Rattle.machine.specs.declared.part.Part.{Part}
 use Rattle.machine.specs.Time.{gained, last-tick, local-count, tick}
-use Rattle.machine.specs.Kind.{period}
+use Rattle.machine.specs.Kind.{kind-of, period}
 use Rattle.machine.specs.Model.{trimmed-component, trimmed-part}
 use Rattle.machine.specs.Step.{gain-of}
 use Rattle.machine.specs.Accept.{Class, waiting, delaying, detecting, driving, free, class, class-of, due, due-as, next-multiple, allowed, largest-below, last-adding, longest-as, longest}
+use Rattle.laws.specs.Kinds.{of-kinds-left}
 use Rattle.point.specs.Ranges.{StepFits}
 use Rattle.replies.proofs.longest.longest_of.Statement.{statement}
 use Rattle.replies.proofs.longest.longest_of.Tie as tie
@@ -77,19 +77,8 @@ accepting = 0 ∷ 1 ∷ 2 ∷ 5 ∷ 6 ∷ 7 ∷ 8 ∷ 9 ∷ 10 ∷ []
 
 -- of such a kind
 whole : (k : Kind) (p : Part) (t h : ℕ) → OneOf accepting (tagOf tags.the-type k) → h ≡ longest-as (class k) p t h
-unfolding longest-as
-whole Constant p t h one = refl
-whole Gain p t h one = refl
-whole Adder p t h one = refl
-whole Square p t h one = absurd (miss accepting 3 tt one)
-whole Pulse p t h one = absurd (miss accepting 4 tt one)
-whole Delay p t h one = refl
-whole Integrator p t h one = refl
-whole ResetIntegrator p t h one = refl
-whole Detector p t h one = refl
-whole Hold p t h one = refl
-whole Sampler p t h one = refl
-whole Drive p t h one = absurd (miss accepting 11 tt one)
+unfolding longest-as kind-of
+whole k p t h one = of-kinds-left (λ (j : Kind). longest-as (class j) p t h) h accepting k refl one
 
 -- the gain, in master ticks, is at most the tick that the step leads to
 gain-fits : (t h d : ℕ) (p : Part) → StepFits t h p → d ≡ gain-of t h p → d * p .ratio ≤ last-tick
