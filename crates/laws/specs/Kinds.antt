@@ -2,7 +2,7 @@
 -- kind with a number of the list it gives for the kind. Assumes nothing.
 use Prim.Native.Nat.{ℕ}
 use mathlib.Core.Path.{_≡_, refl, sym, ap, _∙_}
-use mathlib.Core.Logic.{_⊎_, inl, inr}
+use mathlib.Core.Logic.{inl, inr}
 use mathlib.Core.List.{List, [], _∷_, map}
 use denote.Enum.Declared.{tagOf}
 use types.Run.{OneOf}
