@@ -46,10 +46,10 @@ add-clamped c =
     let w = c .before .y2 .given in
     let x-known = c .before .before .before in
     let v = x-known .before .x .given in
-    let s = x-known .before .before .before in
+    let start = x-known .before .before .before in
     rw (v-back x-known, w-back c)
-    (sum-fits (v .0 .0) (w .0 .0) (signal-most (s .args .x) _ (v .1) (s .pre .0))
-    (omega (arith, signal-most (s .args .y) _ (w .1) (s .pre .1))))
+    (sum-fits (v .0 .0) (w .0 .0) (signal-most (start .args .x) _ (v .1) (start .pre .0))
+    (omega (arith, signal-most (start .args .y) _ (w .1) (start .pre .1))))
 
 clamped-requires-3 : tie.Need-clamped-requires-3
 clamped-requires-3 c κs = search needs
