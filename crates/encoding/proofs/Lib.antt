@@ -1,3 +1,2 @@
 -- Laws that the proofs of this crate cite.
-mod Signed
 mod Answers

@@ -7,4 +7,4 @@ pub mod port;
 pub mod range;
 pub mod ratio;
 pub mod source;
-pub mod span;
+mod span;

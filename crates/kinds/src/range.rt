@@ -14,13 +14,13 @@ const SMALLEST_VALUE: i64 = -1_000_000_000;
 const LARGEST_VALUE: i64 = 1_000_000_000;
 
 // The largest operand p, and the largest span.
-pub const LARGEST_POSITIVE: u32 = 1_000_000_000;
+pub(crate) const LARGEST_POSITIVE: u32 = 1_000_000_000;
 
 // The last magnitude.
 const LAST_MAGNITUDE: u8 = 15;
 
 // The preference that means none.
-pub const NO_PREFERENCE: u8 = 255;
+pub(crate) const NO_PREFERENCE: u8 = 255;
 
 // Whether a number is a value.
 pub fn is_value(v: i64) -> bool

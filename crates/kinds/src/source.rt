@@ -5,7 +5,7 @@ ghost use Rattle.machine.specs.Load.{wired};
 ghost use Rattle.machine.specs.Sound.{source-fits};
 
 // Whether loading could have wired this source to the port, of a part with so many ports, in a table of so many parts.
-pub fn source_fits(parts: usize, ports: u8, port: u8, s: Source) -> bool
+pub(crate) fn source_fits(parts: usize, ports: u8, port: u8, s: Source) -> bool
     ensures { λ r. ⌜ r ≡ source-fits parts ports port s ⌝ }
 {
     match s {

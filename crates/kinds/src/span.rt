@@ -18,7 +18,7 @@ fn span_rises(before: u32, span: u32) -> bool
 }
 
 // Whether the first `count` places hold spans, each above the one before and at most the largest.
-pub fn spans_rise(spans: [u32; SPANS], count: usize) -> bool
+pub(crate) fn spans_rise(spans: [u32; SPANS], count: usize) -> bool
     ensures { λ r. ⌜ r ≡ spans-rise 0 (take count spans) ⌝ }
 {
     let mut before = 0;

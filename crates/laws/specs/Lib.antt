@@ -6,6 +6,8 @@ pub mod Last
 pub mod Loops
 pub mod Partway
 pub mod Numbers
+pub mod Signed
+pub mod Kinds
 pub mod Below
 pub mod Marks
 pub mod Once

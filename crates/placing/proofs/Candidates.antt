@@ -4,10 +4,10 @@ use Prim.Native.Nat.{ℕ, zero, suc, _+_, _^_, _≤_, _<_}
 use native.Mathlib.Omega.{arith}
 use native.Mathlib.Nat.{add-zero}
 use mathlib.Core.Path.{_≡_, refl, ap, _∙_}
-use mathlib.Core.Bool.{Bool, true, false, cond, not, _&&_}
+use mathlib.Core.Bool.{Bool, true, false, cond, not, _&&_, and-false}
 use mathlib.Core.Logic.{_⊎_, inl, inr}
 use mathlib.Core.List.{List, [], _∷_}
-use mathlib.Core.Option.{Option, some, none}
+use mathlib.Core.Option.{Option, some, none, Option·none-ne-some, Option·some-injective}
 use lib.ListN.{length, getD, take, set}
 use lib.Seq.{getD-set-other}
 use lib.Dec.{eqb}
@@ -30,7 +30,7 @@ none-left candidates marks k (d ∷ ds) clear =
     rw (clear k (omega arith)) (none-left candidates marks (suc k) ds (λ j p. clear j (omega arith)))
 
 -- no candidate from k + n on: the parts from there on need not be looked at
-pub cut : (candidates marks : List Bool) (k n : ℕ) (ds : List Direct) → ((j : ℕ) → k + n ≤ j → getD candidates j false ≡ false) →
+cut : (candidates marks : List Bool) (k n : ℕ) (ds : List Direct) → ((j : ℕ) → k + n ≤ j → getD candidates j false ≡ false) →
     lowest-among candidates marks k ds ≡ lowest-among candidates marks k (take n ds)
 unfolding lowest-among
 cut candidates marks k zero ds clear = none-left candidates marks k ds (λ j p. clear j (omega arith))
@@ -57,10 +57,6 @@ passed candidates marks k t [] d₀ not-ready = refl
 passed candidates marks k t (d ∷ ds) d₀ not-ready =
     by-place (either (eqb k t)) (passed candidates marks (suc k) t ds d₀ (λ i e. not-ready (suc i) (omega arith)))
   where
-    and-false : (b : Bool) → b && false ≡ false
-    and-false true = refl
-    and-false false = refl
-
     by-place : (eqb k t ≡ true) ⊎ (eqb k t ≡ false) →
         lowest-among (set candidates t false) marks (suc k) ds ≡ lowest-among candidates marks (suc k) ds →
         lowest-among (set candidates t false) marks k (d ∷ ds) ≡ lowest-among candidates marks k (d ∷ ds)
@@ -84,24 +80,17 @@ same-lowest marks marks′ same k [] = refl
 same-lowest marks marks′ same k (d ∷ ds) =
     rw (same k, same-placed marks marks′ same (d .port0), same-placed marks marks′ same (d .port1), same-lowest marks marks′ same (suc k) ds)
 
--- what is found is one part, or none
-some-equal : (i j : ℕ) → some i ≡ some j → i ≡ j
-some-equal i j e = cc
-
-none-some : (j : ℕ) → _≡_ {A = Option ℕ} none (some j) → ⊥
-none-some j e = let z : _≡_ {A = ℕ} 0 1 = cc in omega arith
-
 -- what is found is a candidate
 pub found-marked : (candidates marks : List Bool) (k t : ℕ) (ds : List Direct) → lowest-among candidates marks k ds ≡ some t →
     getD candidates t false ≡ true
 unfolding lowest-among
-found-marked candidates marks k t [] e = absurd (none-some t e)
+found-marked candidates marks k t [] e = absurd (Option·none-ne-some t e)
 found-marked candidates marks k t (d ∷ ds) e =
     by-test (either (getD candidates k false && both-placed marks d)) (found-marked candidates marks (suc k) t ds)
   where
     by-test : (getD candidates k false && both-placed marks d ≡ true) ⊎ (getD candidates k false && both-placed marks d ≡ false) →
         (lowest-among candidates marks (suc k) ds ≡ some t → getD candidates t false ≡ true) → getD candidates t false ≡ true
-    by-test (inl h) later = rw (← some-equal k t (rw h at e)) (and-left (getD candidates k false) (both-placed marks d) h)
+    by-test (inl h) later = rw (← Option·some-injective k t (rw h at e)) (and-left (getD candidates k false) (both-placed marks d) h)
     by-test (inr h) later = later (rw h at e)
 
 -- the code's answer says what is found: a part, or none

@@ -18,6 +18,10 @@ abbrev pub direct-source : Bool → Source → Source
 direct-source true s = s
 direct-source false s = Unwired
 
+-- no direct sources, as behind the last part
+abbrev pub no-sources : Direct
+no-sources = record { port0 = Unwired; port1 = Unwired }
+
 -- the direct sources of a component
 unfoldable pub direct-of : Component → Direct
 direct-of c = record { port0 = direct-source (direct0 (c .kind)) (c .port0); port1 = direct-source (direct1 (c .kind)) (c .port1) }

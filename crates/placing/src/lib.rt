@@ -73,7 +73,7 @@ fn all_direct(parts: [Component; PARTS]) -> [Direct; PARTS]
     all
 }
 
-// The source is placed: its mark is clear.
+// Whether the source is placed: its mark is clear.
 fn source_placed(marks: u32, source: Source) -> bool
     ensures { λ r. ⌜ r ≡ source-placed (marks-of 32 marks) source ⌝ }
 {
@@ -88,7 +88,7 @@ fn source_placed(marks: u32, source: Source) -> bool
     }
 }
 
-// Both direct sources are placed.
+// Whether both direct sources are placed.
 fn ready(marks: u32, direct: Direct) -> bool
     ensures { λ r. ⌜ r ≡ both-placed (marks-of 32 marks) direct ⌝ }
 {

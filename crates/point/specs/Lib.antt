@@ -1,4 +1,3 @@
 -- What the contracts and proofs of this crate cite beside `machine`'s definitions.
 pub mod Ranges
-pub mod Signed
 pub mod States

@@ -24,7 +24,7 @@ ghost use Rattle.point.specs.States.{with-held, with-mark, with-signal};
 ghost use Rattle.point.specs.Ranges.{InRange, StepFits};
 
 // The side on which a detector sees its input; an absent one keeps the side `s`.
-pub fn side_after(s: Side, x: Signal) -> Side
+fn side_after(s: Side, x: Signal) -> Side
     ensures { λ r. ⌜ r ≡ side-after s x ⌝ }
 {
     let Signal::Value(v) = x else {
@@ -37,7 +37,7 @@ pub fn side_after(s: Side, x: Signal) -> Side
 }
 
 // The mark that a detector sets, by its sides before and after.
-pub fn mark_between(before: Side, after: Side) -> Mark
+fn mark_between(before: Side, after: Side) -> Mark
     ensures { λ r. ⌜ r ≡ mark-between before after ⌝ }
 {
     match before {

@@ -19,7 +19,7 @@ pub fn period_of(p: u32, ratio: u64) -> u64
 }
 
 // Whether `t` is a positive multiple of the period.
-pub fn multiple_of(period: u64, t: u64) -> bool
+fn multiple_of(period: u64, t: u64) -> bool
     ensures { λ r. ⌜ r ≡ positive-multiple period t ⌝ }
 {
     if t == 0 {
@@ -55,7 +55,7 @@ fn half_waves_of(period: u64, now: Point) -> u64
 }
 
 // A square's output.
-pub fn square_of(a: i64, b: i64, period: u64, now: Point) -> i64
+pub(crate) fn square_of(a: i64, b: i64, period: u64, now: Point) -> i64
     ensures { λ r. ⌜ r ≡ square a b period now ⌝ }
 {
     if half_waves_of(period, now) % 2 == 0 {
@@ -65,7 +65,7 @@ pub fn square_of(a: i64, b: i64, period: u64, now: Point) -> i64
 }
 
 // A pulse's output.
-pub fn pulse_of(a: i64, period: u64, now: Point) -> Signal
+pub(crate) fn pulse_of(a: i64, period: u64, now: Point) -> Signal
     ensures { λ r. ⌜ r ≡ pulse a period now ⌝ }
 {
     if now.n != 1 {

@@ -16,7 +16,7 @@ ghost use Rattle.machine.specs.Kind.{marked, period};
 ghost use Rattle.machine.specs.Accept.{due};
 
 // Whether there is a mark.
-pub fn marked_of(mark: Mark) -> bool
+pub(crate) fn marked_of(mark: Mark) -> bool
     ensures { λ r. ⌜ r ≡ marked mark ⌝ }
 {
     match mark {

@@ -14,7 +14,7 @@ ghost use Rattle.machine.specs.Time.{last-tick};
 ghost use Rattle.machine.specs.Kind.{marked, period};
 ghost use Rattle.machine.specs.Advance.{objects};
 
-// Whether a detector that shows the mark objects to a step of `h`.
+// Whether a detector objects to a step of `h`, by the mark that it has set where the step led.
 fn detector_objects(mark: Mark, period: u64, h: u64) -> bool
     ensures { λ r. ⌜ r ≡ marked mark && ltb period h ⌝ }
 {

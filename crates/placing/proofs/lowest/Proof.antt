@@ -6,17 +6,11 @@ use native.Mathlib.Nat.{zero-add}
 use mathlib.Core.Path.{_≡_, refl, sym, _∙_}
 use lib.ListN.{length}
 use lib.Count.{trailingZeros}
-use Rattle.machine.specs.declared.part.Source.the-variants.{Unwired}
-use Rattle.placing.specs.declared.Direct.{Direct}
 use Rattle.laws.specs.WordMarks.{Cleared, FirstMark, cleared, first-mark, marks-of, no-marks, one-mark}
-use Rattle.placing.specs.Direct.{lowest-among}
+use Rattle.placing.specs.Direct.{lowest-among, no-sources}
 use Rattle.placing.proofs.Candidates.{found, none-left, passed}
 use Rattle.placing.proofs.lowest.Statement.{statement}
 use Rattle.placing.proofs.lowest.Tie as tie
-
--- what stands behind the last part
-abbrev no-sources : Direct
-no-sources = record { port0 = Unwired; port1 = Unwired }
 
 -- the first candidate t of a word, and what is left without it
 record Candidate (w t : ℕ) : Type 0 where

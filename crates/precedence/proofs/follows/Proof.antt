@@ -23,6 +23,19 @@ Inv-loop count order direct after₀ links₀ i₀ after links i = Passed count 
 abbrev μ-loop : tie.MeasureT-loop
 μ-loop count order direct after₀ links₀ i₀ after links i = count - i
 
+-- the order, and the direct sources, have places for all parts
+long : (c : tie.Start Inv-loop μ-loop) → c .args .count ≤ length (c .args .t1)
+long c =
+    let full : length (c .args .t1) ≡ 32 = c .good .0 .1 .0 .1 in
+    let few : c .args .count ≤ 32 = c .pre in
+    omega arith
+
+sourced : (c : tie.Start Inv-loop μ-loop) → c .args .count ≤ length (c .args .t2)
+sourced c =
+    let full : length (c .args .t2) ≡ 32 = c .good .1 .0 .1 .0 .1 in
+    let few : c .args .count ≤ 32 = c .pre in
+    omega arith
+
 -- where place i is not in turn, the order is refused
 refused-here : (c : tie.In-loop Inv-loop μ-loop) →
     let args = c .before .before .args in
@@ -31,10 +44,7 @@ refused-here : (c : tie.In-loop Inv-loop μ-loop) →
     false ≡ (ordered cs && same (take (args .count) (args .t1)) (part-order cs))
 refused-here c never cs of-parts =
     let start = c .before .before in
-    let full : length (start .args .t1) ≡ 32 = start .good .0 .1 .0 .1 in
-    let sourced : length (start .args .t2) ≡ 32 = start .good .1 .0 .1 .0 .1 in
-    let few : start .args .count ≤ 32 = start .pre in
-    refused-at (start .args .count) (start .args .t2) (start .args .t1) (omega arith) (omega arith) cs of-parts (c .before .loop .i)
+    refused-at (start .args .count) (start .args .t2) (start .args .t1) (sourced start) (long start) cs of-parts (c .before .loop .i)
     (c .loop-test .taken) never
 
 loop-holds : tie.Need-loop-holds Inv-loop μ-loop
@@ -117,22 +127,16 @@ loop-again c =
     let asked = c .before .before .before .before .before in
     let turn = asked .before .before .before .before .before in
     let start = turn .before .before in
-    let full : length (start .args .t1) ≡ 32 = start .good .0 .1 .0 .1 in
-    let few : start .args .count ≤ 32 = start .pre in
     let ready = rw (asked .ready-after .ensures) at (c .before .before .before .before .if3 .left) in
     let back = rw (asked .ready-after .ensures) at (c .if4 .left) in
     rw add-one
-    (one-passed (start .args .count) (start .args .t2) (start .args .t1) (turn .before .loop .after) (turn .before .loop .links) (turn .before .loop .i)
-    (turn .before .loop .inv) (asked .before .before .before .before .if1 .left) (asked .before .before .before .if2 .left) ready
-    (c .before .walk-back .result) (c .before .walk-back .ensures .link) back (turn .loop-test .taken) few (omega arith))
+    (one-passed _ _ _ _ _ _ (turn .before .loop .inv) (asked .before .before .before .before .if1 .left) (asked .before .before .before .if2 .left) ready
+    (c .before .walk-back .result) (c .before .walk-back .ensures .link) back (turn .loop-test .taken) (start .pre) (long start))
 
 returns-5 : tie.Need-returns-5 Inv-loop μ-loop
 returns-5 c = λ cs of-parts.
     let start = c .before .before in
-    let full : length (start .args .t1) ≡ 32 = start .good .0 .1 .0 .1 in
-    let sourced : length (start .args .t2) ≡ 32 = start .good .1 .0 .1 .0 .1 in
-    let few : start .args .count ≤ 32 = start .pre in
-    all-accepted (start .args .count) (start .args .t2) (start .args .t1) (omega arith) (omega arith) cs of-parts
+    all-accepted (start .args .count) (start .args .t2) (start .args .t1) (sourced start) (long start) cs of-parts
     (λ i h. c .before .loop .inv .turns i (omega (arith, c .loop-test .left)))
 
 pub follows-spec : {M : Type 1} → statement M

@@ -6,7 +6,7 @@ use mir.Syntax.{w64}
 use mir.ValLaws.{toZ-pos, toZ-ofZ}
 use borrow.Author.Tests.{lt-ltb, le-ltb}
 use Rattle.codec.specs.Words.{word-signed}
-use Rattle.codec.proofs.Signed.{minus-one-less}
+use Rattle.laws.specs.Signed.{minus-one-less}
 use borrow.Author.Needs.{needs}
 use Rattle.codec.proofs.word.word_signed.Statement.{statement}
 use Rattle.codec.proofs.word.word_signed.Tie as tie

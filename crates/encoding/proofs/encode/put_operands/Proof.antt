@@ -4,7 +4,6 @@ use mir.ValLaws.{toZ-ofZ}
 use Rattle.codec.specs.Encoded.{operand-words}
 use native.Mathlib.Omega.{arith}
 use Rattle.codec.specs.Sized.{SizedOperands}
-use Rattle.encoding.proofs.Signed.{fits-signed}
 use Rattle.codec.specs.Pieces.{words-then}
 use borrow.Author.Needs.{needs}
 use Rattle.encoding.proofs.encode.put_operands.Statement.{statement}
@@ -47,16 +46,14 @@ returns c =
     let two = words-then (first .put-word .ensures .0) (second .put-word2 .ensures .0) in
     let four = words-then (words-then two (third .put-signed .ensures .0)) (fourth .put-signed2 .ensures .0) in
     let six = words-then (words-then four (fifth .put-word3 .ensures .0)) (sixth .put-word4 .ensures .0) in
-    let put = simp (
-      first .before .kind-code .ensures,
-      toZ-ofZ w64 (start .args .a) (start .fits .a),
-      toZ-ofZ w64 (start .args .b) (start .fits .b),
-    ) at six in
+    let back-a = toZ-ofZ w64 (start .args .a) (start .fits .a) in
+    let back-b = toZ-ofZ w64 (start .args .b) (start .fits .b) in
+    let put = simp (first .before .kind-code .ensures, back-a, back-b) at six in
     let fits : SizedOperands (start .args .preference) (start .args .a) (start .args .b) (start .args .p) (start .args .span-count) =
     record {
       octet = omega arith;
-      operand-a = fits-signed (start .args .a) (start .fits .a);
-      operand-b = fits-signed (start .args .b) (start .fits .b);
+      operand-a = rw back-a at (third .put-signed .ensures .1);
+      operand-b = rw back-b at (fourth .put-signed2 .ensures .1);
       operand-p = omega arith;
       counted = omega arith;
     } in

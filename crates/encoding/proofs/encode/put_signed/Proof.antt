@@ -1,10 +1,18 @@
 -- `put_signed` puts the number's word; a signed number passed through a word stays the same.
+use native.Mathlib.Omega.{arith}
+use lib.IntN.{ℤ, pos, negsuc}
 use mir.Syntax.{w64}
+use mir.Val.{SFits}
 use mir.ValLaws.{toZ-ofZ}
 use borrow.Author.Needs.{needs}
-use Rattle.encoding.proofs.Signed.{fits-signed}
+use Rattle.codec.specs.Sized.{FitsSigned}
 use Rattle.encoding.proofs.encode.put_signed.Statement.{statement}
 use Rattle.encoding.proofs.encode.put_signed.Tie as tie
+
+-- a signed number of the declared type fits its word
+fits-signed : (z : ℤ) → SFits w64 z → FitsSigned z
+fits-signed (pos n) f = omega (arith, f .sfits)
+fits-signed (negsuc n) f = omega (arith, f .sfits)
 
 signed-word-requires : tie.Need-signed-word-requires
 signed-word-requires c κs = search needs

@@ -1,15 +1,16 @@
 -- `component_fits` makes the definition's five tests in its order; where one fails, the definition is false whatever the others say.
 use native.Mathlib.Omega.{arith}
-use mathlib.Core.Path.{_≡_, sym}
-use mathlib.Core.Bool.{_&&_}
+use mathlib.Core.Path.{_≡_, sym, _∙_}
+use mathlib.Core.Bool.{true, _&&_}
 use mir.Syntax.{w64}
 use mir.Val.{SFits}
 use mir.ValLaws.{toZ-ofZ}
 use borrow.Author.Needs.{needs}
 use borrow.Author.Tests.{not-true, not-false}
 use Rattle.machine.specs.Kind.{operands-fit, ports}
+use Rattle.machine.specs.Load.{preference-known}
 use Rattle.machine.specs.Model.{trimmed-component}
-use Rattle.machine.specs.Sound.{component-fits, source-fits}
+use Rattle.machine.specs.Sound.{component-fits, source-fits, spans-fit}
 use Rattle.kinds.proofs.component.component_fits.Statement.{statement}
 use Rattle.kinds.proofs.component.component_fits.Tie as tie
 
@@ -23,25 +24,32 @@ operands c =
     let fits-b : SFits w64 (part .b) = record { sfits = omega arith } in
     sym (simp (toZ-ofZ w64 (part .a) fits-a, toZ-ofZ w64 (part .b) fits-b) at (c .operands-fit .ensures))
 
--- where the first three tests hold, the definition is the last two
+-- what each of the first three tests says where it holds
+preference-holds : (c : tie.Else1) → preference-known (c .before .before .args .c .preference) ≡ true
+preference-holds c =
+    let asked = c .before .preference-known in
+    sym (asked .ensures) ∙ not-false (asked .result) (c .if1 .left)
+
+operands-hold : (c : tie.Else2) →
+    let part = c .before .before .before .before .before .before .args .c in
+    operands-fit (part .kind) (part .a) (part .b) (part .p) ≡ true
+operands-hold c = operands (c .before) ∙ not-false (c .before .operands-fit .result) (c .if2 .left)
+
+spans-hold : (c : tie.Else3) → spans-fit (trimmed-component (c .before .before .before .before .before .before .before .before .args .c)) ≡ true
+spans-hold c =
+    let asked = c .before .spans-fit in
+    sym (asked .ensures) ∙ not-false (asked .result) (c .if3 .left)
+
+-- where all three hold, the definition is the last two tests
 sources-left : (c : tie.Else3) →
     let args = c .before .before .before .before .before .before .before .before .args in
     component-fits (args .parts) (trimmed-component (args .c)) ≡
     (source-fits (args .parts) (ports (args .c .kind)) 0 (args .c .port0) && source-fits (args .parts) (ports (args .c .kind)) 1 (args .c .port1))
 unfolding component-fits trimmed-component
 sources-left c =
-    let third = c .before in
-    let second = third .before .before in
-    let first = second .before .before .before in
-    let preference = first .before .preference-known in
-    simp (
-      sym (preference .ensures),
-      not-false (preference .result) (first .if1 .left),
-      operands second,
-      not-false (second .operands-fit .result) (third .before .if2 .left),
-      sym (third .spans-fit .ensures),
-      not-false (third .spans-fit .result) (c .if3 .left),
-    )
+    let second = c .before .before in
+    let first = second .before .before .before .before in
+    simp (preference-holds first, operands-hold second, spans-hold c)
 
 preference-known-requires : tie.Need-preference-known-requires
 preference-known-requires c κs = search needs
@@ -58,15 +66,9 @@ operands-fit-requires c κs = search needs
 returns-2 : tie.Need-returns-2
 unfolding component-fits trimmed-component
 returns-2 c =
-    let second = c .before in
-    let first = second .before .before .before in
-    let preference = first .before .preference-known in
-    simp (
-      sym (preference .ensures),
-      not-false (preference .result) (first .if1 .left),
-      operands second,
-      not-true (second .operands-fit .result) (c .if2 .taken),
-    )
+    let asked = c .before in
+    let first = asked .before .before .before in
+    simp (preference-holds first, operands asked, not-true (asked .operands-fit .result) (c .if2 .taken))
 
 spans-fit-requires : tie.Need-spans-fit-requires
 spans-fit-requires c κs = search needs
@@ -74,17 +76,14 @@ spans-fit-requires c κs = search needs
 returns-3 : tie.Need-returns-3
 unfolding component-fits trimmed-component
 returns-3 c =
-    let third = c .before in
-    let second = third .before .before in
-    let first = second .before .before .before in
-    let preference = first .before .preference-known in
+    let asked = c .before in
+    let second = asked .before in
+    let first = second .before .before .before .before in
     simp (
-      sym (preference .ensures),
-      not-false (preference .result) (first .if1 .left),
-      operands second,
-      not-false (second .operands-fit .result) (third .before .if2 .left),
-      sym (third .spans-fit .ensures),
-      not-true (third .spans-fit .result) (c .if3 .taken),
+      preference-holds first,
+      operands-hold second,
+      sym (asked .spans-fit .ensures),
+      not-true (asked .spans-fit .result) (c .if3 .taken),
     )
 
 ports-of-requires : tie.Need-ports-of-requires

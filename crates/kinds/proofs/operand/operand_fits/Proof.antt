@@ -2,7 +2,7 @@
 use borrow.Author.Needs.{needs}
 use mir.Syntax.{w64}
 use mir.ValLaws.{toZ-ofZ}
-use Rattle.kinds.proofs.Signed.{zero-bits}
+use Rattle.laws.specs.Signed.{zero-bits}
 use Rattle.kinds.proofs.operand.operand_fits.Statement.{statement}
 use Rattle.kinds.proofs.operand.operand_fits.Tie as tie
 

@@ -3,7 +3,7 @@
 use mathlib.Core.Path.{sym}
 use mir.Syntax.{w64}
 use mir.ValLaws.{toZ-ofZ}
-use Rattle.kinds.proofs.Signed.{value-below, value-from}
+use Rattle.laws.specs.Signed.{value-below, value-from}
 use Rattle.kinds.proofs.range.is_value.Statement.{statement}
 use Rattle.kinds.proofs.range.is_value.Tie as tie
 

@@ -52,14 +52,19 @@ turn c =
       ← c .span-rises .ensures,
     )
 
+-- where no place in use is left, all of them rise
+all-rise : (c : tie.At-loop Inv-loop μ-loop) →
+    let used = take (c .before .args .count) (c .before .args .t1) in
+    length used ≤ c .loop .i → true ≡ spans-rise 0 used
+all-rise c past =
+    let used = take (c .before .args .count) (c .before .args .t1) in
+    sym (c .loop .inv ∙ none-left (c .loop .before) (c .loop .i) used past)
+
 loop-holds : tie.Need-loop-holds Inv-loop μ-loop
 loop-holds c = refl
 
 returns : tie.Need-returns Inv-loop μ-loop
-returns c =
-    let loop = c .before .before .loop in
-    let args = c .before .before .before .args in
-    sym (loop .inv ∙ none-left (loop .before) (loop .i) (take (args .count) (args .t1)) (rw length-take (omega arith)))
+returns c = all-rise (c .before .before) (rw length-take (omega arith))
 
 mul-span : tie.Need-mul-span Inv-loop μ-loop
 mul-span c = search needs
@@ -83,10 +88,7 @@ loop-again : tie.Need-loop-again Inv-loop μ-loop
 loop-again c = rw (turn (c .before), not-false (c .before .span-rises .result) (c .if2 .left))
 
 returns-3 : tie.Need-returns-3 Inv-loop μ-loop
-returns-3 c =
-    let loop = c .before .loop in
-    let args = c .before .before .args in
-    sym (loop .inv ∙ none-left (loop .before) (loop .i) (take (args .count) (args .t1)) (rw length-take (omega arith)))
+returns-3 c = all-rise (c .before) (rw length-take (omega arith))
 
 pub spans-rise-spec : {M : Type 1} → statement M
 spans-rise-spec =

@@ -1,5 +1,5 @@
 -- `signed_of` makes the definition's test; from 2^31 on, 2^32 less is the definition's negative number.
-use Prim.Native.Nat.{ℕ, suc, _-_, _<_, _≤_}
+use Prim.Native.Nat.{ℕ, suc, _-_, _<_}
 use native.Mathlib.Omega.{arith}
 use mathlib.Core.Path.{_≡_}
 use lib.IntN.{pos, negsuc, _-ℤ_}
@@ -9,6 +9,7 @@ use mir.ValLaws.{toZ-pos, toZ-ofZ}
 use borrow.Author.Needs.{needs}
 use borrow.Author.Tests.{lt-ltb, le-ltb}
 use Rattle.machine.specs.Load.{signed}
+use Rattle.laws.specs.Signed.{larger-taken}
 use Rattle.operands.proofs.cursor.signed_of.Statement.{statement}
 use Rattle.operands.proofs.cursor.signed_of.Tie as tie
 
@@ -16,9 +17,9 @@ use Rattle.operands.proofs.cursor.signed_of.Tie as tie
 same : (v : ℕ) → v < 4294967296 → toZ w64 v ≡ pos v
 same v low = toZ-pos w64 v (omega arith)
 
--- 2^32 less, from 2^31 on
-less : (v : ℕ) → 2147483648 ≤ v → v < 4294967296 → toZ w64 v -ℤ pos 4294967296 ≡ negsuc (4294967296 - suc v)
-less v high low = rw (same v low, lt-ltb v 4294967296 low)
+-- 2^32 less
+less : (v : ℕ) → v < 4294967296 → toZ w64 v -ℤ pos 4294967296 ≡ negsuc (4294967296 - suc v)
+less v low = rw (same v low) (larger-taken v 4294967296 low)
 
 cast-result : tie.Need-cast-result
 cast-result c = search needs
@@ -35,7 +36,7 @@ cast-result-2 c = search needs
 sub-result : tie.Need-sub-result
 sub-result c =
     let low : c .before .args .v < 4294967296 = omega arith in
-    rw (less (c .before .args .v) (c .if1 .left) low) (record { sfits = omega arith })
+    rw (less (c .before .args .v) low) (record { sfits = omega arith })
 
 returns-2 : tie.Need-returns-2
 unfolding signed
@@ -43,7 +44,7 @@ returns-2 c =
     let v = c .before .args .v in
     let low : v < 4294967296 = omega arith in
     rw (
-      less v (c .if1 .left) low,
+      less v low,
       le-ltb _ _ (c .if1 .left),
       toZ-ofZ w64 (negsuc (4294967296 - suc v)) (record { sfits = omega arith }),
     )

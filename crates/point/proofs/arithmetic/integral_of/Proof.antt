@@ -1,14 +1,30 @@
 -- `integral_of` is `integral`: d is at most 10^9, so the product fits, and so does the sum with a held value. An absent signal counts as 0,
 -- which leaves the held number.
+use Prim.Native.Nat.{_≤_}
 use native.Mathlib.Omega.{arith}
-use lib.IntN.{pos, +ℤ-idr, zero-*ℤ}
+use mathlib.Core.Path.{_≡_}
+use lib.IntN.{pos, natAbs, +ℤ-idr, zero-*ℤ}
 use borrow.Author.Needs.{needs}
 use mir.Syntax.{w64}
+use mir.Val.{ofZ, toZ}
 use mir.ValLaws.{toZ-ofZ, toZ-pos}
-use Rattle.machine.specs.Signal.{integral}
-use Rattle.point.specs.Signed.{product-fits, product-most, signal-most, sum-fits, value-most}
+use Rattle.machine.specs.Signal.{integral, largest-value}
+use Rattle.laws.specs.Signed.{product-fits, product-most, signal-most, sum-fits, value-most}
 use Rattle.point.proofs.arithmetic.integral_of.Statement.{statement}
 use Rattle.point.proofs.arithmetic.integral_of.Tie as tie
+
+-- the number v of x, and d, read back from their bits
+v-back : (c : tie.After-known-told) → let v = c .before .x .given .0 .0 in toZ w64 (ofZ w64 v) ≡ v
+v-back c = toZ-ofZ w64 (c .before .x .given .0 .0) (record { sfits = c .known-told .given .0 .1 })
+
+d-back : (c : tie.After-known-told) → let d = c .before .before .before .args .d in toZ w64 d ≡ pos d
+d-back c = toZ-pos w64 (c .before .before .before .args .d) (omega arith)
+
+-- v is a value
+v-most : (c : tie.After-known-told) → natAbs (c .before .x .given .0 .0) ≤ largest-value
+v-most c =
+    let start = c .before .before .before in
+    signal-most (start .args .x) _ (c .before .x .given .1) (start .pre .1 .0)
 
 enum-told : tie.Need-enum-told
 enum-told c = search needs
@@ -24,26 +40,17 @@ cast-clamped c = search needs
 
 mul-clamped : tie.Need-mul-clamped
 mul-clamped c =
-    let s = c .before .before .before in
-    let v = c .before .x .given in
-    rw (
-      toZ-ofZ w64 (v .0 .0) (record { sfits = c .known-told .given .0 .1 }),
-      toZ-pos w64 (s .args .d) (omega arith),
-    )
-    (product-fits (v .0 .0) (pos (s .args .d)) (signal-most (s .args .x) _ (v .1) (s .pre .1 .0)) (s .pre .1 .1))
+    let start = c .before .before .before in
+    let v = c .before .x .given .0 .0 in
+    rw (v-back c, d-back c) (product-fits v (pos (start .args .d)) (v-most c) (start .pre .1 .1))
 
 add-clamped : tie.Need-add-clamped
 add-clamped c =
-    let s = c .before .before .before in
-    let v = c .before .x .given in
-    rw (
-      toZ-ofZ w64 _ (mul-clamped c),
-      toZ-ofZ w64 (s .args .held) (s .fits .held),
-      toZ-ofZ w64 (v .0 .0) (record { sfits = c .known-told .given .0 .1 }),
-      toZ-pos w64 (s .args .d) (omega arith),
-    )
-    (sum-fits (s .args .held) _ (value-most (s .args .held) (s .pre .0))
-    (product-most (v .0 .0) (pos (s .args .d)) (signal-most (s .args .x) _ (v .1) (s .pre .1 .0)) (s .pre .1 .1)))
+    let start = c .before .before .before in
+    let held = start .args .held in
+    let v = c .before .x .given .0 .0 in
+    rw (toZ-ofZ w64 _ (mul-clamped c), toZ-ofZ w64 held (start .fits .held), v-back c, d-back c)
+    (sum-fits held _ (value-most held (start .pre .0)) (product-most v (pos (start .args .d)) (v-most c) (start .pre .1 .1)))
 
 clamped-requires-2 : tie.Need-clamped-requires-2
 clamped-requires-2 c κs = search needs
@@ -51,30 +58,30 @@ clamped-requires-2 c κs = search needs
 returns : tie.Need-returns
 unfolding integral
 returns c =
-    let s = c .before .before .before in
+    let start = c .before .before .before in
     rw (
       toZ-ofZ w64 (c .clamped .result) (record { sfits = c .clamped .ok }),
       c .clamped .ensures,
-      toZ-ofZ w64 (s .args .held) (s .fits .held),
+      toZ-ofZ w64 (start .args .held) (start .fits .held),
       c .before .enum-told .given .1,
-      zero-*ℤ (pos (s .args .d)),
-      +ℤ-idr (s .args .held),
+      zero-*ℤ (pos (start .args .d)),
+      +ℤ-idr (start .args .held),
     )
 
 returns-2 : tie.Need-returns-2
 unfolding integral
 returns-2 c =
-    let s = c .before .before .before .before in
-    let v = c .before .before .x .given in
+    let x-known = c .before in
+    let start = x-known .before .before .before in
     rw (
       toZ-ofZ w64 (c .clamped2 .result) (record { sfits = c .clamped2 .ok }),
       c .clamped2 .ensures,
-      toZ-ofZ w64 _ (add-clamped (c .before)),
-      toZ-ofZ w64 _ (mul-clamped (c .before)),
-      toZ-ofZ w64 (s .args .held) (s .fits .held),
-      toZ-ofZ w64 (v .0 .0) (record { sfits = c .before .known-told .given .0 .1 }),
-      toZ-pos w64 (s .args .d) (omega arith),
-      v .1,
+      toZ-ofZ w64 _ (add-clamped x-known),
+      toZ-ofZ w64 _ (mul-clamped x-known),
+      toZ-ofZ w64 (start .args .held) (start .fits .held),
+      v-back x-known,
+      d-back x-known,
+      x-known .before .x .given .1,
     )
 
 pub integral-of-spec : {M : Type 1} → statement M

@@ -3,7 +3,7 @@ use borrow.Author.Needs.{needs}
 use mir.Syntax.{w64}
 use mir.ValLaws.{toZ-ofZ}
 use Rattle.machine.specs.Signal.{product}
-use Rattle.point.specs.Signed.{product-fits, signal-most, value-most}
+use Rattle.laws.specs.Signed.{product-fits, signal-most, value-most}
 use Rattle.point.proofs.arithmetic.product_of.Statement.{statement}
 use Rattle.point.proofs.arithmetic.product_of.Tie as tie
 
@@ -15,10 +15,10 @@ enum-known-x c = search needs
 
 mul-clamped : tie.Need-mul-clamped
 mul-clamped c =
-    let s = c .before .before .before in
+    let start = c .before .before .before in
     let v = c .before .x .given .0 .0 in
-    rw (toZ-ofZ w64 (s .args .a) (s .fits .a), toZ-ofZ w64 v (record { sfits = c .known-told .given .0 .1 }))
-    (product-fits (s .args .a) v (value-most (s .args .a) (s .pre .0)) (signal-most (s .args .x) v (c .before .x .given .1) (s .pre .1)))
+    rw (toZ-ofZ w64 (start .args .a) (start .fits .a), toZ-ofZ w64 v (record { sfits = c .known-told .given .0 .1 }))
+    (product-fits (start .args .a) v (value-most (start .args .a) (start .pre .0)) (signal-most (start .args .x) v (c .before .x .given .1) (start .pre .1)))
 
 clamped-requires : tie.Need-clamped-requires
 clamped-requires c κs = search needs
@@ -30,14 +30,14 @@ returns c = simp (c .enum-told .given .1)
 returns-2 : tie.Need-returns-2
 unfolding product
 returns-2 c =
-    let s = c .before .before .before .before in
-    let a = s .args .a in
+    let start = c .before .before .before .before in
+    let a = start .args .a in
     let v = c .before .before .x .given .0 .0 in
     rw (
       toZ-ofZ w64 (c .clamped .result) (record { sfits = c .clamped .ok }),
       c .clamped .ensures,
       toZ-ofZ w64 _ (mul-clamped (c .before)),
-      toZ-ofZ w64 a (s .fits .a),
+      toZ-ofZ w64 a (start .fits .a),
       toZ-ofZ w64 v (record { sfits = c .before .known-told .given .0 .1 }),
       c .before .before .x .given .1,
     )

@@ -1,12 +1,21 @@
 -- `total_of` is `total`, by its four cases. The sum of two values fits, and what is clamped is the sum itself.
 use native.Mathlib.Omega.{arith}
+use mathlib.Core.Path.{_≡_}
 use borrow.Author.Needs.{needs}
 use mir.Syntax.{w64}
+use mir.Val.{ofZ, toZ}
 use mir.ValLaws.{toZ-ofZ}
 use Rattle.machine.specs.Signal.{total}
-use Rattle.point.specs.Signed.{signal-most, sum-fits}
+use Rattle.laws.specs.Signed.{signal-most, sum-fits}
 use Rattle.point.proofs.arithmetic.total_of.Statement.{statement}
 use Rattle.point.proofs.arithmetic.total_of.Tie as tie
+
+-- the numbers v of x, and w of y where both are present, read back from their bits
+v-back : (c : tie.After-known-told2) → let v = c .before .x .given .0 .0 in toZ w64 (ofZ w64 v) ≡ v
+v-back c = toZ-ofZ w64 (c .before .x .given .0 .0) (record { sfits = c .known-told2 .given .0 .1 })
+
+w-back : (c : tie.After-known-told3) → let w = c .before .y2 .given .0 .0 in toZ w64 (ofZ w64 w) ≡ w
+w-back c = toZ-ofZ w64 (c .before .y2 .given .0 .0) (record { sfits = c .known-told3 .given .0 .1 })
 
 enum-told : tie.Need-enum-told
 enum-told c = search needs
@@ -35,14 +44,12 @@ enum-known-y-2 c = search needs
 add-clamped : tie.Need-add-clamped
 add-clamped c =
     let w = c .before .y2 .given in
-    let v = c .before .before .before .before .x .given in
-    let s = c .before .before .before .before .before .before in
-    rw (
-      toZ-ofZ w64 (v .0 .0) (record { sfits = c .before .before .before .known-told2 .given .0 .1 }),
-      toZ-ofZ w64 (w .0 .0) (record { sfits = c .known-told3 .given .0 .1 }),
-    )
-    (sum-fits (v .0 .0) (w .0 .0) (signal-most (s .args .x) _ (v .1) (s .pre .0))
-    (omega (arith, signal-most (s .args .y) _ (w .1) (s .pre .1))))
+    let x-known = c .before .before .before in
+    let v = x-known .before .x .given in
+    let start = x-known .before .before .before in
+    rw (v-back x-known, w-back c)
+    (sum-fits (v .0 .0) (w .0 .0) (signal-most (start .args .x) _ (v .1) (start .pre .0))
+    (omega (arith, signal-most (start .args .y) _ (w .1) (start .pre .1))))
 
 clamped-requires-3 : tie.Need-clamped-requires-3
 clamped-requires-3 c κs = search needs
@@ -66,28 +73,28 @@ returns-2 c =
 returns-3 : tie.Need-returns-3
 unfolding total
 returns-3 c =
-    let v = c .before .before .before .before .x .given in
+    let x-known = c .before .before .before in
     rw (
       toZ-ofZ w64 (c .clamped2 .result) (record { sfits = c .clamped2 .ok }),
       c .clamped2 .ensures,
-      toZ-ofZ w64 (v .0 .0) (record { sfits = c .before .before .before .known-told2 .given .0 .1 }),
-      v .1,
+      v-back x-known,
+      x-known .before .x .given .1,
       c .before .enum-told3 .given .1,
     )
 
 returns-4 : tie.Need-returns-4
 unfolding total
 returns-4 c =
-    let w = c .before .before .y2 .given in
-    let v = c .before .before .before .before .before .x .given in
+    let y-known = c .before in
+    let x-known = y-known .before .before .before in
     rw (
       toZ-ofZ w64 (c .clamped3 .result) (record { sfits = c .clamped3 .ok }),
       c .clamped3 .ensures,
-      toZ-ofZ w64 _ (add-clamped (c .before)),
-      toZ-ofZ w64 (v .0 .0) (record { sfits = c .before .before .before .before .known-told2 .given .0 .1 }),
-      toZ-ofZ w64 (w .0 .0) (record { sfits = c .before .known-told3 .given .0 .1 }),
-      v .1,
-      w .1,
+      toZ-ofZ w64 _ (add-clamped y-known),
+      v-back x-known,
+      w-back y-known,
+      x-known .before .x .given .1,
+      y-known .before .y2 .given .1,
     )
 
 pub total-of-spec : {M : Type 1} → statement M

@@ -11,7 +11,7 @@ use Rattle.machine.specs.declared.part.Part.{Part}
 use Rattle.machine.specs.Time.{gained, local-count}
 use Rattle.machine.specs.Step.{gain-of, moved, moved-held}
 use Rattle.point.specs.Ranges.{StepFits}
-use Rattle.point.specs.Signed.{value-back}
+use Rattle.laws.specs.Signed.{value-back}
 use Rattle.point.proofs.change.moved_part.Statement.{statement}
 use Rattle.point.proofs.change.moved_part.Tie as tie
 
@@ -26,16 +26,17 @@ gain-of-requires c κs = search needs
 held-after-requires : tie.Need-held-after-requires
 held-after-requires c κs =
     let gain = c .before .before .before in
-    let s = gain .before in (
-      rw (value-back (s .args .p .state .held) (s .pre .0 .held)) (s .pre .0 .held),
-      (s .pre .1 .1 .1, rw (gain .gain-of .ensures) (s .pre .1 .1 .0)),
-    )
+    let start = gain .before in
+    let held-value = start .pre .0 .held in
+    let few-ticks = start .pre .1 .1 .0 in
+    let signal = start .pre .1 .1 .1 in
+    (rw (value-back (start .args .p .state .held) held-value) held-value, (signal, rw (gain .gain-of .ensures) few-ticks))
 
 add-count : tie.Need-add-count
 add-count c =
     let gain = c .before .before .before .before .before in
-    let s = gain .before in
-    count-fits (s .args .t .0) (s .args .h) _ (s .args .p) (s .pre .1 .0) (gain .gain-of .ensures)
+    let start = gain .before in
+    count-fits (start .args .t .0) (start .args .h) _ (start .args .p) (start .pre .1 .0) (gain .gain-of .ensures)
 
 with-state-requires : tie.Need-with-state-requires
 with-state-requires c κs = search needs
@@ -45,12 +46,12 @@ unfolding moved moved-held
 returns c =
     let held = c .before .before .before in
     let gain = held .before .before .before .before in
-    let s = gain .before in
+    let start = gain .before in
     rw (
       c .with-state .ensures,
       toZ-ofZ w64 (held .held-after .result) (record { sfits = held .held-after .ok }),
       held .held-after .ensures,
-      value-back (s .args .p .state .held) (s .pre .0 .held),
+      value-back (start .args .p .state .held) (start .pre .0 .held),
       gain .gain-of .ensures,
     )
 

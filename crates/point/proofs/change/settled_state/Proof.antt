@@ -3,17 +3,17 @@ use Prim.Native.Nat.{ℕ}
 use mathlib.Core.Path.{_≡_, refl}
 use mathlib.Core.List.{List, [], _∷_}
 use denote.Enum.Declared.{tagOf}
-use types.Run.{OneOf, miss}
+use types.Run.{OneOf}
 use mir.Syntax.{w64}
 use mir.ValLaws.{toZ-ofZ}
 use borrow.Author.Needs.{needs}
 use Rattle.machine.proofs.part.Kind as tags
 use Rattle.machine.specs.declared.signal.Signal.{Signal}
 use Rattle.machine.specs.declared.part.Kind.{Kind}
-use Rattle.machine.specs.declared.part.Kind.the-variants.{Constant, Gain, Adder, Square, Pulse, Delay, Integrator, ResetIntegrator, Detector, Hold, Sampler, Drive}
 use Rattle.machine.specs.declared.part.State.{State}
-use Rattle.machine.specs.Kind.{mark-after}
+use Rattle.machine.specs.Kind.{kind-of, mark-after}
 use Rattle.machine.specs.Step.{settled-as}
+use Rattle.laws.specs.Kinds.{of-kinds-left}
 use Rattle.point.proofs.change.settled_state.Statement.{statement}
 use Rattle.point.proofs.change.settled_state.Tie as tie
 
@@ -23,19 +23,8 @@ keeping = 0 ∷ 1 ∷ 2 ∷ 3 ∷ 4 ∷ 5 ∷ 6 ∷ 10 ∷ 11 ∷ []
 
 -- such a kind keeps its state
 kept : (k : Kind) (x : Signal) (s : State) → OneOf keeping (tagOf tags.the-type k) → s ≡ settled-as k x s
-unfolding settled-as
-kept Constant x s h = refl
-kept Gain x s h = refl
-kept Adder x s h = refl
-kept Square x s h = refl
-kept Pulse x s h = refl
-kept Delay x s h = refl
-kept Integrator x s h = refl
-kept ResetIntegrator x s h = absurd (miss keeping 7 tt h)
-kept Detector x s h = absurd (miss keeping 8 tt h)
-kept Hold x s h = absurd (miss keeping 9 tt h)
-kept Sampler x s h = refl
-kept Drive x s h = refl
+unfolding settled-as kind-of
+kept k x s one = of-kinds-left (λ (j : Kind). settled-as j x s) s keeping k refl one
 
 enum-told : tie.Need-enum-told
 enum-told c = search needs

@@ -10,10 +10,10 @@ with-state-requires c κs = search needs
 
 returns : tie.Need-returns
 returns c =
-    let s = c .before .before .before .before in
+    let start = c .before .before .before .before in
     rw (
       c .with-state .ensures,
-      toZ-ofZ w64 (s .args .p .state .held) (record { sfits = c .before .struct-told .given .1 .0 .1 }),
+      toZ-ofZ w64 (start .args .p .state .held) (record { sfits = c .before .struct-told .given .1 .0 .1 }),
     )
 
 pub with-output-spec : {M : Type 1} → statement M

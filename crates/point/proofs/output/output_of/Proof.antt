@@ -1,12 +1,28 @@
 -- `output_of` is `output`: each arm of the match knows the kind, and calls the function whose contract is that kind's clause of `output-as`. A
 -- signed number that passes through a local is read back from its bits, as the number itself, since it fits.
+use mathlib.Core.Path.{_≡_}
 use mir.Syntax.{w64}
+use mir.Val.{ofZ, toZ}
 use mir.ValLaws.{toZ-ofZ}
 use Rattle.machine.specs.Kind.{output, output-as}
-use Rattle.point.specs.Signed.{value-back}
+use Rattle.laws.specs.Signed.{value-back}
 use borrow.Author.Needs.{needs}
 use Rattle.point.proofs.output.output_of.Statement.{statement}
 use Rattle.point.proofs.output.output_of.Tie as tie
+
+-- where the period is known: the arguments, and what is asked of them
+abbrev start : tie.After-period-of → tie.Start
+start c = c .before .before .before .before .before .before
+
+-- a, b and the held number, read back from the bits of the locals
+a-back : (c : tie.After-period-of) → let a = start c .args .p .component .a in toZ w64 (ofZ w64 a) ≡ a
+a-back c = value-back (start c .args .p .component .a) (start c .pre .0 .a)
+
+b-back : (c : tie.After-period-of) → let b = start c .args .p .component .b in toZ w64 (ofZ w64 b) ≡ b
+b-back c = toZ-ofZ w64 (start c .args .p .component .b) (record { sfits = c .before .before .struct-told2 .given .1 .1 .1 .0 .1 })
+
+held-back : (c : tie.After-period-of) → let held = start c .args .p .state .held in toZ w64 (ofZ w64 held) ≡ held
+held-back c = value-back (start c .args .p .state .held) (start c .pre .0 .held)
 
 period-of-requires : tie.Need-period-of-requires
 period-of-requires c κs = search needs
@@ -76,15 +92,11 @@ enum-told-12 c = search needs
 
 returns : tie.Need-returns
 unfolding output output-as
-returns c =
-    let s = c .before .before .before .before .before .before .before .before in
-    rw (c .enum-told .given .1, value-back (s .args .p .component .a) (s .pre .0 .a))
+returns c = rw (c .enum-told .given .1, a-back (c .before .before))
 
 returns-2 : tie.Need-returns-2
 unfolding output output-as
-returns-2 c =
-    let s = c .before .before .before .before .before .before .before .before .before in
-    rw (c .before .enum-told2 .given .1, c .product-of .ensures, value-back (s .args .p .component .a) (s .pre .0 .a))
+returns-2 c = rw (c .before .enum-told2 .given .1, c .product-of .ensures, a-back (c .before .before .before))
 
 returns-3 : tie.Need-returns-3
 unfolding output output-as
@@ -94,27 +106,20 @@ returns-4 : tie.Need-returns-4
 unfolding output output-as
 returns-4 c =
     let period = c .before .before .before in
-    let s = period .before .before .before .before .before .before in
     rw (
       c .before .enum-told4 .given .1,
       toZ-ofZ w64 (c .square-of .result) (record { sfits = c .square-of .ok }),
       c .square-of .ensures,
       period .period-of .ensures,
-      value-back (s .args .p .component .a) (s .pre .0 .a),
-      toZ-ofZ w64 (s .args .p .component .b) (record { sfits = period .before .before .struct-told2 .given .1 .1 .1 .0 .1 }),
+      a-back period,
+      b-back period,
     )
 
 returns-5 : tie.Need-returns-5
 unfolding output output-as
 returns-5 c =
     let period = c .before .before .before in
-    let s = period .before .before .before .before .before .before in
-    rw (
-      c .before .enum-told5 .given .1,
-      c .pulse-of .ensures,
-      period .period-of .ensures,
-      value-back (s .args .p .component .a) (s .pre .0 .a),
-    )
+    rw (c .before .enum-told5 .given .1, c .pulse-of .ensures, period .period-of .ensures, a-back period)
 
 returns-6 : tie.Need-returns-6
 unfolding output output-as
@@ -122,15 +127,11 @@ returns-6 c = rw (c .before .enum-told6 .given .1, c .delayed .ensures)
 
 returns-7 : tie.Need-returns-7
 unfolding output output-as
-returns-7 c =
-    let s = c .before .before .before .before .before .before .before .before in
-    rw (c .enum-told7 .given .1, value-back (s .args .p .state .held) (s .pre .0 .held))
+returns-7 c = rw (c .enum-told7 .given .1, held-back (c .before .before))
 
 returns-8 : tie.Need-returns-8
 unfolding output output-as
-returns-8 c =
-    let s = c .before .before .before .before .before .before .before .before .before in
-    rw (c .before .enum-told8 .given .1, c .first-present-of .ensures, value-back (s .args .p .state .held) (s .pre .0 .held))
+returns-8 c = rw (c .before .enum-told8 .given .1, c .first-present-of .ensures, held-back (c .before .before .before))
 
 returns-9 : tie.Need-returns-9
 unfolding output output-as
@@ -146,9 +147,7 @@ returns-11 c = rw (c .before .enum-told11 .given .1, c .sampled-of .ensures)
 
 returns-12 : tie.Need-returns-12
 unfolding output output-as
-returns-12 c =
-    let s = c .before .before .before .before .before .before .before .before in
-    rw (c .enum-told12 .given .1, value-back (s .args .p .state .held) (s .pre .0 .held))
+returns-12 c = rw (c .enum-told12 .given .1, held-back (c .before .before))
 
 pub output-of-spec : {M : Type 1} → statement M
 output-of-spec =

@@ -18,11 +18,11 @@ multiple-of-requires c κs = search needs
 returns-2 : tie.Need-returns-2
 unfolding pulse
 returns-2 c =
-    let s = c .before .before .before .before in
+    let start = c .before .before .before .before in
     simp (
       eq-eqb _ _ (c .before .before .if1 .left),
       sym (c .before .multiple-of .ensures) ∙ c .if2 .taken,
-      toZ-ofZ w64 (s .args .a) (s .fits .a),
+      toZ-ofZ w64 (start .args .a) (start .fits .a),
     )
 
 returns-3 : tie.Need-returns-3

@@ -13,14 +13,14 @@ half-waves-of-requires c κs = search needs
 returns : tie.Need-returns
 unfolding square
 returns c =
-    let s = c .before .before in
-    rw (toZ-ofZ w64 (s .args .a) (s .fits .a), ← c .before .half-waves-of .ensures, eq-eqb _ _ (c .if1 .taken))
+    let start = c .before .before in
+    rw (toZ-ofZ w64 (start .args .a) (start .fits .a), ← c .before .half-waves-of .ensures, eq-eqb _ _ (c .if1 .taken))
 
 returns-2 : tie.Need-returns-2
 unfolding square
 returns-2 c =
-    let s = c .before .before in
-    rw (toZ-ofZ w64 (s .args .b) (s .fits .b), ← c .before .half-waves-of .ensures, ne-eqb _ _ (c .if1 .left))
+    let start = c .before .before in
+    rw (toZ-ofZ w64 (start .args .b) (start .fits .b), ← c .before .half-waves-of .ensures, ne-eqb _ _ (c .if1 .left))
 
 pub square-of-spec : {M : Type 1} → statement M
 square-of-spec = tie.close (tie.spec half-waves-of-requires returns returns-2)

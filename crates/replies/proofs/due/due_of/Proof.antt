@@ -4,15 +4,16 @@ use mathlib.Core.Path.{_≡_, refl}
 use mathlib.Core.Bool.{false}
 use mathlib.Core.List.{List, [], _∷_}
 use denote.Enum.Declared.{tagOf}
-use types.Run.{OneOf, miss}
+use types.Run.{OneOf}
 use borrow.Author.Needs.{needs}
 use Rattle.machine.proofs.part.Kind as tags
 use Rattle.machine.specs.declared.time.Point.{Point}
 use Rattle.machine.specs.declared.signal.Signal.{Signal}
 use Rattle.machine.specs.declared.part.Kind.{Kind}
-use Rattle.machine.specs.declared.part.Kind.the-variants.{Constant, Gain, Adder, Square, Pulse, Delay, Integrator, ResetIntegrator, Detector, Hold, Sampler, Drive}
 use Rattle.machine.specs.declared.part.Part.{Part}
+use Rattle.machine.specs.Kind.{kind-of}
 use Rattle.machine.specs.Accept.{class, due, due-as}
+use Rattle.laws.specs.Kinds.{of-kinds-left}
 use Rattle.replies.proofs.due.due_of.Statement.{statement}
 use Rattle.replies.proofs.due.due_of.Tie as tie
 
@@ -22,19 +23,8 @@ idle = 0 ∷ 1 ∷ 2 ∷ 6 ∷ 7 ∷ 9 ∷ 10 ∷ 11 ∷ []
 
 -- such a kind is not due
 never : (k : Kind) (p : Part) (now : Point) (x : Signal) → OneOf idle (tagOf tags.the-type k) → false ≡ due-as (class k) p now x
-unfolding due-as
-never Constant p now x one = refl
-never Gain p now x one = refl
-never Adder p now x one = refl
-never Square p now x one = absurd (miss idle 3 tt one)
-never Pulse p now x one = absurd (miss idle 4 tt one)
-never Delay p now x one = absurd (miss idle 5 tt one)
-never Integrator p now x one = refl
-never ResetIntegrator p now x one = refl
-never Detector p now x one = absurd (miss idle 8 tt one)
-never Hold p now x one = refl
-never Sampler p now x one = refl
-never Drive p now x one = refl
+unfolding due-as kind-of
+never k p now x one = of-kinds-left (λ (j : Kind). due-as (class j) p now x) false idle k refl one
 
 period-of-requires : tie.Need-period-of-requires
 period-of-requires c κs = search needs

@@ -8,20 +8,20 @@ use mathlib.Core.Path.{_≡_, _∙_, refl, sym, ap}
 use mathlib.Core.Bool.{true, false, cond}
 use mathlib.Core.List.{List, [], _∷_}
 use denote.Enum.Declared.{tagOf}
-use types.Run.{OneOf, miss}
+use types.Run.{OneOf}
 use lib.ListN.{take}
 use borrow.Author.Needs.{needs}
 use Rattle.machine.proofs.part.Kind as tags
 use Rattle.machine.specs.declared.time.Point.{Point}
 use Rattle.machine.specs.declared.signal.Signal.{Signal}
 use Rattle.machine.specs.declared.part.Kind.{Kind}
-use Rattle.machine.specs.declared.part.Kind.the-variants.{Constant, Gain, Adder, Square, Pulse, Delay, Integrator, ResetIntegrator, Detector, Hold, Sampler, Drive}
 use Rattle.machine.specs.declared.part.Part.{Part}
 use Rattle.machine.specs.Time.{gained, last-tick, local-count, tick}
-use Rattle.machine.specs.Kind.{period}
+use Rattle.machine.specs.Kind.{kind-of, period}
 use Rattle.machine.specs.Model.{trimmed-component, trimmed-part}
 use Rattle.machine.specs.Step.{gain-of}
 use Rattle.machine.specs.Accept.{Class, waiting, delaying, detecting, driving, free, class, class-of, due, due-as, next-multiple, allowed, largest-below, last-adding, longest-as, longest}
+use Rattle.laws.specs.Kinds.{of-kinds-left}
 use Rattle.point.specs.Ranges.{StepFits}
 use Rattle.replies.proofs.longest.longest_of.Statement.{statement}
 use Rattle.replies.proofs.longest.longest_of.Tie as tie
@@ -77,19 +77,8 @@ accepting = 0 ∷ 1 ∷ 2 ∷ 5 ∷ 6 ∷ 7 ∷ 8 ∷ 9 ∷ 10 ∷ []
 
 -- of such a kind
 whole : (k : Kind) (p : Part) (t h : ℕ) → OneOf accepting (tagOf tags.the-type k) → h ≡ longest-as (class k) p t h
-unfolding longest-as
-whole Constant p t h one = refl
-whole Gain p t h one = refl
-whole Adder p t h one = refl
-whole Square p t h one = absurd (miss accepting 3 tt one)
-whole Pulse p t h one = absurd (miss accepting 4 tt one)
-whole Delay p t h one = refl
-whole Integrator p t h one = refl
-whole ResetIntegrator p t h one = refl
-whole Detector p t h one = refl
-whole Hold p t h one = refl
-whole Sampler p t h one = refl
-whole Drive p t h one = absurd (miss accepting 11 tt one)
+unfolding longest-as kind-of
+whole k p t h one = of-kinds-left (λ (j : Kind). longest-as (class j) p t h) h accepting k refl one
 
 -- the gain, in master ticks, is at most the tick that the step leads to
 gain-fits : (t h d : ℕ) (p : Part) → StepFits t h p → d ≡ gain-of t h p → d * p .ratio ≤ last-tick
@@ -97,6 +86,14 @@ unfolding gain-of gained local-count
 gain-fits t h d p fits e =
     let few : d ≤ (t + h) / p .ratio = omega arith in
     le-trans (mul-le-mul-right (p .ratio) few) (le-trans (div-mul-le-self (t + h) (p .ratio)) (fits .time))
+
+-- where the kind is asked: the arguments, and what is asked of them
+abbrev start : tie.After-t → tie.Start
+start c = c .before .before .before .before .before
+
+-- there the part is not due
+not-due : (c : tie.After-t) → let args = start c .args in due (args .p) (args .now) (args .x) ≡ false
+not-due c = let asked = c .before .before .before in sym (asked .before .due-of .ensures) ∙ asked .if1 .left
 
 due-of-requires : tie.Need-due-of-requires
 due-of-requires c κs = search needs
@@ -114,8 +111,7 @@ period-of-requires c κs = search needs
 
 up-to-multiple-requires : tie.Need-up-to-multiple-requires
 up-to-multiple-requires c κs =
-    let start = c .before .before .before .before .before .before .before .before in
-    rw (c .period-of .ensures) (start .pre .waits (ap class (c .before .enum-told .given .1)))
+    rw (c .period-of .ensures) (start (c .before .before .before) .pre .waits (ap class (c .before .enum-told .given .1)))
 
 enum-told-2 : tie.Need-enum-told-2
 enum-told-2 c = search needs
@@ -125,8 +121,7 @@ period-of-requires-2 c κs = search needs
 
 up-to-multiple-requires-2 : tie.Need-up-to-multiple-requires-2
 up-to-multiple-requires-2 c κs =
-    let start = c .before .before .before .before .before .before .before .before in
-    rw (c .period-of2 .ensures) (start .pre .waits (ap class (c .before .enum-told2 .given .1)))
+    rw (c .period-of2 .ensures) (start (c .before .before .before) .pre .waits (ap class (c .before .enum-told2 .given .1)))
 
 enum-told-3 : tie.Need-enum-told-3
 enum-told-3 c = search needs
@@ -136,43 +131,37 @@ gain-of-requires c κs = search needs
 
 longest-of-drive-requires : tie.Need-longest-of-drive-requires
 longest-of-drive-requires c κs =
-    let start = c .before .before .before .before .before .before .before .before in
-    let args = start .args in (
-      start .pre .places,
-      (start .pre .ratio, gain-fits (tick (args .now)) (args .h) _ (args .p) (start .pre .step) (c .gain-of .ensures)),
-    )
+    let asks = start (c .before .before .before) .pre in
+    let args = start (c .before .before .before) .args in
+    (asks .places, (asks .ratio, gain-fits (tick (args .now)) (args .h) _ (args .p) (asks .step) (c .gain-of .ensures)))
 
 returns-2 : tie.Need-returns-2
 returns-2 c =
-    let asked = c .before .before .before .before .before .before .before in
-    let args = asked .before .before .args in
-    let not-due = sym (asked .before .due-of .ensures) ∙ asked .if1 .left in
-    waiting-longest (args .p) (args .now) (args .x) (args .h) _ _ not-due (ap class (c .before .before .enum-told .given .1))
+    let kind-asked = c .before .before .before .before in
+    let args = start kind-asked .args in
+    waiting-longest (args .p) (args .now) (args .x) (args .h) _ _ (not-due kind-asked) (ap class (c .before .before .enum-told .given .1))
     (c .before .period-of .ensures) (c .up-to-multiple .ensures)
 
 returns-3 : tie.Need-returns-3
 returns-3 c =
-    let asked = c .before .before .before .before .before .before .before in
-    let args = asked .before .before .args in
-    let not-due = sym (asked .before .due-of .ensures) ∙ asked .if1 .left in
-    waiting-longest (args .p) (args .now) (args .x) (args .h) _ _ not-due (ap class (c .before .before .enum-told2 .given .1))
+    let kind-asked = c .before .before .before .before in
+    let args = start kind-asked .args in
+    waiting-longest (args .p) (args .now) (args .x) (args .h) _ _ (not-due kind-asked) (ap class (c .before .before .enum-told2 .given .1))
     (c .before .period-of2 .ensures) (c .up-to-multiple2 .ensures)
 
 returns-4 : tie.Need-returns-4
 returns-4 c =
-    let asked = c .before .before .before .before .before .before .before in
-    let args = asked .before .before .args in
-    let not-due = sym (asked .before .due-of .ensures) ∙ asked .if1 .left in
-    driving-longest (args .p) (args .now) (args .x) (args .h) _ _ not-due (ap class (c .before .before .enum-told3 .given .1))
+    let kind-asked = c .before .before .before .before in
+    let args = start kind-asked .args in
+    driving-longest (args .p) (args .now) (args .x) (args .h) _ _ (not-due kind-asked) (ap class (c .before .before .enum-told3 .given .1))
     (c .before .gain-of .ensures) (c .longest-of-drive .ensures)
 
 returns-5 : tie.Need-returns-5
 returns-5 c =
-    let asked = c .before .before .before .before in
-    let args = asked .before .before .args in
+    let kind-asked = c .before in
+    let args = start kind-asked .args in
     let kind = args .p .component .kind in
-    let not-due = sym (asked .before .due-of .ensures) ∙ asked .if1 .left in
-    class-longest (class kind) (args .p) (args .now) (args .x) (args .h) (args .h) not-due refl
+    class-longest (class kind) (args .p) (args .now) (args .x) (args .h) (args .h) (not-due kind-asked) refl
     (whole kind (trimmed-part (args .p)) (tick (args .now)) (args .h) (c .match .keys4))
 
 pub longest-of-spec : {M : Type 1} → statement M

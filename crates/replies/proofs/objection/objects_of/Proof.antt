@@ -4,14 +4,15 @@ use mathlib.Core.Path.{_≡_, refl}
 use mathlib.Core.Bool.{false}
 use mathlib.Core.List.{List, [], _∷_}
 use denote.Enum.Declared.{tagOf}
-use types.Run.{OneOf, miss}
+use types.Run.{OneOf}
 use borrow.Author.Needs.{needs}
 use Rattle.machine.proofs.part.Kind as tags
 use Rattle.machine.specs.declared.part.Kind.{Kind}
-use Rattle.machine.specs.declared.part.Kind.the-variants.{Constant, Gain, Adder, Square, Pulse, Delay, Integrator, ResetIntegrator, Detector, Hold, Sampler, Drive}
 use Rattle.machine.specs.declared.part.Part.{Part}
+use Rattle.machine.specs.Kind.{kind-of}
 use Rattle.machine.specs.Accept.{class}
 use Rattle.machine.specs.Advance.{objects, objects-as}
+use Rattle.laws.specs.Kinds.{of-kinds-left}
 use Rattle.replies.proofs.objection.objects_of.Statement.{statement}
 use Rattle.replies.proofs.objection.objects_of.Tie as tie
 
@@ -21,19 +22,8 @@ silent = 0 ∷ 1 ∷ 2 ∷ 3 ∷ 4 ∷ 5 ∷ 6 ∷ 7 ∷ 9 ∷ 10 ∷ 11 ∷ []
 
 -- such a kind does not object
 never : (k : Kind) (h : ℕ) (p : Part) → OneOf silent (tagOf tags.the-type k) → false ≡ objects-as (class k) h p
-unfolding objects-as
-never Constant h p one = refl
-never Gain h p one = refl
-never Adder h p one = refl
-never Square h p one = refl
-never Pulse h p one = refl
-never Delay h p one = refl
-never Integrator h p one = refl
-never ResetIntegrator h p one = refl
-never Detector h p one = absurd (miss silent 8 tt one)
-never Hold h p one = refl
-never Sampler h p one = refl
-never Drive h p one = refl
+unfolding objects-as kind-of
+never k h p one = of-kinds-left (λ (j : Kind). objects-as (class j) h p) false silent k refl one
 
 period-of-requires : tie.Need-period-of-requires
 period-of-requires c κs = search needs
