@@ -8,7 +8,7 @@ use mathlib.Core.List.{List}
 use mathlib.Core.Logic.{_⊎_, inl, inr}
 use lib.ListN.{length}
 use lib.Dec.{eqb, leb}
-use borrow.Author.Tests.{eqb-true, eqb-false, eq-eqb, ne-eqb, leb-true, leb-false}
+use borrow.Author.Tests.{eqb-true, eqb-false, eq-eqb, ne-eqb, leb-true}
 use Rattle.machine.specs.declared.part.Component.{Component}
 use Rattle.machine.specs.Model.{blank-component}
 use Rattle.machine.specs.Table.{component-at}
@@ -20,6 +20,7 @@ use Rattle.soundness.specs.Accepted.{Readable}
 use Rattle.reading.specs.declared.progress.Progress.{Progress}
 use Rattle.reading.specs.Progress.{reading-of}
 use Rattle.operands.specs.Refusals.{command-number, placed}
+use Rattle.operands.specs.Tests.{room-left}
 use Rattle.reading.specs.Rows.{length-reading}
 use Rattle.reading.specs.Spanned.{last-place}
 use Rattle.table.specs.declared.turn.TurnRead.{TurnRead}
@@ -91,11 +92,7 @@ goes-whole false x n at further then h = cc
 -- a Span that is not refused has a place
 span-left : (c : Component) (v : ℕ) → span-refusal c v ≡ 0 → length (c .spans) < 8
 unfolding span-refusal
-span-left c v h = by-test (either (leb 8 (length (c .spans))))
-  where
-    by-test : (leb 8 (length (c .spans)) ≡ true) ⊎ (leb 8 (length (c .spans)) ≡ false) → length (c .spans) < 8
-    by-test (inl e) = absurd (omega (arith, rw e at h))
-    by-test (inr e) = leb-false 8 (length (c .spans)) e
+span-left c v h = room-left 8 (length (c .spans)) _ h
 
 -- a Span that reading goes on behind finds fewer than eight spans at the last part
 span-goes-on : (bs : List ℕ) (at : ℕ) (rd : Reading) (further : ℕ) (then : Reading) → sized-command bs at rd 3 ≡ onward further then →

@@ -3,17 +3,15 @@ use Prim.Native.Nat.{ℕ, _<_, _≤_}
 use native.Mathlib.Omega.{arith}
 use mathlib.Core.Path.{_≡_, _∙_, sym}
 use mathlib.Core.List.{List}
-use lib.ListN.{length, getD, take, length-map, length-take}
-use lib.Seq.{getD-take}
+use lib.ListN.{length, length-map}
 use borrow.Author.Tests.{lt-ltb, le-ltb}
 use Rattle.machine.specs.declared.part.Component.{Component}
-use Rattle.machine.specs.Model.{blank-component}
 use Rattle.machine.specs.Table.{component-at}
 use Rattle.machine.specs.Load.{source-of, wire-refusal}
 use Rattle.reading.specs.declared.progress.Progress.{Progress}
 use Rattle.reading.specs.Progress.{with-row, reading-of}
 use Rattle.operands.specs.Refusals.{port-number}
-use Rattle.reading.specs.Rows.{length-reading, joined-at}
+use Rattle.reading.specs.Rows.{length-reading, reading-at}
 use borrow.Author.Needs.{needs}
 use Rattle.reading.proofs.progress.wire_refusal.Statement.{statement}
 use Rattle.reading.proofs.progress.wire_refusal.Tie as tie
@@ -39,16 +37,12 @@ both-known cs n source receiver port many there here = rw (many, lt-ltb source n
 -- and these are the ports of the part in its place
 port-left : (progress : Progress) (source receiver port : ℕ) (rows : List (List ℕ)) → progress .count ≤ length (progress .parts) →
     source < progress .count → receiver < progress .count →
-    let c = getD (progress .parts) receiver blank-component in
+    let c = component-at (progress .parts) receiver in
     wire-refusal (reading-of progress rows .table .parts) source receiver port ≡ port-number (c .kind) (c .port0) (c .port1) port
-unfolding reading-of with-row
+unfolding with-row
 port-left progress source receiver port rows few there here =
-    let inside : receiver < length (take (progress .count) (progress .parts)) = rw length-take (omega arith) in
     both-known (reading-of progress rows .table .parts) (progress .count) source receiver port (length-reading progress rows few) there here ∙
-    rw (
-      joined-at (take (progress .count) (progress .parts)) rows receiver blank-component blank-component inside,
-      getD-take (progress .count) (progress .parts) receiver blank-component here,
-    )
+    rw (reading-at progress rows receiver here few)
 
 returns : tie.Need-returns
 returns c =
