@@ -115,7 +115,7 @@ module _ (read : TableRead) (few : read .count ≤ length (read .parts)) where
       ap (λ (n : ℕ). take n (placed .order)) same ∙ p .is ∙ sym read-order
 
   -- and it fits
-  pub accepted-fits : Ended read → end-refusal (table-read read) ≡ 0 → table-fits (table-read read) ≡ true
+  accepted-fits : Ended read → end-refusal (table-read read) ≡ 0 → table-fits (table-read read) ≡ true
   unfolding table-read
   accepted-fits e none =
       let t = table-read read in

@@ -58,7 +58,7 @@ module _ (count : ℕ) (parts : List Component) (few : count ≤ length parts) w
       ap trimmed-component (getD-take count parts i blank-component h)
 
   -- a loop's turn: the components from i on are that of place i and those behind it
-  pub components-on :
+  components-on :
       (i : ℕ) → i < count →
       drop i (components count parts) ≡ trimmed-component (component-at parts i) ∷ drop (i + 1) (components count parts)
   components-on i h =
@@ -66,7 +66,7 @@ module _ (count : ℕ) (parts : List Component) (few : count ≤ length parts) w
       rw (drop-cons (components count parts) i blank-component within, component-in i h, add-one)
 
   -- and its end: none is left
-  pub components-end : (i : ℕ) → count ≤ i → drop i (components count parts) ≡ []
+  components-end : (i : ℕ) → count ≤ i → drop i (components count parts) ≡ []
   components-end i h =
       let past : length (components count parts) ≤ i = omega (arith, components-count) in
       drop-of-length-le (components count parts) past

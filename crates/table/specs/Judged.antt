@@ -104,7 +104,7 @@ span-goes-on bs at rd further then h =
     span-left c v (goes-on (span-refusal c v) at (at + 5) _ further then (goes-whole (leb (at + 5) (length bs)) _ 1 at further then h))
 
 -- so that there is a place left beside the progress
-pub span-room : (bs : List ℕ) (at : ℕ) (progress : Progress) (rows : List (List ℕ)) (further : ℕ) (then : Reading) →
+span-room : (bs : List ℕ) (at : ℕ) (progress : Progress) (rows : List (List ℕ)) (further : ℕ) (then : Reading) →
     progress .count ≤ length (progress .parts) → Readable (reading-of progress rows) → 0 < progress .count →
     sized-command bs at (reading-of progress rows) 3 ≡ onward further then → Room progress
 unfolding last-part
