@@ -31,6 +31,10 @@ of-trimmed m ds e =
     map-map direct-of trimmed-component (map (λ (p : Part). p .component) front) ∙
     map-map direct-of (λ (p : Part). p .component) front ∙ sym e
 
+-- a model has 32 places for parts
+full : (c : tie.Start) → length (c .args .m .parts) ≡ 32
+full c = omega (arith, simp length-map at (c .good .0))
+
 -- the model, and the places of the tests before
 abbrev model : tie.After-in-time → Model
 model c = c .before .before .before .before .args .m
@@ -50,8 +54,7 @@ by-time c =
     let counted = c .before .before in
     let start = counted .before .before in
     let m = start .args .m in
-    let full : length (m .parts) ≡ 32 = omega (arith, simp length-map at (start .good .0)) in
-    sound-trimmed m (counted .before .if1 .left) (counted .if2 .left) full ∙
+    sound-trimmed m (counted .before .if1 .left) (counted .if2 .left) (full start) ∙
     tests-by (m .count) (trimmed m) (c .in-time .result) (c .in-time .ensures)
 
 by-magnitude : (c : tie.After-magnitude-known) →
@@ -75,16 +78,12 @@ by-parts c =
 returns : tie.Need-returns
 returns c =
     let start = c .before in
-    let m = start .args .m in
-    let full : length (m .parts) ≡ 32 = omega (arith, simp length-map at (start .good .0)) in
-    sym (unsound-none m (c .if1 .taken) full)
+    sym (unsound-none (start .args .m) (c .if1 .taken) (full start))
 
 returns-2 : tie.Need-returns-2
 returns-2 c =
     let start = c .before .before in
-    let m = start .args .m in
-    let full : length (m .parts) ≡ 32 = omega (arith, simp length-map at (start .good .0)) in
-    sym (unsound-many m (c .if2 .taken) full)
+    sym (unsound-many (start .args .m) (c .if2 .taken) (full start))
 
 in-time-requires : tie.Need-in-time-requires
 in-time-requires c κs = search needs

@@ -39,6 +39,19 @@ span-room : (count last v : ℕ) → span-number count last v ≡ 0 → count < 
 unfolding span-number
 span-room count last v none = room-left 8 count _ none
 
+-- there are places for as many parts as the progress counts
+few : (c : tie.Start) → c .args .t1 .count ≤ length (c .args .t1 .parts)
+few c = let many : length (c .args .t1 .parts) ≡ 32 = omega (arith, simp length-map at (c .good .0)) in omega arith
+
+-- the refusal that was found is the definition's
+number-as : (c : tie.After-span-refusal) (rows : List (List ℕ)) →
+    let args = c .before .before .args in
+    Beside (args .t1) rows (args .last) →
+    span-refusal (component-at (reading-of (args .t1) rows .table .parts) (last-place (args .t1))) (args .v) ≡ c .span-refusal .result
+number-as c rows beside =
+    let start = c .before .before in
+    refusal-as (start .args .t1) rows (start .args .last) (start .args .v) (start .pre .0) (few start) beside ∙ sym (c .span-refusal .ensures)
+
 sub-k : tie.Need-sub-k
 sub-k c = search needs
 
@@ -53,19 +66,10 @@ span-refusal-requires c κs = search needs
 
 returns : tie.Need-returns
 unfolding step-of
-returns c =
-    let start = c .before .before .before in
-    let progress = start .args .t1 in
-    let many : length (progress .parts) ≡ 32 = omega (arith, simp length-map at (start .good .0)) in
-    let few : progress .count ≤ length (progress .parts) = omega arith in (
-      λ rows at beside.
-          rw (
-            refusal-as progress rows (start .args .last) (start .args .v) (start .pre .0) few beside,
-            ← c .before .span-refusal .ensures,
-            ne-eqb _ _ (c .if1 .taken),
-          ),
-      omega arith,
-    )
+returns c = (
+  λ rows at beside. rw (number-as (c .before) rows beside, ne-eqb _ _ (c .if1 .taken)),
+  omega arith,
+)
 
 with-span-counted-requires : tie.Need-with-span-counted-requires
 with-span-counted-requires c κs =
@@ -79,14 +83,11 @@ returns-2 c =
     let start = c .before .before .before .before in
     let progress = start .args .t1 in
     let number = c .before .before .span-refusal in
-    let many : length (progress .parts) ≡ 32 = omega (arith, simp length-map at (start .good .0)) in
-    let few : progress .count ≤ length (progress .parts) = omega arith in
     let room = span-room (span-count progress) (start .args .last) (start .args .v) (sym (number .ensures) ∙ c .before .if1 .left) in (
       λ rows at beside.
           let inside : span-count progress < length (getD rows (last-place progress) []) = rw (beside .eight) room in
           rw (
-            refusal-as progress rows (start .args .last) (start .args .v) (start .pre .0) few beside,
-            ← number .ensures,
+            number-as (c .before .before) rows beside,
             c .before .if1 .left,
             c .with-span-counted .ensures .0 rows (start .args .v) (beside .there) inside,
           ),

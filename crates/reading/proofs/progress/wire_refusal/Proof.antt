@@ -44,21 +44,21 @@ port-left progress source receiver port rows few there here =
     both-known (reading-of progress rows .table .parts) (progress .count) source receiver port (length-reading progress rows few) there here ∙
     rw (reading-at progress rows receiver here few)
 
+-- there are places for as many parts as the progress counts
+few : (c : tie.Start) → c .args .t1 .count ≤ length (c .args .t1 .parts)
+few c = let many : length (c .args .t1 .parts) ≡ 32 = omega (arith, simp length-map at (c .good .0)) in omega arith
+
 returns : tie.Need-returns
 returns c =
     let start = c .before in
     let progress = start .args .t1 in
-    let many : length (progress .parts) ≡ 32 = omega (arith, simp length-map at (start .good .0)) in
-    let few : progress .count ≤ length (progress .parts) = omega arith in
-    λ rows. sym (source-unknown _ (progress .count) _ _ _ (length-reading progress rows few) (c .if1 .taken))
+    λ rows. sym (source-unknown _ (progress .count) _ _ _ (length-reading progress rows (few start)) (c .if1 .taken))
 
 returns-2 : tie.Need-returns-2
 returns-2 c =
     let start = c .before .before in
     let progress = start .args .t1 in
-    let many : length (progress .parts) ≡ 32 = omega (arith, simp length-map at (start .good .0)) in
-    let few : progress .count ≤ length (progress .parts) = omega arith in
-    λ rows. sym (receiver-unknown _ (progress .count) _ _ _ (length-reading progress rows few) (c .before .if1 .left) (c .if2 .taken))
+    λ rows. sym (receiver-unknown _ (progress .count) _ _ _ (length-reading progress rows (few start)) (c .before .if1 .left) (c .if2 .taken))
 
 mul-c : tie.Need-mul-c
 mul-c c = search needs
@@ -72,12 +72,9 @@ port-refusal-requires c κs = search needs
 returns-3 : tie.Need-returns-3
 returns-3 c =
     let start = c .before .before .before .before in
-    let progress = start .args .t1 in
-    let many : length (progress .parts) ≡ 32 = omega (arith, simp length-map at (start .good .0)) in
-    let few : progress .count ≤ length (progress .parts) = omega arith in
     λ rows.
     c .port-refusal .ensures ∙
-    sym (port-left progress _ _ _ rows few (c .before .before .before .if1 .left) (c .before .before .if2 .left))
+    sym (port-left (start .args .t1) _ _ _ rows (few start) (c .before .before .before .if1 .left) (c .before .before .if2 .left))
 
 pub wire-refusal-spec : {M : Type 1} → statement M
 wire-refusal-spec =
