@@ -1,5 +1,5 @@
--- Laws of a turn: the byte of a command that is known and in place, what the answer of a turn means by its cases, and the place that a Span leaves
--- free. Assumes nothing.
+-- Laws of a turn: the byte of a command that is known and in place, what the answer of a turn means by its cases, and the place that is left
+-- for a Span. Assumes nothing.
 use Prim.Native.Nat.{ℕ, _+_, _-_, _≤_, _<_}
 use native.Mathlib.Omega.{arith}
 use mathlib.Core.Path.{_≡_, _∙_, sym, ap}
