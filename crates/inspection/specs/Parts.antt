@@ -1,4 +1,4 @@
--- What soundness asks of one part, gathered into one test, and soundness by this test of every part. Assumes nothing.
+-- What soundness asks of one part, gathered into one test. Assumes nothing.
 use Prim.Native.Nat.{ℕ, _*_}
 use mathlib.Core.Bool.{Bool, _&&_}
 use lib.Dec.{eqb, leb}

@@ -36,7 +36,7 @@ module _ (m : Model) (few : m .count ≤ length (m .parts)) where
   preferences-count = length-map (table-of (trimmed m) .parts) (λ (c : Component). c .preference) ∙ components-count
 
   -- each part is the model's own, trimmed
-  pub part-trimmed : (i : ℕ) → i < m .count → part-at (trimmed m .parts) i ≡ trimmed-part (part-at (m .parts) i)
+  part-trimmed : (i : ℕ) → i < m .count → part-at (trimmed m .parts) i ≡ trimmed-part (part-at (m .parts) i)
   unfolding trimmed
   part-trimmed i h =
       let within : i < length (take (m .count) (m .parts)) = omega (arith, length-take-le (m .count) (m .parts) few) in
@@ -44,7 +44,7 @@ module _ (m : Model) (few : m .count ≤ length (m .parts)) where
       ap trimmed-part (getD-take (m .count) (m .parts) i blank-part h)
 
   -- and its preference the part's
-  pub preference-at : (i : ℕ) → i < m .count → getD (preferences m) i 0 ≡ part-at (m .parts) i .component .preference
+  preference-at : (i : ℕ) → i < m .count → getD (preferences m) i 0 ≡ part-at (m .parts) i .component .preference
   unfolding preferences table-of trimmed-part trimmed-component
   preference-at i h =
       let inside : i < length (trimmed m .parts) = omega (arith, parts-count) in

@@ -44,144 +44,157 @@ state-by : (t r : ℕ) (p : Part) → p .ratio ≡ r → state-fits t p ≡ stat
 unfolding state-fits state-holds
 state-by t r p e = ap (λ (x : ℕ). state-holds t x (p .state)) e
 
--- the tests of one part, gathered and taken apart
-module _ (n g t : ℕ) (p : Part) where
-  gathered :
-      component-fits n (p .component) ≡ true → eqb (p .ratio) (ratio-of g (p .component .preference)) ≡ true →
-      leb (p .component .p * ratio-of g (p .component .preference)) last-tick ≡ true → state-fits t p ≡ true → part-fits n g t p ≡ true
-  unfolding part-fits
-  gathered component ratio period state =
-      let same-ratio = eqb-true (p .ratio) (ratio-of g (p .component .preference)) ratio in
-      simp and-eq-true-iff (((component, ratio), period), sym (state-by t (ratio-of g (p .component .preference)) p same-ratio) ∙ state)
+-- what the machine asks of one part, by the master's magnitude g, among n parts at tick t
+record PartTests (n g t : ℕ) (p : Part) : Type 0 where
+  component : component-fits n (p .component) ≡ true
+  ratio : eqb (p .ratio) (ratio-of g (p .component .preference)) ≡ true
+  period : leb (p .component .p * ratio-of g (p .component .preference)) last-tick ≡ true
+  state : state-fits t p ≡ true
 
-  apart :
-      part-fits n g t p ≡ true →
-      (((component-fits n (p .component) ≡ true) × (eqb (p .ratio) (ratio-of g (p .component .preference)) ≡ true)) ×
-      (leb (p .component .p * ratio-of g (p .component .preference)) last-tick ≡ true)) ×
-      (state-fits t p ≡ true)
+-- gathered into one test, and taken apart
+module _ (n g t : ℕ) (p : Part) where
+  gathered : PartTests n g t p → part-fits n g t p ≡ true
+  unfolding part-fits
+  gathered f =
+      let r = ratio-of g (p .component .preference) in
+      let state = sym (state-by t r p (eqb-true (p .ratio) r (f .ratio))) ∙ f .state in
+      simp and-eq-true-iff (((f .component, f .ratio), f .period), state)
+
+  apart : part-fits n g t p ≡ true → PartTests n g t p
   unfolding part-fits
   apart h =
+      let r = ratio-of g (p .component .preference) in
       let (((component, ratio), period), state) = simp and-eq-true-iff at h in
-      let same-ratio = eqb-true (p .ratio) (ratio-of g (p .component .preference)) ratio in
-      (((component, ratio), period), state-by t (ratio-of g (p .component .preference)) p same-ratio ∙ state)
+      record { component = component; ratio = ratio; period = period; state = state-by t r p (eqb-true (p .ratio) r ratio) ∙ state }
 
--- the machine's tests of all parts, gathered and taken apart
-module _ (n g t : ℕ) (ps : List Part) where
-  abbrev fits : Part → Bool
-  fits p = component-fits n (p .component)
+-- what the machine asks of all parts of a model
+record AllTests (x : Model) : Type 0 where
+  components : every (component-fits (length (table-of x .parts))) (table-of x .parts) ≡ true
+  ratios : same (map (λ (p : Part). p .ratio) (x .parts)) (ratios (table-of x)) ≡ true
+  periods : periods-fit (table-of x) ≡ true
+  states : every (state-fits (tick (x .point))) (x .parts) ≡ true
 
-  abbrev rated : Part → Bool
-  rated p = eqb (p .ratio) (ratio-of g (p .component .preference))
+-- by one test of each part, there and back: with n parts, the master's magnitude g, at tick t
+module _ (x : Model) where
+  abbrev n : ℕ
+  n = length (table-of x .parts)
 
-  abbrev timed : Part → Bool
-  timed p = leb (p .component .p * ratio-of g (p .component .preference)) last-tick
+  abbrev g : ℕ
+  g = magnitude-of (table-of x)
 
-  all-gathered :
-      every (component-fits n) (map (λ (p : Part). p .component) ps) ≡ true →
-      same (map (λ (p : Part). p .ratio) ps) (map (λ (c : Component). ratio-of g (c .preference)) (map (λ (p : Part). p .component) ps)) ≡ true →
-      every (λ (c : Component). leb (c .p * ratio-of g (c .preference)) last-tick) (map (λ (p : Part). p .component) ps) ≡ true →
-      every (state-fits t) ps ≡ true → every (part-fits n g t) ps ≡ true
-  all-gathered components same-ratios periods states =
-      let c = sym (every-map (component-fits n) (λ (p : Part). p .component) ps) ∙ components in
-      let r = sym (same-map (λ (p : Part). p .ratio) (λ (c : Component). ratio-of g (c .preference)) (λ (p : Part). p .component) ps) ∙ same-ratios in
-      let q = sym (every-map (λ (c : Component). leb (c .p * ratio-of g (c .preference)) last-tick) (λ (p : Part). p .component) ps) ∙ periods in
+  abbrev t : ℕ
+  t = tick (x .point)
+
+  -- a part's component, its ratio, and whether its P is within the time
+  abbrev component-of : Part → Component
+  component-of p = p .component
+
+  abbrev ratio-by : Component → ℕ
+  ratio-by c = ratio-of g (c .preference)
+
+  abbrev within : Component → Bool
+  within c = leb (c .p * ratio-by c) last-tick
+
+  parts-there : AllTests x → every (part-fits n g t) (x .parts) ≡ true
+  unfolding periods-fit ratios component-ratio table-of
+  parts-there f =
+      let ps = x .parts in
+      let components = sym (every-map (component-fits n) component-of ps) ∙ f .components in
+      let rated = sym (same-map (λ (p : Part). p .ratio) ratio-by component-of ps) ∙ f .ratios in
+      let periods = sym (every-map within component-of ps) ∙ f .periods in
       every-intro (part-fits n g t) ps blank-part
       (λ i below.
-      gathered n g t (part-at ps i) (every-at fits ps blank-part i c below) (every-at rated ps blank-part i r below)
-      (every-at timed ps blank-part i q below) (every-at (state-fits t) ps blank-part i states below))
+      gathered n g t (part-at ps i)
+      (record {
+        component = every-at (λ (p : Part). component-fits n (p .component)) ps blank-part i components below;
+        ratio = every-at (λ (p : Part). eqb (p .ratio) (ratio-by (p .component))) ps blank-part i rated below;
+        period = every-at (λ (p : Part). within (p .component)) ps blank-part i periods below;
+        state = every-at (state-fits t) ps blank-part i (f .states) below;
+      }))
 
-  all-apart :
-      every (part-fits n g t) ps ≡ true →
-      (((every (component-fits n) (map (λ (p : Part). p .component) ps) ≡ true) ×
-      (same (map (λ (p : Part). p .ratio) ps) (map (λ (c : Component). ratio-of g (c .preference)) (map (λ (p : Part). p .component) ps)) ≡ true)) ×
-      (every (λ (c : Component). leb (c .p * ratio-of g (c .preference)) last-tick) (map (λ (p : Part). p .component) ps) ≡ true)) ×
-      (every (state-fits t) ps ≡ true)
-  all-apart h =
-      let c = every-intro fits ps blank-part (λ i below. apart n g t (part-at ps i) (every-at (part-fits n g t) ps blank-part i h below) .0 .0 .0) in
-      let r = every-intro rated ps blank-part (λ i below. apart n g t (part-at ps i) (every-at (part-fits n g t) ps blank-part i h below) .0 .0 .1) in
-      let q = every-intro timed ps blank-part (λ i below. apart n g t (part-at ps i) (every-at (part-fits n g t) ps blank-part i h below) .0 .1) in
-      let s = every-intro (state-fits t) ps blank-part (λ i below. apart n g t (part-at ps i) (every-at (part-fits n g t) ps blank-part i h below) .1) in (
-        (
-          (
-            every-map (component-fits n) (λ (p : Part). p .component) ps ∙ c,
-            same-map (λ (p : Part). p .ratio) (λ (c : Component). ratio-of g (c .preference)) (λ (p : Part). p .component) ps ∙ r,
-          ),
-          every-map (λ (c : Component). leb (c .p * ratio-of g (c .preference)) last-tick) (λ (p : Part). p .component) ps ∙ q,
-        ),
-        s,
-      )
+  parts-back : every (part-fits n g t) (x .parts) ≡ true → AllTests x
+  unfolding periods-fit ratios component-ratio table-of
+  parts-back h =
+      let ps = x .parts in
+      let one : (i : ℕ) → i < length ps → PartTests n g t (part-at ps i) =
+      λ i below. apart n g t (part-at ps i) (every-at (part-fits n g t) ps blank-part i h below) in
+      record {
+        components =
+            every-map (component-fits n) component-of ps ∙
+            every-intro (λ (p : Part). component-fits n (p .component)) ps blank-part (λ i below. one i below .component);
+        ratios =
+            same-map (λ (p : Part). p .ratio) ratio-by component-of ps ∙
+            every-intro (λ (p : Part). eqb (p .ratio) (ratio-by (p .component))) ps blank-part (λ i below. one i below .ratio);
+        periods =
+            every-map within component-of ps ∙
+            every-intro (λ (p : Part). within (p .component)) ps blank-part (λ i below. one i below .period);
+        states = every-intro (state-fits t) ps blank-part (λ i below. one i below .state);
+      }
 
--- the tests of the code
+-- the tests of the code from the last to the first: the order of the parts, each part, the master's magnitude, the point
+unfoldable pub order-holds : Model → Bool
+order-holds x = ordered (table-of x .parts) && same (x .order) (part-order (table-of x .parts))
+
+unfoldable pub parts-hold : (n g : ℕ) → Model → Bool
+parts-hold n g x = every (part-fits n g (tick (x .point))) (x .parts) && order-holds x
+
+unfoldable pub magnitude-holds : (n g : ℕ) → Model → Bool
+magnitude-holds n g x = magnitude-known g && parts-hold n g x
+
 unfoldable pub tests : ℕ → Model → Bool
-tests n x =
-    in-time (x .point) && magnitude-known (magnitude-of (table-of x)) &&
-    every (part-fits n (magnitude-of (table-of x)) (tick (x .point))) (x .parts) &&
-    (ordered (table-of x .parts) && same (x .order) (part-order (table-of x .parts)))
+tests n x = in-time (x .point) && magnitude-holds n (magnitude-of (table-of x)) x
 
--- what they come to, by what each came to
-pub tested :
-    (n g : ℕ) (x : Model) (time known parts order : Bool) → g ≡ magnitude-of (table-of x) → in-time (x .point) ≡ time →
-    magnitude-known g ≡ known → every (part-fits n g (tick (x .point))) (x .parts) ≡ parts →
-    (ordered (table-of x .parts) && same (x .order) (part-order (table-of x .parts))) ≡ order →
-    tests n x ≡ (time && known && parts && order)
+-- each by the answer of its first test, and those behind it
+pub tests-by : (n : ℕ) (x : Model) (time : Bool) → time ≡ in-time (x .point) → tests n x ≡ (time && magnitude-holds n (magnitude-of (table-of x)) x)
 unfolding tests
-tested n g x time known parts order master e f h k = rw (← master, e, f, h, k)
+tests-by n x time e = rw e
 
--- the tests of all parts of a model
-parts-there :
-    (x : Model) → every (component-fits (length (table-of x .parts))) (table-of x .parts) ≡ true →
-    same (map (λ (p : Part). p .ratio) (x .parts)) (ratios (table-of x)) ≡ true → periods-fit (table-of x) ≡ true →
-    every (state-fits (tick (x .point))) (x .parts) ≡ true →
-    every (part-fits (length (table-of x .parts)) (magnitude-of (table-of x)) (tick (x .point))) (x .parts) ≡ true
-unfolding periods-fit ratios component-ratio table-of
-parts-there x a b c d = all-gathered (length (table-of x .parts)) (magnitude-of (table-of x)) (tick (x .point)) (x .parts) a b c d
+pub magnitude-by :
+    (n g : ℕ) (x : Model) (known : Bool) → g ≡ magnitude-of (table-of x) → known ≡ magnitude-known g →
+    magnitude-holds n (magnitude-of (table-of x)) x ≡ (known && parts-hold n g x)
+unfolding magnitude-holds
+magnitude-by n g x known master e = rw (e, ← master)
 
-parts-back :
-    (x : Model) → every (part-fits (length (table-of x .parts)) (magnitude-of (table-of x)) (tick (x .point))) (x .parts) ≡ true →
-    (((every (component-fits (length (table-of x .parts))) (table-of x .parts) ≡ true) ×
-    (same (map (λ (p : Part). p .ratio) (x .parts)) (ratios (table-of x)) ≡ true)) ×
-    (periods-fit (table-of x) ≡ true)) ×
-    (every (state-fits (tick (x .point))) (x .parts) ≡ true)
-unfolding periods-fit ratios component-ratio table-of
-parts-back x h = all-apart (length (table-of x .parts)) (magnitude-of (table-of x)) (tick (x .point)) (x .parts) h
+pub parts-by :
+    (n g : ℕ) (x : Model) (fit : Bool) → fit ≡ every (part-fits n g (tick (x .point))) (x .parts) → parts-hold n g x ≡ (fit && order-holds x)
+unfolding parts-hold
+parts-by n g x fit e = rw e
+
+-- of a test and those behind it: these are left where it holds, and where it fails all fail
+pub passed : (all first others : Bool) → all ≡ (first && others) → first ≡ true → all ≡ others
+passed all first others e h = rw h at e
+
+pub failed : (all first others : Bool) → all ≡ (first && others) → first ≡ false → false ≡ all
+failed all first others e h = sym (rw h at e)
 
 -- a model with as many parts as it says, and neither none nor too many, is sound where it passes them
 module _ (x : Model) (counted : x .count ≡ length (x .parts)) (some : 1 ≤ length (table-of x .parts)) (few : length (table-of x .parts) ≤ most-parts) where
   there : sound x ≡ true → tests (length (table-of x .parts)) x ≡ true
-  unfolding sound table-fits tests
+  unfolding sound table-fits tests magnitude-holds parts-hold order-holds
   there h =
       let (((((c, (((((magnitude, s), f), components), periods), order)), r), same-order), time), states) = simp and-eq-true-iff at h in
-      simp and-eq-true-iff (
-        (
-          (time, known-there (length (table-of x .parts)) (table-of x) magnitude components),
-          parts-there x components r periods states,
-        ),
-        (order, same-order),
-      )
+      let known = known-there (length (table-of x .parts)) (table-of x) magnitude components in
+      let parts = parts-there x (record { components = components; ratios = r; periods = periods; states = states }) in
+      simp and-eq-true-iff (time, (known, (parts, (order, same-order))))
+
+  -- its table fits
+  table-back : magnitude-known (magnitude-of (table-of x)) ≡ true → AllTests x → ordered (table-of x .parts) ≡ true → table-fits (table-of x) ≡ true
+  unfolding table-fits
+  table-back known f order =
+      let magnitude = known-back (table-of x) known in
+      let least = le-leb 1 (length (table-of x .parts)) some in
+      let most = le-leb (length (table-of x .parts)) most-parts few in
+      simp and-eq-true-iff (((((magnitude, least), most), f .components), f .periods), order)
 
   back : tests (length (table-of x .parts)) x ≡ true → sound x ≡ true
-  unfolding sound table-fits tests
+  unfolding sound tests magnitude-holds parts-hold order-holds
   back h =
-      let (((time, known), parts), (order, same-order)) = simp and-eq-true-iff at h in
-      let (((components, r), periods), states) = parts-back x parts in
-      simp and-eq-true-iff (
-        (
-          (
-            (
-              (
-                eq-eqb (x .count) (length (x .parts)) counted,
-                (((((known-back (table-of x) known, le-leb 1 (length (table-of x .parts)) some), le-leb (length (table-of x .parts)) most-parts few), components), periods), order),
-              ),
-              r,
-            ),
-            same-order,
-          ),
-          time,
-        ),
-        states,
-      )
+      let (time, (known, (parts, (order, same-order)))) = simp and-eq-true-iff at h in
+      let f = parts-back x parts in
+      let as-counted = eq-eqb (x .count) (length (x .parts)) counted in
+      simp and-eq-true-iff (((((as-counted, table-back known f order), f .ratios), same-order), time), f .states)
 
-  pub sound-tests : sound x ≡ tests (length (table-of x .parts)) x
+  sound-tests : sound x ≡ tests (length (table-of x .parts)) x
   sound-tests = both-ways (sound x) (tests (length (table-of x .parts)) x) there back
 
 -- of a trimmed model, in its own places

@@ -7,7 +7,6 @@ use mathlib.Core.List.{List, map}
 use lib.ListN.{length, take}
 use lib.Dec.{eqb, leb}
 use borrow.Author.Tests.{leb-true, eq-eqb, ne-eqb}
-use Rattle.machine.specs.declared.part.Component.{Component}
 use Rattle.machine.specs.declared.part.Part.{Part}
 use Rattle.machine.specs.declared.model.Model.{Model}
 use Rattle.machine.specs.Time.{last-magnitude, magnitude-known, start}
@@ -116,7 +115,7 @@ module _ (read : TableRead) (few : read .count ≤ length (read .parts)) where
       ap (λ (n : ℕ). take n (placed .order)) same ∙ p .is ∙ sym read-order
 
   -- and it fits
-  pub accepted-fits : Ended read → end-refusal (table-read read) ≡ 0 → table-fits (table-read read) ≡ true
+  accepted-fits : Ended read → end-refusal (table-read read) ≡ 0 → table-fits (table-read read) ≡ true
   unfolding table-read
   accepted-fits e none =
       let t = table-read read in

@@ -6,7 +6,7 @@ use native.Mathlib.Numerals.{add-one}
 use mathlib.Core.Path.{_≡_, refl, sym, ap, _∙_}
 use mathlib.Core.Bool.{Bool, true, _&&_}
 use mathlib.Core.List.{List, [], _∷_, _++_, map, map-map}
-use lib.ListN.{length, getD, take, drop, length-map, drop-of-length-le}
+use lib.ListN.{length, take, drop, length-map, drop-of-length-le}
 use lib.Seq.{drop-cons, getD-take, length-take-le, take-at}
 use lib.Dec.{leb}
 use Rattle.machine.specs.declared.part.Component.{Component}
@@ -58,7 +58,7 @@ module _ (count : ℕ) (parts : List Component) (few : count ≤ length parts) w
       ap trimmed-component (getD-take count parts i blank-component h)
 
   -- a loop's turn: the components from i on are that of place i and those behind it
-  pub components-on :
+  components-on :
       (i : ℕ) → i < count →
       drop i (components count parts) ≡ trimmed-component (component-at parts i) ∷ drop (i + 1) (components count parts)
   components-on i h =
@@ -66,7 +66,7 @@ module _ (count : ℕ) (parts : List Component) (few : count ≤ length parts) w
       rw (drop-cons (components count parts) i blank-component within, component-in i h, add-one)
 
   -- and its end: none is left
-  pub components-end : (i : ℕ) → count ≤ i → drop i (components count parts) ≡ []
+  components-end : (i : ℕ) → count ≤ i → drop i (components count parts) ≡ []
   components-end i h =
       let past : length (components count parts) ≤ i = omega (arith, components-count) in
       drop-of-length-le (components count parts) past

@@ -28,7 +28,7 @@ fn end_refusal(count: usize, fit: bool, placed: usize) -> u64
     let none = refusal(count == 0, 9);
     let period = refusal(!fit, 10);
     let closed = refusal(placed < count, 11);
-    first_of(first_of(none, period), closed)
+    first_of(none, first_of(period, closed))
 }
 
 // What End comes to: document 01's number (0: accepted), the master's magnitude, and the part order.

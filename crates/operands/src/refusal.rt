@@ -20,6 +20,17 @@ ghost use lib.Dec.{eqb};
 ghost use Rattle.machine.specs.Load.{begin-refusal, known-command};
 ghost use Rattle.operands.specs.Refusals.{command-number, operands-known, part-number, placed, port-number, span-number};
 
+// The bytes of Begin, Part, Span, End and a wanted step; a Wire's, 04h, is the one left where these are told apart.
+pub const BEGIN_BYTE: u8 = 0x01;
+
+pub const PART_BYTE: u8 = 0x02;
+
+pub const SPAN_BYTE: u8 = 0x03;
+
+pub const END_BYTE: u8 = 0x05;
+
+pub const WANT_BYTE: u8 = 0x06;
+
 // A refusal's number where there is cause for it.
 pub fn refusal(cause: bool, number: u64) -> u64
     ensures { λ r. ⌜ r ≡ cond cause number 0 ⌝ }
@@ -79,7 +90,7 @@ pub fn span_refusal(count: usize, last: u32, v: u32) -> u64
     let places = refusal(count >= SPANS, 6);
     let range = refusal(!is_positive(v), 5);
     let order = refusal(v <= last, 12);
-    first_of(first_of(places, range), order)
+    first_of(places, first_of(range, order))
 }
 
 // The source of a port, of the two.
@@ -106,26 +117,26 @@ pub fn port_refusal(kind: Kind, port0: Source, port1: Source, port: u8) -> u64
 fn known_command(b: u8) -> bool
     ensures { λ r. ⌜ r ≡ known-command b ⌝ }
 {
-    if b < 1 {
+    if b < BEGIN_BYTE {
         return false;
     }
-    b <= 6
+    b <= WANT_BYTE
 }
 
 // Whether a command byte stands where it may.
 fn in_place(begun: bool, spannable: bool, b: u8) -> bool
     ensures { λ r. ⌜ r ≡ placed begun spannable b ⌝ }
 {
-    if b == 1 {
+    if b == BEGIN_BYTE {
         return !begun;
     }
-    if b == 3 {
+    if b == SPAN_BYTE {
         if begun {
             return spannable;
         }
         return false;
     }
-    if b == 6 {
+    if b == WANT_BYTE {
         return false;
     }
     begun

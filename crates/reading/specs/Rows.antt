@@ -1,10 +1,13 @@
 -- Laws of components with their rows of spans: how many they are, which stands where, one more, and one replaced. Assumes nothing.
 use Prim.Native.Nat.{ℕ, zero, suc, _<_, _≤_}
 use native.Mathlib.Omega.{arith}
-use mathlib.Core.Path.{_≡_, refl, ap}
+use mathlib.Core.Path.{_≡_, refl, ap, _∙_}
 use mathlib.Core.List.{List, [], _∷_, _++_}
-use lib.ListN.{length, getD, set, length-take}
+use lib.ListN.{length, getD, take, set, length-take}
+use lib.Seq.{getD-take}
 use Rattle.machine.specs.declared.part.Component.{Component}
+use Rattle.machine.specs.Model.{blank-component}
+use Rattle.machine.specs.Table.{component-at}
 use Rattle.reading.specs.declared.progress.Progress.{Progress}
 use Rattle.reading.specs.Progress.{with-row, joined, reading-of}
 
@@ -22,14 +25,23 @@ unfolding reading-of
 length-reading progress rows few = rw (length-joined, length-take) (omega arith)
 
 -- the component k has the row k
-pub joined-at : (cs : List Component) (rows : List (List ℕ)) (k : ℕ) (d e : Component) → k < length cs →
-    getD (joined cs rows) k d ≡ with-row (getD cs k e) (getD rows k [])
+joined-at : (cs : List Component) (rows : List (List ℕ)) (k : ℕ) → k < length cs →
+    component-at (joined cs rows) k ≡ with-row (component-at cs k) (getD rows k [])
 unfolding joined
-joined-at [] rows k d e here = absurd (omega arith)
-joined-at (c ∷ cs) [] zero d e here = refl
-joined-at (c ∷ cs) [] (suc k) d e here = joined-at cs [] k d e (omega arith)
-joined-at (c ∷ cs) (row ∷ rows) zero d e here = refl
-joined-at (c ∷ cs) (row ∷ rows) (suc k) d e here = joined-at cs rows k d e (omega arith)
+joined-at [] rows k here = absurd (omega arith)
+joined-at (c ∷ cs) [] zero here = refl
+joined-at (c ∷ cs) [] (suc k) here = joined-at cs [] k (omega arith)
+joined-at (c ∷ cs) (row ∷ rows) zero here = refl
+joined-at (c ∷ cs) (row ∷ rows) (suc k) here = joined-at cs rows k (omega arith)
+
+-- the part k of the reading is the progress's own, with its row
+pub reading-at : (progress : Progress) (rows : List (List ℕ)) (k : ℕ) → k < progress .count → progress .count ≤ length (progress .parts) →
+    component-at (reading-of progress rows .table .parts) k ≡ with-row (component-at (progress .parts) k) (getD rows k [])
+unfolding reading-of
+reading-at progress rows k here few =
+    let front = take (progress .count) (progress .parts) in
+    let inside : k < length front = rw length-take (omega arith) in
+    joined-at front rows k inside ∙ ap (λ c. with-row c (getD rows k [])) (getD-take (progress .count) (progress .parts) k blank-component here)
 
 -- one component more
 pub joined-added : (cs : List Component) (c : Component) (rows : List (List ℕ)) →

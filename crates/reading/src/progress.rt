@@ -61,7 +61,7 @@ fn component_of(o: PartOperands) -> Component
 }
 
 // The progress with one part more.
-pub fn with_part(progress: Progress, o: PartOperands) -> Progress
+pub(crate) fn with_part(progress: Progress, o: PartOperands) -> Progress
     requires { ⌜ progress .count < 32 ⌝ }
     ensures { λ r. ⌜ ((rows : List (List ℕ)) → reading-of r rows ≡ with-part (reading-of progress rows) (component-of o)) ⌝ }
     ensures few { λ r. ⌜ r .count ≤ 32 ⌝ }
@@ -81,7 +81,7 @@ pub fn with_part(progress: Progress, o: PartOperands) -> Progress
 }
 
 // The progress behind a Begin with this magnitude.
-pub fn with_begin(progress: Progress, e: u8) -> Progress
+pub(crate) fn with_begin(progress: Progress, e: u8) -> Progress
     ensures { λ r. ⌜ ((rows : List (List ℕ)) → reading-of r rows ≡ begun-with e) ⌝ }
     ensures few { λ r. ⌜ r .count ≤ 32 ⌝ }
 {
@@ -131,7 +131,7 @@ fn wired_component(c: Component, port: u8, source: u8) -> Component
 }
 
 // The progress with a port of the part `receiver` wired to a source.
-pub fn with_wire(progress: Progress, receiver: usize, port: u8, source: u8) -> Progress
+pub(crate) fn with_wire(progress: Progress, receiver: usize, port: u8, source: u8) -> Progress
     requires { ⌜ (receiver < progress .count) × (progress .count ≤ 32) ⌝ }
     ensures { λ r. ⌜ ((rows : List (List ℕ)) → reading-of r rows ≡ wired-reading (reading-of progress rows) receiver port source) ⌝ }
     ensures few { λ r. ⌜ r .count ≤ 32 ⌝ }
@@ -150,7 +150,7 @@ pub fn with_wire(progress: Progress, receiver: usize, port: u8, source: u8) -> P
 }
 
 // The refusal of a Wire behind this progress.
-pub fn wire_refusal(progress: Progress, source: u8, receiver: u8, port: u8) -> u64
+pub(crate) fn wire_refusal(progress: Progress, source: u8, receiver: u8, port: u8) -> u64
     requires { ⌜ progress .count ≤ 32 ⌝ }
     ensures { λ r. ⌜ ((rows : List (List ℕ)) → r ≡ wire-refusal (reading-of progress rows .table .parts) source receiver port) ⌝ }
 {

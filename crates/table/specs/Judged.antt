@@ -1,5 +1,5 @@
--- Laws of a turn: the byte of a command that is known and in place, what the answer of a turn means by its cases, and the place that a Span leaves
--- free. Assumes nothing.
+-- Laws of a turn: the byte of a command that is known and in place, what the answer of a turn means by its cases, and the place that is left
+-- for a Span. Assumes nothing.
 use Prim.Native.Nat.{ℕ, _+_, _-_, _≤_, _<_}
 use native.Mathlib.Omega.{arith}
 use mathlib.Core.Path.{_≡_, _∙_, sym, ap}
@@ -8,7 +8,7 @@ use mathlib.Core.List.{List}
 use mathlib.Core.Logic.{_⊎_, inl, inr}
 use lib.ListN.{length}
 use lib.Dec.{eqb, leb}
-use borrow.Author.Tests.{eqb-true, eqb-false, eq-eqb, ne-eqb, leb-true, leb-false}
+use borrow.Author.Tests.{eqb-true, eqb-false, eq-eqb, ne-eqb, leb-true}
 use Rattle.machine.specs.declared.part.Component.{Component}
 use Rattle.machine.specs.Model.{blank-component}
 use Rattle.machine.specs.Table.{component-at}
@@ -20,6 +20,7 @@ use Rattle.soundness.specs.Accepted.{Readable}
 use Rattle.reading.specs.declared.progress.Progress.{Progress}
 use Rattle.reading.specs.Progress.{reading-of}
 use Rattle.operands.specs.Refusals.{command-number, placed}
+use Rattle.operands.specs.Tests.{room-left}
 use Rattle.reading.specs.Rows.{length-reading}
 use Rattle.reading.specs.Spanned.{last-place}
 use Rattle.table.specs.declared.turn.TurnRead.{TurnRead}
@@ -91,11 +92,7 @@ goes-whole false x n at further then h = cc
 -- a Span that is not refused has a place
 span-left : (c : Component) (v : ℕ) → span-refusal c v ≡ 0 → length (c .spans) < 8
 unfolding span-refusal
-span-left c v h = by-test (either (leb 8 (length (c .spans))))
-  where
-    by-test : (leb 8 (length (c .spans)) ≡ true) ⊎ (leb 8 (length (c .spans)) ≡ false) → length (c .spans) < 8
-    by-test (inl e) = absurd (omega (arith, rw e at h))
-    by-test (inr e) = leb-false 8 (length (c .spans)) e
+span-left c v h = room-left 8 (length (c .spans)) _ h
 
 -- a Span that reading goes on behind finds fewer than eight spans at the last part
 span-goes-on : (bs : List ℕ) (at : ℕ) (rd : Reading) (further : ℕ) (then : Reading) → sized-command bs at rd 3 ≡ onward further then →
@@ -107,7 +104,7 @@ span-goes-on bs at rd further then h =
     span-left c v (goes-on (span-refusal c v) at (at + 5) _ further then (goes-whole (leb (at + 5) (length bs)) _ 1 at further then h))
 
 -- so that there is a place left beside the progress
-pub span-room : (bs : List ℕ) (at : ℕ) (progress : Progress) (rows : List (List ℕ)) (further : ℕ) (then : Reading) →
+span-room : (bs : List ℕ) (at : ℕ) (progress : Progress) (rows : List (List ℕ)) (further : ℕ) (then : Reading) →
     progress .count ≤ length (progress .parts) → Readable (reading-of progress rows) → 0 < progress .count →
     sized-command bs at (reading-of progress rows) 3 ≡ onward further then → Room progress
 unfolding last-part

@@ -4,8 +4,7 @@ use native.Mathlib.Omega.{arith}
 use mathlib.Core.Path.{_≡_, refl}
 use mathlib.Core.Bool.{Bool, true, false, cond}
 use mathlib.Core.List.{List}
-use lib.ListN.{length, take, length-take}
-use lib.Seq.{getD-take}
+use lib.ListN.{length}
 use Rattle.machine.specs.Model.{blank-component}
 use Rattle.machine.specs.Table.{component-at}
 use Rattle.machine.specs.Load.{is-drive, known-command}
@@ -15,7 +14,7 @@ use Rattle.soundness.specs.Accepted.{Readable}
 use Rattle.reading.specs.declared.progress.Progress.{Progress}
 use Rattle.reading.specs.Progress.{with-row, reading-of}
 use Rattle.operands.specs.Refusals.{command-number, placed}
-use Rattle.reading.specs.Rows.{joined-at, length-reading}
+use Rattle.reading.specs.Rows.{length-reading, reading-at}
 use Rattle.reading.specs.Spanned.{last-place, span-count}
 use Rattle.table.specs.Turning.{Spannable}
 
@@ -29,15 +28,10 @@ span-placed false spannable b e h = absurd (omega (arith, rw e at h))
 -- the last part counts as many spans as in the reading
 pub counts-as : (progress : Progress) (rows : List (List ℕ)) → 0 < progress .count → progress .count ≤ length (progress .parts) →
     component-at (reading-of progress rows .table .parts) (last-place progress) .«span_count» ≡ span-count progress
-unfolding reading-of with-row
+unfolding with-row
 counts-as progress rows some few =
-    let k = last-place progress in
-    let here : k < progress .count = omega arith in
-    let inside : k < length (take (progress .count) (progress .parts)) = rw length-take (omega arith) in
-    rw (
-      joined-at (take (progress .count) (progress .parts)) rows k blank-component blank-component inside,
-      getD-take (progress .count) (progress .parts) k blank-component here,
-    )
+    let here : last-place progress < progress .count = omega arith in
+    rw (reading-at progress rows (last-place progress) here few)
 
 -- places of a drive or another
 places-most : (drive : Bool) (n : ℕ) → n ≤ cond drive 8 0 → n ≤ 8

@@ -6,6 +6,7 @@ use machine::part::Component;
 use machine::part::Kind;
 use machine::part::SPANS;
 use machine::part::Source;
+use operands::refusal::END_BYTE;
 use reading::progress::Progress;
 ghost use Prim.Native.Nat.{ℕ, _≤_};
 ghost use mathlib.Core.Path.{_≡_};
@@ -127,7 +128,7 @@ pub fn read_table(s: &[u8]) -> TableRead
         if found.number != 0 {
             return refused_read(found.number, found.position);
         }
-        if found.byte == 5 {
+        if found.byte == END_BYTE {
             return ended_read(at, progress, rows);
         }
         let next = rows_behind(rows, progress, found.byte, found.span);

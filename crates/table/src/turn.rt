@@ -1,6 +1,10 @@
 // One command of a table in its turn, behind the progress and the rows of spans beside it. Its contracts cite `specs/Turning.antt` and `specs/Turned.antt`.
 use machine::model::PARTS;
 use machine::part::SPANS;
+use operands::refusal::BEGIN_BYTE;
+use operands::refusal::END_BYTE;
+use operands::refusal::PART_BYTE;
+use operands::refusal::SPAN_BYTE;
 use operands::refusal::command_refusal;
 use reading::command::SpanStep;
 use reading::command::begin;
@@ -42,17 +46,17 @@ fn command(s: &[u8], at: usize, progress: Progress, rows: [[u32; SPANS]; PARTS],
         sized-command (now (s .entry)) at (reading-of progress rows) b ⌝ }
     ensures few { λ r. ⌜ r .step .progress .count ≤ 32 ⌝ }
 {
-    if b == 3 {
+    if b == SPAN_BYTE {
         return span_beside(s, at, progress, rows);
     }
-    if b == 1 {
+    if b == BEGIN_BYTE {
         let step = begin(s, at, progress);
         return SpanStep {
             span: 0,
             step: step,
         };
     }
-    if b == 2 {
+    if b == PART_BYTE {
         let step = part(s, at, progress);
         return SpanStep {
             span: 0,
@@ -76,7 +80,7 @@ pub(crate) fn rows_behind(
     requires { ⌜ (progress .count ≤ 32) × (b ≡ 3 → Room progress) ⌝ }
     ensures { λ r. ⌜ r ≡ rows-behind b progress rows v ⌝ }
 {
-    if b != 3 {
+    if b != SPAN_BYTE {
         return rows;
     }
     let k = progress.count - 1;
@@ -99,7 +103,7 @@ fn placed(s: &[u8], at: usize, progress: Progress, rows: [[u32; SPANS]; PARTS], 
     requires { ⌜ (at < length (now s)) × (progress .count ≤ 32) × (0 < b) × (b ≤ 5) × (b ≡ 3 → Spannable progress) ⌝ }
     ensures { λ r. ⌜ Placed (now (s .entry)) at progress rows b r ⌝ }
 {
-    if b == 5 {
+    if b == END_BYTE {
         return TurnRead {
             number: 0,
             position: at,

@@ -23,6 +23,10 @@ Inv-loop magnitude m t i₀ i =
 abbrev μ-loop : tie.MeasureT-loop
 μ-loop magnitude m t i₀ i = m .count - i
 
+-- there are places for as many parts as the model says
+few : (c : tie.Start Inv-loop μ-loop) → c .args .t1 .count ≤ length (c .args .t1 .parts)
+few c = omega (arith, c .pre .0, simp length-map at (c .good .0))
+
 -- a turn's question of the part i, and the rest after it
 turn : (c : tie.After-part-fits Inv-loop μ-loop) →
     let test = c .before .before in
@@ -36,8 +40,7 @@ turn c =
     let m = start .args .t1 in
     let i = test .before .loop .i in
     let f : Part → Bool = part-fits (m .count) (start .args .magnitude) (tick (m .point)) in
-    let few : m .count ≤ length (m .parts) = omega (arith, start .pre .0, simp length-map at (start .good .0)) in
-    test .before .loop .inv ∙ parts-on m few f i (test .loop-test .taken) ∙
+    test .before .loop .inv ∙ parts-on m (few start) f i (test .loop-test .taken) ∙
     ap (λ (b : Bool). b && every f (drop (i + 1) (trimmed m .parts))) (sym (c .part-fits .ensures))
 
 loop-holds : tie.Need-loop-holds Inv-loop μ-loop
@@ -71,8 +74,7 @@ returns-2 c =
     let start = c .before .before .before .before in
     let m = start .args .t1 in
     let f : Part → Bool = part-fits (m .count) (start .args .magnitude) (tick (m .point)) in
-    let few : m .count ≤ length (m .parts) = omega (arith, start .pre .0, simp length-map at (start .good .0)) in
-    let past : length (trimmed m .parts) ≤ c .before .loop .i = rw (parts-count m few) (c .loop-test .left) in
+    let past : length (trimmed m .parts) ≤ c .before .loop .i = rw (parts-count m (few start)) (c .loop-test .left) in
     sym (c .before .loop .inv ∙ every-end f (trimmed m .parts) (c .before .loop .i) past)
 
 pub parts-fit-spec : {M : Type 1} → statement M

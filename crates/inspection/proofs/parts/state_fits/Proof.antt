@@ -6,18 +6,21 @@ use mir.Val.{SFits}
 use mir.ValLaws.{toZ-ofZ}
 use borrow.Author.Needs.{needs}
 use borrow.Author.Tests.{eq-eqb, ne-eqb, not-true, not-false}
+use Rattle.machine.specs.declared.part.State.{State}
 use Rattle.machine.specs.Signal.{is-value}
 use Rattle.inspection.specs.Parts.{state-holds}
 use Rattle.inspection.proofs.parts.state_fits.Statement.{statement}
 use Rattle.inspection.proofs.parts.state_fits.Tie as tie
 
--- what `is_value` answered of the held number, which was passed as its bits
-held : (c : tie.After-is-value) →
-    is-value (c .before .before .before .before .before .before .before .args .state .held) ≡ c .is-value .result
+-- the state that is tested
+abbrev tested : tie.After-is-value → State
+tested c = c .before .before .before .before .before .before .before .args .state
+
+-- what `is_value` answered of its held number, which was passed as its bits
+held : (c : tie.After-is-value) → is-value (tested c .held) ≡ c .is-value .result
 held c =
-    let state = c .before .before .before .before .before .before .before .args .state in
-    let fits : SFits w64 (state .held) = record { sfits = omega arith } in
-    sym (simp (toZ-ofZ w64 (state .held) fits) at (c .is-value .ensures))
+    let fits : SFits w64 (tested c .held) = record { sfits = omega arith } in
+    sym (simp (toZ-ofZ w64 (tested c .held) fits) at (c .is-value .ensures))
 
 local-requires : tie.Need-local-requires
 local-requires c κs = search needs
@@ -32,13 +35,13 @@ is-value-requires c κs = search needs
 returns-2 : tie.Need-returns-2
 unfolding state-holds
 returns-2 c =
-    let second = c .before in
-    let first = second .before .before in
+    let value = c .before in
+    let counted = value .before .before in
     simp (
-      sym (first .before .before .before .local2 .ensures),
-      eq-eqb _ _ (first .if1 .left),
-      held second,
-      not-true (second .is-value .result) (c .if2 .taken),
+      sym (counted .before .before .before .local2 .ensures),
+      eq-eqb _ _ (counted .if1 .left),
+      held value,
+      not-true (value .is-value .result) (c .if2 .taken),
     )
 
 is-signal-requires : tie.Need-is-signal-requires
@@ -47,16 +50,16 @@ is-signal-requires c κs = search needs
 returns-3 : tie.Need-returns-3
 unfolding state-holds
 returns-3 c =
-    let third = c .before in
-    let second = third .before .before in
-    let first = second .before .before in
+    let signal = c .before in
+    let value = signal .before .before in
+    let counted = value .before .before in
     simp (
-      sym (first .before .before .before .local2 .ensures),
-      eq-eqb _ _ (first .if1 .left),
-      held second,
-      not-false (second .is-value .result) (third .before .if2 .left),
-      sym (third .is-signal .ensures),
-      not-true (third .is-signal .result) (c .if3 .taken),
+      sym (counted .before .before .before .local2 .ensures),
+      eq-eqb _ _ (counted .if1 .left),
+      held value,
+      not-false (value .is-value .result) (signal .before .if2 .left),
+      sym (signal .is-signal .ensures),
+      not-true (signal .is-signal .result) (c .if3 .taken),
     )
 
 is-signal-requires-2 : tie.Need-is-signal-requires-2
@@ -65,16 +68,16 @@ is-signal-requires-2 c κs = search needs
 returns-4 : tie.Need-returns-4
 unfolding state-holds
 returns-4 c =
-    let third = c .before .before in
-    let second = third .before .before in
-    let first = second .before .before in
+    let signal = c .before .before in
+    let value = signal .before .before in
+    let counted = value .before .before in
     simp (
-      sym (first .before .before .before .local2 .ensures),
-      eq-eqb _ _ (first .if1 .left),
-      held second,
-      not-false (second .is-value .result) (third .before .if2 .left),
-      sym (third .is-signal .ensures),
-      not-false (third .is-signal .result) (c .before .if3 .left),
+      sym (counted .before .before .before .local2 .ensures),
+      eq-eqb _ _ (counted .if1 .left),
+      held value,
+      not-false (value .is-value .result) (signal .before .if2 .left),
+      sym (signal .is-signal .ensures),
+      not-false (signal .is-signal .result) (c .before .if3 .left),
       sym (c .is-signal2 .ensures),
     )
 

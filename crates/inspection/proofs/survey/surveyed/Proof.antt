@@ -1,11 +1,12 @@
 -- `surveyed` finds the master's magnitude of the trimmed model, and the direct sources of the parts in use. The loop's invariant: that magnitude is the
 -- one of what was found so far and the preferences from i on; the first i places have the direct sources, and the places behind are as they were. The
 -- measure is what is left of the count.
-use Prim.Native.Nat.{ℕ, zero, suc, _+_, _-_, _≤_, _<_}
+use Prim.Native.Nat.{ℕ, _+_, _-_, _≤_, _<_}
 use native.Mathlib.Omega.{arith}
 use mathlib.Core.Path.{_≡_, _∙_, refl, sym, ap}
-use mathlib.Core.List.{List, [], _∷_, _++_, map}
+use mathlib.Core.List.{List, _++_, map}
 use lib.ListN.{length, length-map, take, drop}
+use lib.Seq.{length-take-le, take-at}
 use Rattle.machine.specs.declared.part.Part.{Part}
 use Rattle.machine.specs.Model.{blank-part, trimmed}
 use Rattle.machine.specs.Time.{master-magnitude}
@@ -29,9 +30,7 @@ abbrev μ-loop : tie.MeasureT-loop
 
 -- the front of a list whose first n elements are those of l, mapped
 front : (f : Part → Direct) (l : List Part) (r : List Direct) (n : ℕ) → n ≤ length l → take n (map f (take n l) ++ r) ≡ map f (take n l)
-front f l r zero h = refl
-front f [] r (suc n) h = absurd (omega arith)
-front f (x ∷ xs) r (suc n) h = ap (λ t. f x ∷ t) (front f xs r n (omega arith))
+front f l r n h = take-at (map f (take n l)) r n (length-map (take n l) f ∙ length-take-le n l h)
 
 loop-holds : tie.Need-loop-holds Inv-loop μ-loop
 loop-holds c = (omega arith, (refl, refl))

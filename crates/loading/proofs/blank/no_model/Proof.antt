@@ -1,5 +1,4 @@
 -- `no_model` is the definition: each place holds a part with all of it 0.
-use mathlib.Core.Path.{refl}
 use Rattle.loading.specs.Blank.{blank-model}
 use borrow.Author.Needs.{needs}
 use Rattle.loading.proofs.blank.no_model.Statement.{statement}

@@ -1,5 +1,4 @@
 -- `refused` is the definition.
-use mathlib.Core.Path.{refl}
 use Rattle.loading.specs.Blank.{refused-blank}
 use borrow.Author.Needs.{needs}
 use Rattle.loading.proofs.blank.refused.Statement.{statement}

@@ -1,24 +1,11 @@
 -- `end_refusal` is the definition: the first of its three refusals.
-use Prim.Native.Nat.{ℕ}
-use mathlib.Core.Path.{_≡_, refl}
-use mathlib.Core.Bool.{Bool, true, false, cond, not}
-use lib.Dec.{eqb, leb}
-use Rattle.operands.specs.Tests.{above}
+use mathlib.Core.Bool.{cond, not}
+use lib.Dec.{eqb, leb, ltb}
+use Rattle.operands.specs.Tests.{above, cond-not, first-refusal}
 use Rattle.loading.specs.Ending.{end-number}
 use borrow.Author.Needs.{needs}
 use Rattle.loading.proofs.ending.end_refusal.Statement.{statement}
 use Rattle.loading.proofs.ending.end_refusal.Tie as tie
-
--- the first of the three refusals is the definition's
-in-order : (none fit all : Bool) →
-    _≡_ {A = ℕ}
-    (cond (eqb (cond (eqb (cond none 9 0) 0) (cond (not fit) 10 0) (cond none 9 0)) 0) (cond (not all) 11 0)
-    (cond (eqb (cond none 9 0) 0) (cond (not fit) 10 0) (cond none 9 0)))
-    (cond none 9 (cond fit (cond all 0 11) 10))
-in-order true fit all = refl
-in-order false true true = refl
-in-order false true false = refl
-in-order false false all = refl
 
 refusal-requires : tie.Need-refusal-requires
 refusal-requires c κs = search needs
@@ -39,14 +26,20 @@ returns : tie.Need-returns
 unfolding end-number
 returns c =
     let args = c .before .before .before .before .before .args in
+    let fit = args .fit in
+    let closed = ltb (args .placed) (args .count) in
     rw (
       c .first-of2 .ensures,
       c .before .first-of .ensures,
       c .before .before .refusal3 .ensures,
       c .before .before .before .refusal2 .ensures,
       c .before .before .before .before .refusal .ensures,
+      first-refusal (not fit) 9 (cond closed 11 0),
+      cond-not fit 10 (cond closed 11 0),
+      first-refusal (eqb (args .count) 0) 8 (cond fit (cond closed 11 0) 10),
       above (args .placed) (args .count),
-    ) (in-order (eqb (args .count) 0) (args .fit) (leb (args .count) (args .placed)))
+      cond-not (leb (args .count) (args .placed)) 11 0,
+    )
 
 pub end-refusal-spec : {M : Type 1} → statement M
 end-refusal-spec =

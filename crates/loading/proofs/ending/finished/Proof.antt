@@ -41,27 +41,27 @@ refused-requires-2 c κs = search needs
 
 returns-2 : tie.Need-returns-2
 returns-2 c =
-    let judged = c .before .before in
-    let read = judged .before .before .args .read in
-    refusal (c .refused2 .result) _ (judged .judged .result .number) (read .position) (c .refused2 .ensures)
-    (refused-at-end read (judged .judged .result .number) (judged .before .if1 .left) (judged .judged .ensures .number) (c .before .if2 .taken))
+    let at-end = c .before .before in
+    let read = at-end .before .before .args .read in
+    refusal (c .refused2 .result) _ (at-end .judged .result .number) (read .position) (c .refused2 .ensures)
+    (refused-at-end read (at-end .judged .result .number) (at-end .before .if1 .left) (at-end .judged .ensures .number) (c .before .if2 .taken))
 
 accept-requires : tie.Need-accept-requires
 accept-requires c κs =
-    let judged = c .before in
-    let none = judged .before .if1 .left in
-    let start = judged .before .before in
+    let at-end = c .before in
+    let none = at-end .before .if1 .left in
+    let start = at-end .before .before in
     let read = start .args .read in
     let ended = start .pre .0 none in
     let few : read .count ≤ length (read .parts) = omega (arith, ended .few, simp length-map at (start .good .0)) in
-    acceptable read few (judged .judged .result) ended none (start .pre .1) (judged .judged .ensures) (c .if2 .left)
+    acceptable read few (at-end .judged .result) ended none (start .pre .1) (at-end .judged .ensures) (c .if2 .left)
 
 returns-3 : tie.Need-returns-3
 returns-3 c =
-    let judged = c .before .before in
-    let read = judged .before .before .args .read in
+    let at-end = c .before .before in
+    let read = at-end .before .before .args .read in
     acceptance (c .accept .result) _ (read .position) _ (c .accept .ensures)
-    (accepted-at-end read (judged .judged .result .number) (judged .before .if1 .left) (judged .judged .ensures .number) (c .before .if2 .left))
+    (accepted-at-end read (at-end .judged .result .number) (at-end .before .if1 .left) (at-end .judged .ensures .number) (c .before .if2 .left))
 
 pub finished-spec : {M : Type 1} → statement M
 finished-spec =

@@ -11,6 +11,10 @@ use borrow.Author.Needs.{needs}
 use Rattle.loading.proofs.ending.judged.Statement.{statement}
 use Rattle.loading.proofs.ending.judged.Tie as tie
 
+-- there are places for as many parts as were read
+few : (c : tie.Start) → c .args .read .count ≤ length (c .args .read .parts)
+few c = omega (arith, c .pre .few, simp length-map at (c .good .0))
+
 -- the magnitude found is that of the table
 magnitude-found : (c : tie.After-master-magnitude) → c .master-magnitude .result ≡ magnitude-of (table-read (c .before .before .args .read))
 unfolding table-read table-in components
@@ -23,8 +27,7 @@ periods-fit-requires : tie.Need-periods-fit-requires
 periods-fit-requires c κs =
     let start = c .before .before in
     let read = start .args .read in
-    let few : read .count ≤ length (read .parts) = omega (arith, start .pre .few, simp length-map at (start .good .0)) in
-    (start .pre .few, rw (magnitude-found c) (magnitude-small read few (start .pre)))
+    (start .pre .few, rw (magnitude-found c) (magnitude-small read (few start) (start .pre)))
 
 place-requires : tie.Need-place-requires
 place-requires c κs = search needs
@@ -39,14 +42,13 @@ returns c =
     let magnitude = periods .before in
     let start = magnitude .before .before in
     let read = start .args .read in
-    let few : read .count ≤ length (read .parts) = omega (arith, start .pre .few, simp length-map at (start .good .0)) in
     let number =
-    judged-number read few (magnitude .master-magnitude .result) (periods .periods-fit .result) (place .place .result) (c .before .end-refusal .result)
+    judged-number read (few start) (magnitude .master-magnitude .result) (periods .periods-fit .result) (place .place .result) (c .before .end-refusal .result)
     (magnitude-found magnitude) (periods .periods-fit .ensures) (place .place .ensures) (c .before .end-refusal .ensures) in
     record {
       number = number;
       magnitude = magnitude-found magnitude;
-      order = λ none. judged-order read few (place .place .result) (place .place .ensures) (sym number ∙ none);
+      order = λ none. judged-order read (few start) (place .place .result) (place .place .ensures) (sym number ∙ none);
     }
 
 pub judged-spec : {M : Type 1} → statement M

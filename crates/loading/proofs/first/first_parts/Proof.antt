@@ -1,6 +1,6 @@
 -- `first_parts` puts the first part of each component into its place. The loop's invariant: the first i places hold the first parts of their
 -- components, and the places behind are as they were. The measure is what is left of the count.
-use Prim.Native.Nat.{ℕ, _-_, _≤_, _<_}
+use Prim.Native.Nat.{_-_, _≤_, _<_}
 use native.Mathlib.Omega.{arith}
 use mathlib.Core.Path.{_≡_, refl, ap, ap₂, _∙_}
 use mathlib.Core.List.{List, map, _++_}

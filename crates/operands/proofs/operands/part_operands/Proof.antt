@@ -1,10 +1,71 @@
--- `part_operands` reads five operands in a row. Where one is cut, the stream ends before the last; else each stands where the cursors before it lead.
+-- `part_operands` reads five operands in a row. Each stands where those before it end, by their widths, and the bytes up to there are in the stream. Where one
+-- is cut, the stream ends before the last.
+use Prim.Native.Nat.{ℕ, _+_}
 use native.Mathlib.Omega.{arith}
-use mathlib.Core.Path.{_∙_, ap}
+use mathlib.Core.Path.{_≡_, _∙_, ap}
+use mathlib.Core.List.{List}
 use borrow.Author.Needs.{needs}
 use Rattle.machine.specs.Load.{byte-at, word-at}
+use Rattle.operands.specs.Operands.{Behind}
 use Rattle.operands.proofs.operands.part_operands.Statement.{statement}
 use Rattle.operands.proofs.operands.part_operands.Tie as tie
+
+-- the stream, and where the operands begin
+abbrev bytes : tie.After-kind → List ℕ
+bytes c = c .before .before .before .before .args .s .now
+
+abbrev from : tie.After-kind → ℕ
+from c = c .before .before .before .before .args .c .at
+
+-- the place of each operand, from that of the one behind it
+abbrev at-kind : tie.After-preference → tie.After-kind
+at-kind c = c .before .before .before .before
+
+abbrev at-preference : tie.After-a → tie.After-preference
+at-preference c = c .before .before .before .before
+
+abbrev at-a : tie.After-b → tie.After-a
+at-a c = c .before .before .before .before
+
+abbrev at-b : tie.After-p → tie.After-b
+at-b c = c .before .before .before .before
+
+-- each operand is the one so many bytes behind the first, and the cursor stands behind it
+kind-read : (c : tie.After-kind) →
+    Behind (bytes c) (from c) 1 (c .kind .given .0 .1 .0) × (c .kind .given .0 .0 ≡ byte-at (bytes c) (from c))
+kind-read c = rw (c .kind .given .1) at (c .before .before .byte .ensures)
+
+preference-read : (c : tie.After-preference) →
+    let start = at-kind c in
+    Behind (bytes start) (from start) 2 (c .preference .given .0 .1 .0) × (c .preference .given .0 .0 ≡ byte-at (bytes start) (from start + 1))
+preference-read c =
+    let before = kind-read (at-kind c) .0 in
+    let read = rw (c .preference .given .1) at (c .before .before .byte2 .ensures) in
+    (record { whole = omega arith; next = omega arith }, read .1 ∙ ap (byte-at _) (omega arith))
+
+a-read : (c : tie.After-a) →
+    let start = at-kind (at-preference c) in
+    Behind (bytes start) (from start) 6 (c .a .given .0 .1 .0) × (c .a .given .0 .0 ≡ word-at (bytes start) (from start + 2))
+a-read c =
+    let before = preference-read (at-preference c) .0 in
+    let read = rw (c .a .given .1) at (c .before .before .word .ensures) in
+    (record { whole = omega arith; next = omega arith }, read .1 ∙ ap (word-at _) (omega arith))
+
+b-read : (c : tie.After-b) →
+    let start = at-kind (at-preference (at-a c)) in
+    Behind (bytes start) (from start) 10 (c .b .given .0 .1 .0) × (c .b .given .0 .0 ≡ word-at (bytes start) (from start + 6))
+b-read c =
+    let before = a-read (at-a c) .0 in
+    let read = rw (c .b .given .1) at (c .before .before .word2 .ensures) in
+    (record { whole = omega arith; next = omega arith }, read .1 ∙ ap (word-at _) (omega arith))
+
+p-read : (c : tie.After-p) →
+    let start = at-kind (at-preference (at-a (at-b c))) in
+    Behind (bytes start) (from start) 14 (c .p .given .0 .1 .0) × (c .p .given .0 .0 ≡ word-at (bytes start) (from start + 10))
+p-read c =
+    let before = b-read (at-b c) .0 in
+    let read = rw (c .p .given .1) at (c .before .before .word3 .ensures) in
+    (record { whole = omega arith; next = omega arith }, read .1 ∙ ap (word-at _) (omega arith))
 
 byte-requires : tie.Need-byte-requires
 byte-requires c κs = search needs
@@ -31,8 +92,7 @@ enum-told-2 c = search needs
 
 returns-2 : tie.Need-returns-2
 returns-2 c =
-    let kind-place = c .before .before .before .before in
-    let kind = rw (kind-place .kind .given .1) at (kind-place .before .before .byte .ensures) in
+    let before = kind-read (c .before .before .before .before) .0 in
     let cut = rw (c .enum-told2 .given .1) at (c .before .before .byte2 .ensures) in
     omega arith
 
@@ -47,10 +107,7 @@ enum-told-3 c = search needs
 
 returns-3 : tie.Need-returns-3
 returns-3 c =
-    let preference-place = c .before .before .before .before in
-    let kind-place = preference-place .before .before .before .before in
-    let kind = rw (kind-place .kind .given .1) at (kind-place .before .before .byte .ensures) in
-    let preference = rw (preference-place .preference .given .1) at (preference-place .before .before .byte2 .ensures) in
+    let before = preference-read (c .before .before .before .before) .0 in
     let cut = rw (c .enum-told3 .given .1) at (c .before .before .word .ensures) in
     omega arith
 
@@ -65,12 +122,7 @@ enum-told-4 c = search needs
 
 returns-4 : tie.Need-returns-4
 returns-4 c =
-    let a-place = c .before .before .before .before in
-    let preference-place = a-place .before .before .before .before in
-    let kind-place = preference-place .before .before .before .before in
-    let kind = rw (kind-place .kind .given .1) at (kind-place .before .before .byte .ensures) in
-    let preference = rw (preference-place .preference .given .1) at (preference-place .before .before .byte2 .ensures) in
-    let a = rw (a-place .a .given .1) at (a-place .before .before .word .ensures) in
+    let before = a-read (c .before .before .before .before) .0 in
     let cut = rw (c .enum-told4 .given .1) at (c .before .before .word2 .ensures) in
     omega arith
 
@@ -85,37 +137,24 @@ enum-told-5 c = search needs
 
 returns-5 : tie.Need-returns-5
 returns-5 c =
-    let b-place = c .before .before .before .before in
-    let a-place = b-place .before .before .before .before in
-    let preference-place = a-place .before .before .before .before in
-    let kind-place = preference-place .before .before .before .before in
-    let kind = rw (kind-place .kind .given .1) at (kind-place .before .before .byte .ensures) in
-    let preference = rw (preference-place .preference .given .1) at (preference-place .before .before .byte2 .ensures) in
-    let a = rw (a-place .a .given .1) at (a-place .before .before .word .ensures) in
-    let b = rw (b-place .b .given .1) at (b-place .before .before .word2 .ensures) in
+    let before = b-read (c .before .before .before .before) .0 in
     let cut = rw (c .enum-told5 .given .1) at (c .before .before .word3 .ensures) in
     omega arith
 
 returns-6 : tie.Need-returns-6
 returns-6 c =
-    let p-place = c .before in
-    let b-place = p-place .before .before .before .before in
-    let a-place = b-place .before .before .before .before in
-    let preference-place = a-place .before .before .before .before in
-    let kind-place = preference-place .before .before .before .before in
-    let kind = rw (kind-place .kind .given .1) at (kind-place .before .before .byte .ensures) in
-    let preference = rw (preference-place .preference .given .1) at (preference-place .before .before .byte2 .ensures) in
-    let a = rw (a-place .a .given .1) at (a-place .before .before .word .ensures) in
-    let b = rw (b-place .b .given .1) at (b-place .before .before .word2 .ensures) in
-    let p = rw (p-place .p .given .1) at (p-place .before .before .word3 .ensures) in
-    let bs = kind-place .before .before .before .before .args .s .now in (
-      record { whole = omega arith; next = omega arith },
+    let p = c .before in
+    let b = at-b p in
+    let a = at-a b in
+    let preference = at-preference a in
+    let kind = at-kind preference in (
+      p-read p .0,
       record {
-        kind = kind .1;
-        preference = preference .1 ∙ ap (byte-at bs) (omega arith);
-        a = a .1 ∙ ap (word-at bs) (omega arith);
-        b = b .1 ∙ ap (word-at bs) (omega arith);
-        p = p .1 ∙ ap (word-at bs) (omega arith);
+        kind = kind-read kind .1;
+        preference = preference-read preference .1;
+        a = a-read a .1;
+        b = b-read b .1;
+        p = p-read p .1;
       },
     )
 

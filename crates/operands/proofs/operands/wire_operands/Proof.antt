@@ -1,10 +1,49 @@
--- `wire_operands` reads three operands in a row. Where one is cut, the stream ends before the last; else each stands where the cursors before it lead.
+-- `wire_operands` reads three operands in a row. Each stands where those before it end, by their widths, and the bytes up to there are in the stream. Where one
+-- is cut, the stream ends before the last.
+use Prim.Native.Nat.{ℕ, _+_}
 use native.Mathlib.Omega.{arith}
-use mathlib.Core.Path.{_∙_, ap}
+use mathlib.Core.Path.{_≡_, _∙_, ap}
+use mathlib.Core.List.{List}
 use borrow.Author.Needs.{needs}
 use Rattle.machine.specs.Load.{byte-at}
+use Rattle.operands.specs.Operands.{Behind}
 use Rattle.operands.proofs.operands.wire_operands.Statement.{statement}
 use Rattle.operands.proofs.operands.wire_operands.Tie as tie
+
+-- the stream, and where the operands begin
+abbrev bytes : tie.After-source → List ℕ
+bytes c = c .before .before .before .before .args .s .now
+
+abbrev from : tie.After-source → ℕ
+from c = c .before .before .before .before .args .c .at
+
+-- the place of each operand, from that of the one behind it
+abbrev at-source : tie.After-receiver → tie.After-source
+at-source c = c .before .before .before .before
+
+abbrev at-receiver : tie.After-port → tie.After-receiver
+at-receiver c = c .before .before .before .before
+
+-- each operand is the one so many bytes behind the first, and the cursor stands behind it
+source-read : (c : tie.After-source) →
+    Behind (bytes c) (from c) 1 (c .source .given .0 .1 .0) × (c .source .given .0 .0 ≡ byte-at (bytes c) (from c))
+source-read c = rw (c .source .given .1) at (c .before .before .byte .ensures)
+
+receiver-read : (c : tie.After-receiver) →
+    let start = at-source c in
+    Behind (bytes start) (from start) 2 (c .receiver .given .0 .1 .0) × (c .receiver .given .0 .0 ≡ byte-at (bytes start) (from start + 1))
+receiver-read c =
+    let before = source-read (at-source c) .0 in
+    let read = rw (c .receiver .given .1) at (c .before .before .byte2 .ensures) in
+    (record { whole = omega arith; next = omega arith }, read .1 ∙ ap (byte-at _) (omega arith))
+
+port-read : (c : tie.After-port) →
+    let start = at-source (at-receiver c) in
+    Behind (bytes start) (from start) 3 (c .port .given .0 .1 .0) × (c .port .given .0 .0 ≡ byte-at (bytes start) (from start + 2))
+port-read c =
+    let before = receiver-read (at-receiver c) .0 in
+    let read = rw (c .port .given .1) at (c .before .before .byte3 .ensures) in
+    (record { whole = omega arith; next = omega arith }, read .1 ∙ ap (byte-at _) (omega arith))
 
 byte-requires : tie.Need-byte-requires
 byte-requires c κs = search needs
@@ -16,7 +55,9 @@ enum-told : tie.Need-enum-told
 enum-told c = search needs
 
 returns : tie.Need-returns
-returns c = let cut = rw (c .enum-told .given .1) at (c .before .before .byte .ensures) in omega arith
+returns c =
+    let cut = rw (c .enum-told .given .1) at (c .before .before .byte .ensures) in
+    omega arith
 
 byte-requires-2 : tie.Need-byte-requires-2
 byte-requires-2 c κs = search needs
@@ -29,8 +70,7 @@ enum-told-2 c = search needs
 
 returns-2 : tie.Need-returns-2
 returns-2 c =
-    let first = c .before .before .before .before in
-    let source = rw (first .source .given .1) at (first .before .before .byte .ensures) in
+    let before = source-read (c .before .before .before .before) .0 in
     let cut = rw (c .enum-told2 .given .1) at (c .before .before .byte2 .ensures) in
     omega arith
 
@@ -45,27 +85,20 @@ enum-told-3 c = search needs
 
 returns-3 : tie.Need-returns-3
 returns-3 c =
-    let second = c .before .before .before .before in
-    let first = second .before .before .before .before in
-    let source = rw (first .source .given .1) at (first .before .before .byte .ensures) in
-    let receiver = rw (second .receiver .given .1) at (second .before .before .byte2 .ensures) in
+    let before = receiver-read (c .before .before .before .before) .0 in
     let cut = rw (c .enum-told3 .given .1) at (c .before .before .byte3 .ensures) in
     omega arith
 
 returns-4 : tie.Need-returns-4
 returns-4 c =
-    let third = c .before in
-    let second = third .before .before .before .before in
-    let first = second .before .before .before .before in
-    let bs = first .before .before .before .before .args .s .now in
-    let source = rw (first .source .given .1) at (first .before .before .byte .ensures) in
-    let receiver = rw (second .receiver .given .1) at (second .before .before .byte2 .ensures) in
-    let port = rw (third .port .given .1) at (third .before .before .byte3 .ensures) in (
-      record { whole = omega arith; next = omega arith },
+    let port = c .before in
+    let receiver = at-receiver port in
+    let source = at-source receiver in (
+      port-read port .0,
       record {
-        source = source .1;
-        receiver = receiver .1 ∙ ap (byte-at bs) (omega arith);
-        port = port .1 ∙ ap (byte-at bs) (omega arith);
+        source = source-read source .1;
+        receiver = receiver-read receiver .1;
+        port = port-read port .1;
       },
     )
 

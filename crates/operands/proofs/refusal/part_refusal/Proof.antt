@@ -1,19 +1,11 @@
 -- `part_refusal` is the definition: the first of its two refusals.
-use mathlib.Core.Path.{_≡_, refl}
-use mathlib.Core.Bool.{Bool, true, false, cond, not}
-use lib.Dec.{eqb, leb}
+use mathlib.Core.Bool.{cond, not}
+use lib.Dec.{leb}
+use Rattle.operands.specs.Tests.{cond-not, first-refusal}
 use Rattle.operands.specs.Refusals.{part-number, operands-known}
-use Prim.Native.Nat.{ℕ}
 use borrow.Author.Needs.{needs}
 use Rattle.operands.proofs.refusal.part_refusal.Statement.{statement}
 use Rattle.operands.proofs.refusal.part_refusal.Tie as tie
-
--- the first of the two refusals is the definition's
-in-order : (full known : Bool) →
-    _≡_ {A = ℕ} (cond (eqb (cond full 6 0) 0) (cond (not known) 5 0) (cond full 6 0)) (cond full 6 (cond known 0 5))
-in-order true known = refl
-in-order false true = refl
-in-order false false = refl
 
 refusal-requires : tie.Need-refusal-requires
 refusal-requires c κs = search needs
@@ -30,13 +22,15 @@ first-of-requires c κs = search needs
 returns : tie.Need-returns
 unfolding part-number
 returns c =
-    let start = c .before .before .before .before in
+    let args = c .before .before .before .before .args in
     rw (
       c .first-of .ensures,
       c .before .refusal2 .ensures,
       c .before .before .operands-known .ensures,
       c .before .before .before .refusal .ensures,
-    ) (in-order (leb 32 (start .args .count)) (operands-known (start .args .o)))
+      first-refusal (leb 32 (args .count)) 5 (cond (not (operands-known (args .o))) 5 0),
+      cond-not (operands-known (args .o)) 5 0,
+    )
 
 pub part-refusal-spec : {M : Type 1} → statement M
 part-refusal-spec =

@@ -1,22 +1,13 @@
 -- `port_refusal` is the definition: the first of its two refusals.
-use Prim.Native.Nat.{ℕ}
-use mathlib.Core.Path.{_≡_, refl}
-use mathlib.Core.Bool.{Bool, true, false, cond, not}
+use mathlib.Core.Bool.{cond}
 use lib.Dec.{eqb, leb}
 use Rattle.machine.specs.Kind.{ports}
-use Rattle.operands.specs.Tests.{above}
+use Rattle.operands.specs.Tests.{above, cond-not, first-refusal}
 use Rattle.operands.specs.Refusals.{port-number}
 use Rattle.machine.specs.Load.{wired}
 use borrow.Author.Needs.{needs}
 use Rattle.operands.proofs.refusal.port_refusal.Statement.{statement}
 use Rattle.operands.proofs.refusal.port_refusal.Tie as tie
-
--- the first of the two refusals is the definition's
-in-order : (unknown taken : Bool) →
-    _≡_ {A = ℕ} (cond (eqb (cond unknown 7 0) 0) (cond taken 8 0) (cond unknown 7 0)) (cond (not unknown) (cond taken 8 0) 7)
-in-order true taken = refl
-in-order false true = refl
-in-order false false = refl
 
 source-of-requires : tie.Need-source-of-requires
 source-of-requires c κs = search needs
@@ -39,7 +30,8 @@ first-of-requires c κs = search needs
 returns : tie.Need-returns
 unfolding port-number
 returns c =
-    let start = c .before .before .before .before .before .before in
+    let args = c .before .before .before .before .before .before .args in
+    let taken = wired (cond (eqb (args .port) 0) (args .port0) (args .port1)) in
     rw (
       c .first-of .ensures,
       c .before .refusal2 .ensures,
@@ -47,9 +39,10 @@ returns c =
       c .before .before .before .refusal .ensures,
       c .before .before .before .before .ports-of .ensures,
       c .before .before .before .before .before .source-of .ensures,
-      above (start .args .port) (ports (start .args .kind)),
-    ) (in-order (leb (ports (start .args .kind)) (start .args .port))
-    (wired (cond (eqb (start .args .port) 0) (start .args .port0) (start .args .port1))))
+      first-refusal (leb (ports (args .kind)) (args .port)) 6 (cond taken 8 0),
+      above (args .port) (ports (args .kind)),
+      cond-not (leb (ports (args .kind)) (args .port)) (cond taken 8 0) 7,
+    )
 
 pub port-refusal-spec : {M : Type 1} → statement M
 port-refusal-spec =

@@ -2,13 +2,10 @@
 use Prim.Native.Nat.{ℕ, _<_}
 use native.Mathlib.Omega.{arith}
 use mathlib.Core.Path.{_≡_, _∙_, sym}
-use mathlib.Core.Bool.{true, false}
-use mathlib.Core.Logic.{_⊎_, inl, inr}
-use lib.Dec.{leb}
-use borrow.Author.Tests.{leb-false, ne-eqb}
-use Rattle.laws.specs.Bools.{either}
+use borrow.Author.Tests.{ne-eqb}
 use Rattle.operands.specs.declared.operands.PartOperands.{PartOperands}
 use Rattle.operands.specs.Refusals.{part-number}
+use Rattle.operands.specs.Tests.{room-left}
 use Rattle.reading.specs.Steps.{step-of}
 use borrow.Author.Needs.{needs}
 use Rattle.reading.proofs.command.part_step.Statement.{statement}
@@ -17,11 +14,7 @@ use Rattle.reading.proofs.command.part_step.Tie as tie
 -- a part that is not refused has room
 part-room : (count : ℕ) (o : PartOperands) → part-number count o ≡ 0 → count < 32
 unfolding part-number
-part-room count o none = by-test (either (leb 32 count))
-  where
-    by-test : (leb 32 count ≡ true) ⊎ (leb 32 count ≡ false) → count < 32
-    by-test (inl e) = absurd (omega (arith, rw e at none))
-    by-test (inr e) = leb-false 32 count e
+part-room count o none = room-left 32 count _ none
 
 part-refusal-requires : tie.Need-part-refusal-requires
 part-refusal-requires c κs = search needs

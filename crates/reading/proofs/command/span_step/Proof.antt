@@ -2,24 +2,18 @@
 use Prim.Native.Nat.{ℕ, _<_, _≤_}
 use native.Mathlib.Omega.{arith}
 use mathlib.Core.Path.{_≡_, _∙_, sym}
-use mathlib.Core.Bool.{true, false}
 use mathlib.Core.List.{List, []}
-use mathlib.Core.Logic.{_⊎_, inl, inr}
-use lib.Dec.{leb}
-use lib.ListN.{length, getD, take, length-map, length-take}
-use lib.Seq.{getD-take}
-use borrow.Author.Tests.{leb-false, ne-eqb}
-use Rattle.laws.specs.Bools.{either}
-use Rattle.machine.specs.Model.{blank-component}
+use lib.ListN.{length, getD, length-map, length-take}
+use borrow.Author.Tests.{ne-eqb}
 use Rattle.machine.specs.Table.{component-at}
 use Rattle.machine.specs.Load.{last-span, span-refusal}
 use Rattle.reading.specs.declared.progress.Progress.{Progress}
 use Rattle.reading.specs.Progress.{with-row, reading-of}
 use Rattle.operands.specs.Refusals.{span-number}
-use Rattle.reading.specs.Rows.{joined-at}
+use Rattle.reading.specs.Rows.{reading-at}
 use Rattle.reading.specs.Spanned.{last-of, last-place, span-count, Beside}
 use Rattle.reading.specs.Steps.{step-of}
-use Rattle.operands.specs.Tests.{at-least-min}
+use Rattle.operands.specs.Tests.{at-least-min, room-left}
 use borrow.Author.Needs.{needs}
 use Rattle.reading.proofs.command.span_step.Statement.{statement}
 use Rattle.reading.proofs.command.span_step.Tie as tie
@@ -28,14 +22,12 @@ use Rattle.reading.proofs.command.span_step.Tie as tie
 refusal-as : (progress : Progress) (rows : List (List ℕ)) (last v : ℕ) → 0 < progress .count → progress .count ≤ length (progress .parts) →
     Beside progress rows last →
     span-refusal (component-at (reading-of progress rows .table .parts) (last-place progress)) v ≡ span-number (span-count progress) last v
-unfolding reading-of with-row span-refusal span-number last-span last-of
+unfolding with-row span-refusal span-number last-span last-of
 refusal-as progress rows last v some few beside =
     let k = last-place progress in
     let here : k < progress .count = omega arith in
-    let inside : k < length (take (progress .count) (progress .parts)) = rw length-take (omega arith) in
     rw (
-      joined-at (take (progress .count) (progress .parts)) rows k blank-component blank-component inside,
-      getD-take (progress .count) (progress .parts) k blank-component here,
+      reading-at progress rows k here few,
       beside .final,
       length-take (span-count progress) (getD rows k []),
       beside .eight,
@@ -45,11 +37,20 @@ refusal-as progress rows last v some few beside =
 -- a span that is not refused has room
 span-room : (count last v : ℕ) → span-number count last v ≡ 0 → count < 8
 unfolding span-number
-span-room count last v none = by-test (either (leb 8 count))
-  where
-    by-test : (leb 8 count ≡ true) ⊎ (leb 8 count ≡ false) → count < 8
-    by-test (inl e) = absurd (omega (arith, rw e at none))
-    by-test (inr e) = leb-false 8 count e
+span-room count last v none = room-left 8 count _ none
+
+-- there are places for as many parts as the progress counts
+few : (c : tie.Start) → c .args .t1 .count ≤ length (c .args .t1 .parts)
+few c = let many : length (c .args .t1 .parts) ≡ 32 = omega (arith, simp length-map at (c .good .0)) in omega arith
+
+-- the refusal that was found is the definition's
+number-as : (c : tie.After-span-refusal) (rows : List (List ℕ)) →
+    let args = c .before .before .args in
+    Beside (args .t1) rows (args .last) →
+    span-refusal (component-at (reading-of (args .t1) rows .table .parts) (last-place (args .t1))) (args .v) ≡ c .span-refusal .result
+number-as c rows beside =
+    let start = c .before .before in
+    refusal-as (start .args .t1) rows (start .args .last) (start .args .v) (start .pre .0) (few start) beside ∙ sym (c .span-refusal .ensures)
 
 sub-k : tie.Need-sub-k
 sub-k c = search needs
@@ -65,19 +66,10 @@ span-refusal-requires c κs = search needs
 
 returns : tie.Need-returns
 unfolding step-of
-returns c =
-    let start = c .before .before .before in
-    let progress = start .args .t1 in
-    let many : length (progress .parts) ≡ 32 = omega (arith, simp length-map at (start .good .0)) in
-    let few : progress .count ≤ length (progress .parts) = omega arith in (
-      λ rows at beside.
-          rw (
-            refusal-as progress rows (start .args .last) (start .args .v) (start .pre .0) few beside,
-            ← c .before .span-refusal .ensures,
-            ne-eqb _ _ (c .if1 .taken),
-          ),
-      omega arith,
-    )
+returns c = (
+  λ rows at beside. rw (number-as (c .before) rows beside, ne-eqb _ _ (c .if1 .taken)),
+  omega arith,
+)
 
 with-span-counted-requires : tie.Need-with-span-counted-requires
 with-span-counted-requires c κs =
@@ -91,14 +83,11 @@ returns-2 c =
     let start = c .before .before .before .before in
     let progress = start .args .t1 in
     let number = c .before .before .span-refusal in
-    let many : length (progress .parts) ≡ 32 = omega (arith, simp length-map at (start .good .0)) in
-    let few : progress .count ≤ length (progress .parts) = omega arith in
     let room = span-room (span-count progress) (start .args .last) (start .args .v) (sym (number .ensures) ∙ c .before .if1 .left) in (
       λ rows at beside.
           let inside : span-count progress < length (getD rows (last-place progress) []) = rw (beside .eight) room in
           rw (
-            refusal-as progress rows (start .args .last) (start .args .v) (start .pre .0) few beside,
-            ← number .ensures,
+            number-as (c .before .before) rows beside,
             c .before .if1 .left,
             c .with-span-counted .ensures .0 rows (start .args .v) (beside .there) inside,
           ),

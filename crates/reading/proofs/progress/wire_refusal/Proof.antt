@@ -3,17 +3,15 @@ use Prim.Native.Nat.{ℕ, _<_, _≤_}
 use native.Mathlib.Omega.{arith}
 use mathlib.Core.Path.{_≡_, _∙_, sym}
 use mathlib.Core.List.{List}
-use lib.ListN.{length, getD, take, length-map, length-take}
-use lib.Seq.{getD-take}
+use lib.ListN.{length, length-map}
 use borrow.Author.Tests.{lt-ltb, le-ltb}
 use Rattle.machine.specs.declared.part.Component.{Component}
-use Rattle.machine.specs.Model.{blank-component}
 use Rattle.machine.specs.Table.{component-at}
 use Rattle.machine.specs.Load.{source-of, wire-refusal}
 use Rattle.reading.specs.declared.progress.Progress.{Progress}
 use Rattle.reading.specs.Progress.{with-row, reading-of}
 use Rattle.operands.specs.Refusals.{port-number}
-use Rattle.reading.specs.Rows.{length-reading, joined-at}
+use Rattle.reading.specs.Rows.{length-reading, reading-at}
 use borrow.Author.Needs.{needs}
 use Rattle.reading.proofs.progress.wire_refusal.Statement.{statement}
 use Rattle.reading.proofs.progress.wire_refusal.Tie as tie
@@ -39,32 +37,28 @@ both-known cs n source receiver port many there here = rw (many, lt-ltb source n
 -- and these are the ports of the part in its place
 port-left : (progress : Progress) (source receiver port : ℕ) (rows : List (List ℕ)) → progress .count ≤ length (progress .parts) →
     source < progress .count → receiver < progress .count →
-    let c = getD (progress .parts) receiver blank-component in
+    let c = component-at (progress .parts) receiver in
     wire-refusal (reading-of progress rows .table .parts) source receiver port ≡ port-number (c .kind) (c .port0) (c .port1) port
-unfolding reading-of with-row
+unfolding with-row
 port-left progress source receiver port rows few there here =
-    let inside : receiver < length (take (progress .count) (progress .parts)) = rw length-take (omega arith) in
     both-known (reading-of progress rows .table .parts) (progress .count) source receiver port (length-reading progress rows few) there here ∙
-    rw (
-      joined-at (take (progress .count) (progress .parts)) rows receiver blank-component blank-component inside,
-      getD-take (progress .count) (progress .parts) receiver blank-component here,
-    )
+    rw (reading-at progress rows receiver here few)
+
+-- there are places for as many parts as the progress counts
+few : (c : tie.Start) → c .args .t1 .count ≤ length (c .args .t1 .parts)
+few c = let many : length (c .args .t1 .parts) ≡ 32 = omega (arith, simp length-map at (c .good .0)) in omega arith
 
 returns : tie.Need-returns
 returns c =
     let start = c .before in
     let progress = start .args .t1 in
-    let many : length (progress .parts) ≡ 32 = omega (arith, simp length-map at (start .good .0)) in
-    let few : progress .count ≤ length (progress .parts) = omega arith in
-    λ rows. sym (source-unknown _ (progress .count) _ _ _ (length-reading progress rows few) (c .if1 .taken))
+    λ rows. sym (source-unknown _ (progress .count) _ _ _ (length-reading progress rows (few start)) (c .if1 .taken))
 
 returns-2 : tie.Need-returns-2
 returns-2 c =
     let start = c .before .before in
     let progress = start .args .t1 in
-    let many : length (progress .parts) ≡ 32 = omega (arith, simp length-map at (start .good .0)) in
-    let few : progress .count ≤ length (progress .parts) = omega arith in
-    λ rows. sym (receiver-unknown _ (progress .count) _ _ _ (length-reading progress rows few) (c .before .if1 .left) (c .if2 .taken))
+    λ rows. sym (receiver-unknown _ (progress .count) _ _ _ (length-reading progress rows (few start)) (c .before .if1 .left) (c .if2 .taken))
 
 mul-c : tie.Need-mul-c
 mul-c c = search needs
@@ -78,12 +72,9 @@ port-refusal-requires c κs = search needs
 returns-3 : tie.Need-returns-3
 returns-3 c =
     let start = c .before .before .before .before in
-    let progress = start .args .t1 in
-    let many : length (progress .parts) ≡ 32 = omega (arith, simp length-map at (start .good .0)) in
-    let few : progress .count ≤ length (progress .parts) = omega arith in
     λ rows.
     c .port-refusal .ensures ∙
-    sym (port-left progress _ _ _ rows few (c .before .before .before .if1 .left) (c .before .before .if2 .left))
+    sym (port-left (start .args .t1) _ _ _ rows (few start) (c .before .before .before .if1 .left) (c .before .before .if2 .left))
 
 pub wire-refusal-spec : {M : Type 1} → statement M
 wire-refusal-spec =

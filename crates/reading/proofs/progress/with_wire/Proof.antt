@@ -4,14 +4,14 @@ use native.Mathlib.Omega.{arith}
 use mathlib.Core.Path.{_≡_, refl}
 use mathlib.Core.Bool.{true, false}
 use mathlib.Core.List.{List}
-use lib.ListN.{length, getD, take, set, length-map, length-take}
-use lib.Seq.{take-set-lt, getD-take}
+use lib.ListN.{length, set, length-map}
+use lib.Seq.{take-set-lt}
 use Rattle.machine.specs.declared.part.Component.{Component}
-use Rattle.machine.specs.Model.{blank-component}
+use Rattle.machine.specs.Table.{component-at}
 use Rattle.machine.specs.Load.{with-component, with-wire}
 use Rattle.reading.specs.declared.progress.Progress.{Progress}
 use Rattle.reading.specs.Progress.{with-row, reading-of}
-use Rattle.reading.specs.Rows.{joined-at, joined-set}
+use Rattle.reading.specs.Rows.{joined-set, reading-at}
 use Rattle.reading.specs.Wired.{wired-reading}
 use borrow.Author.Needs.{needs}
 use Rattle.reading.proofs.progress.with_wire.Statement.{statement}
@@ -23,7 +23,7 @@ unfolding with-row with-wire
 row-wire c row port source = refl
 
 -- the part replaced by itself with a port wired
-wired-as : (progress : Progress) (k port source : ℕ) (made : Component) → made ≡ with-wire (getD (progress .parts) k blank-component) port source →
+wired-as : (progress : Progress) (k port source : ℕ) (made : Component) → made ≡ with-wire (component-at (progress .parts) k) port source →
     k < progress .count → progress .count ≤ length (progress .parts) → (rows : List (List ℕ)) →
     reading-of
     (record {
@@ -36,13 +36,11 @@ wired-as : (progress : Progress) (k port source : ℕ) (made : Component) → ma
     wired-reading (reading-of progress rows) k port source
 unfolding reading-of wired-reading with-component
 wired-as progress k port source made same here few rows =
-    let inside : k < length (take (progress .count) (progress .parts)) = rw length-take (omega arith) in
     rw (
       same,
-      take-set-lt (progress .count) (progress .parts) k (with-wire (getD (progress .parts) k blank-component) port source) here,
+      take-set-lt (progress .count) (progress .parts) k (with-wire (component-at (progress .parts) k) port source) here,
       joined-set,
-      joined-at (take (progress .count) (progress .parts)) rows k blank-component blank-component inside,
-      getD-take (progress .count) (progress .parts) k blank-component here,
+      reading-at progress rows k here few,
       row-wire,
     )
 

@@ -5,15 +5,14 @@ use native.Mathlib.Omega.{arith}
 use mathlib.Core.Path.{_≡_}
 use mathlib.Core.Bool.{true}
 use mathlib.Core.List.{List, []}
-use lib.ListN.{length, getD, take, set, length-map, length-take}
-use lib.Seq.{take-set-lt, take-suc-set, getD-take}
+use lib.ListN.{length, getD, take, set, length-map}
+use lib.Seq.{take-set-lt, take-suc-set}
 use Rattle.machine.specs.declared.part.Component.{Component}
-use Rattle.machine.specs.Model.{blank-component}
 use Rattle.machine.specs.Table.{component-at}
 use Rattle.machine.specs.Load.{with-component, with-span}
 use Rattle.reading.specs.declared.progress.Progress.{Progress}
 use Rattle.reading.specs.Progress.{with-row, reading-of}
-use Rattle.reading.specs.Rows.{joined-at, joined-set-row}
+use Rattle.reading.specs.Rows.{joined-set-row, reading-at}
 use Rattle.reading.specs.Spanned.{row-with, spanned-reading}
 use borrow.Author.Needs.{needs}
 use Rattle.reading.proofs.rows.with_span_counted.Statement.{statement}
@@ -54,14 +53,12 @@ spanned-as : (progress : Progress) (k : ℕ) → k < progress .count → progres
     spanned-reading (reading-of progress rows) k v
 unfolding reading-of row-with spanned-reading with-component
 spanned-as progress k here few rows v there room =
-    let inside : k < length (take (progress .count) (progress .parts)) = rw length-take (omega arith) in
+    let part = component-at (progress .parts) k in
     rw (
-      take-set-lt (progress .count) (progress .parts) k (counted (component-at (progress .parts) k)) here,
-      joined-set-row (take (progress .count) (progress .parts)) rows k (counted (component-at (progress .parts) k))
-          (set (getD rows k []) (component-at (progress .parts) k .«span_count») v) there,
-      joined-at (take (progress .count) (progress .parts)) rows k blank-component blank-component inside,
-      getD-take (progress .count) (progress .parts) k blank-component here,
-      row-span (component-at (progress .parts) k) (getD rows k []) v room,
+      take-set-lt (progress .count) (progress .parts) k (counted part) here,
+      joined-set-row (take (progress .count) (progress .parts)) rows k (counted part) (set (getD rows k []) (part .«span_count») v) there,
+      reading-at progress rows k here few,
+      row-span part (getD rows k []) v room,
     )
 
 mul-c : tie.Need-mul-c

@@ -1,8 +1,8 @@
--- `score_at` gives the definition's answer: the byte at the position, which `byte` promises, picks its case, and what is left of the stream says
--- whether a wanted step is cut. A law for each of the definition's four answers inside the stream, then the needs.
+-- `score_at` gives the definition's answer: past the stream's end no byte is read; else the byte picks the definition's case, and the operand behind it
+-- is read or cut. A law for each of the definition's four answers inside the stream, by the byte b that was read, then the needs.
 use Prim.Native.Nat.{ℕ, _+_, _≤_, _<_}
 use native.Mathlib.Omega.{arith}
-use mathlib.Core.Path.{_≡_, sym, _∙_}
+use mathlib.Core.Path.{_≡_, ap, _∙_}
 use mathlib.Core.Bool.{false}
 use mathlib.Core.List.{List}
 use lib.ListN.{length}
@@ -14,92 +14,111 @@ use Rattle.machine.specs.Score.{score-command, score-at}
 use Rattle.score.proofs.command.score_at.Statement.{statement}
 use Rattle.score.proofs.command.score_at.Tie as tie
 
-module _ (bs : List ℕ) (at : ℕ) (inside : at < length bs) where
+module _ (bs : List ℕ) (at b : ℕ) (inside : at < length bs) (read : b ≡ byte-at bs at) where
   -- a byte that is no command
-  unknown : known-command (byte-at bs at) ≡ false → Refused 2 at ≡ score-at bs at
+  unknown : known-command b ≡ false → Refused 2 at ≡ score-at bs at
   unfolding score-at score-command
-  unknown h = simp (lt-ltb _ _ inside, h)
+  unknown h = rw (lt-ltb at (length bs) inside, ← read, h)
 
   -- a command that is not a wanted step
-  out-of-place : 1 ≤ byte-at bs at → byte-at bs at < 6 → Refused 3 at ≡ score-at bs at
+  out-of-place : 1 ≤ b → b < 6 → Refused 3 at ≡ score-at bs at
   unfolding score-at score-command known-command
   out-of-place low high =
-      simp (
-        lt-ltb _ _ inside,
-        le-leb _ _ low,
-        le-leb (byte-at bs at) 6 (omega arith),
-        ne-eqb (byte-at bs at) 6 (λ e. omega arith),
-      )
+      let below : b ≤ 6 = omega arith in
+      let other : b ≡ 6 → ⊥ = λ e. omega arith in
+      rw (lt-ltb at (length bs) inside, ← read, le-leb 1 b low, le-leb b 6 below, ne-eqb b 6 other)
 
   -- a wanted step that the stream's end cuts, and one that is whole
-  cut : byte-at bs at ≡ 6 → length bs < at + 5 → Refused 1 at ≡ score-at bs at
+  cut : b ≡ 6 → length bs < at + 5 → Refused 1 at ≡ score-at bs at
   unfolding score-at score-command known-command command-width
-  cut b short = simp (lt-ltb _ _ inside, b, lt-leb _ _ short)
+  cut six short = rw (lt-ltb at (length bs) inside, ← read, six, lt-leb (at + 5) (length bs) short)
 
-  whole : byte-at bs at ≡ 6 → at + 5 ≤ length bs → Wanted (word-at bs (at + 1)) (at + 5) ≡ score-at bs at
+  whole : (v next : ℕ) → b ≡ 6 → at + 5 ≤ length bs → v ≡ word-at bs (at + 1) → next ≡ at + 5 → Wanted v next ≡ score-at bs at
   unfolding score-at score-command known-command command-width
-  whole b long = simp (lt-ltb _ _ inside, b, le-leb _ _ long)
-
-returns : tie.Need-returns
-unfolding score-at
-returns c = simp (le-ltb _ _ (c .if1 .taken))
+  whole v next six long operand there =
+      rw (lt-ltb at (length bs) inside, ← read, six, le-leb (at + 5) (length bs) long, operand, there)
 
 byte-requires : tie.Need-byte-requires
 byte-requires c κs = search needs
 
-sub-if2 : tie.Need-sub-if2
-sub-if2 c = search needs
+enum-known-b : tie.Need-enum-known-b
+enum-known-b c = search needs
 
-returns-2 : tie.Need-returns-2
-returns-2 c =
-    let read = c .before .before in
-    cut _ _ (read .before .if1 .left) (sym (read .byte .ensures .0) ∙ c .before .match .keys1) (omega arith)
+enum-told : tie.Need-enum-told
+enum-told c = search needs
 
-add-word : tie.Need-add-word
-add-word c = search needs
+returns : tie.Need-returns
+unfolding score-at
+returns c =
+    let none = rw (c .enum-told .given .1) at (c .before .before .byte .ensures) in
+    let past : length (c .before .before .before .before .args .s .now) ≤ c .before .before .before .before .args .at = omega arith in
+    rw (le-ltb _ _ past)
 
 word-requires : tie.Need-word-requires
 word-requires c κs = search needs
 
-add-t8 : tie.Need-add-t8
-add-t8 c = search needs
+enum-known-wanted : tie.Need-enum-known-wanted
+enum-known-wanted c = search needs
+
+enum-told-2 : tie.Need-enum-told-2
+enum-told-2 c = search needs
+
+returns-2 : tie.Need-returns-2
+returns-2 c =
+    let command = c .before .before .before in
+    let found = command .before .before in
+    let byte = rw (found .b .given .1) at (found .before .before .byte .ensures) in
+    let short = rw (c .enum-told2 .given .1) at (c .before .before .word .ensures) in
+    cut _ _ _ (omega arith) (byte .1) (command .match2 .keys1) (omega arith)
+
+cast-t11 : tie.Need-cast-t11
+cast-t11 c = search needs
 
 returns-3 : tie.Need-returns-3
 returns-3 c =
-    let read = c .before .before .before in
-    simp (c .word .ensures)
-    (whole _ _ (read .before .if1 .left) (sym (read .byte .ensures .0) ∙ c .before .before .match .keys1) (omega arith))
+    let operand = c .before in
+    let command = operand .before .before .before in
+    let found = command .before .before in
+    let args = found .before .before .before .before .args in
+    let byte = rw (found .b .given .1) at (found .before .before .byte .ensures) in
+    let word = rw (operand .wanted .given .1) at (operand .before .before .word .ensures) in
+    whole (args .s .now) (args .at) _ (omega arith) (byte .1) _ _ (command .match2 .keys1) (omega arith)
+    (word .1 ∙ ap (word-at (args .s .now)) (omega arith)) (omega arith)
 
 returns-4 : tie.Need-returns-4
 returns-4 c =
-    let read = c .before .before .before in
-    out-of-place _ _ (read .before .if1 .left) (omega arith) (omega arith)
+    let found = c .before .before .before .before in
+    let byte = rw (found .b .given .1) at (found .before .before .byte .ensures) in
+    out-of-place _ _ _ (omega arith) (byte .1) (c .before .if1 .left) (c .if2 .taken)
 
 returns-5 : tie.Need-returns-5
 unfolding known-command
 returns-5 c =
-    let read = c .before .before in
-    unknown _ _ (read .before .if1 .left) (simp (sym (read .byte .ensures .0), lt-leb _ _ (c .if3 .taken)))
+    let found = c .before .before .before in
+    let byte = rw (found .b .given .1) at (found .before .before .byte .ensures) in
+    unknown _ _ _ (omega arith) (byte .1) (simp (lt-leb _ _ (c .if1 .taken)))
 
 returns-6 : tie.Need-returns-6
 unfolding known-command
 returns-6 c =
-    let read = c .before .before .before in
-    let above : 6 < read .byte .result = omega (arith, c .before .before .match .rest .1) in
-    unknown _ _ (read .before .if1 .left)
-    (simp (sym (read .byte .ensures .0), le-leb _ _ (c .before .if3 .left), lt-leb _ _ above))
+    let found = c .before .before .before .before in
+    let byte = rw (found .b .given .1) at (found .before .before .byte .ensures) in
+    let above : 6 < found .b .given .0 .0 = omega (arith, c .before .before .match2 .rest .1) in
+    unknown _ _ _ (omega arith) (byte .1) (simp (le-leb _ _ (c .before .if1 .left), lt-leb _ _ above))
 
 pub score-at-spec : {M : Type 1} → statement M
 score-at-spec =
     tie.close
     (tie.spec
-    returns
     byte-requires
-    sub-if2
-    returns-2
-    add-word
+    enum-known-b
+    enum-told
+    returns
     word-requires
-    add-t8
+    enum-known-wanted
+    enum-told-2
+    returns-2
+    cast-t11
     returns-3
     returns-4
     returns-5

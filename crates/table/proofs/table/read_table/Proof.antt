@@ -14,30 +14,49 @@ use Rattle.table.specs.Concluded.{end-loaded, ended-concluded, refused-c
 use Rattle.table.specs.Ending.{kept-ended}
 use Rattle.table.specs.Judged.{turn-ended, turn-onward, turn-refused}
 use Rattle.table.specs.Stands.{Stands, stands-ended, stands-first, stands-on}
-use Rattle.table.specs.Turned.{Turned}
 use Rattle.table.specs.Turning.{rows-behind}
 use Rattle.table.proofs.table.read_table.Statement.{statement}
 use Rattle.table.proofs.table.read_table.Tie as tie
-
-module _ (bs : List ℕ) (at : ℕ) (progress : Progress) (rows : List (List ℕ)) (r : TurnRead) (s : Stands bs at (reading-of progress rows)) (t : Turned bs at progress rows r) where
-  -- a turn that is refused is what loading comes to
-  refused-loads : (r .number ≡ 0 → ⊥) → load bs ≡ refused (r .number) (r .position)
-  refused-loads some = stands-ended bs at (reading-of progress rows) _ s (t .is ∙ turn-refused at progress rows r some)
-
-  -- a turn that is End's is judged
-  ended-loads : r .number ≡ 0 → r .byte ≡ 5 → load bs ≡ end-loaded at (reading-of progress rows .table)
-  ended-loads none end = stands-ended bs at (reading-of progress rows) _ s (t .is ∙ turn-ended at progress rows r none end)
-
-  -- a turn that reading goes on behind stands further
-  goes-further : r .number ≡ 0 → (r .byte ≡ 5 → ⊥) →
-      Stands bs (r .position) (reading-of (r .progress) (rows-behind (r .byte) progress rows (r .span))) × (at < r .position)
-  goes-further none other = stands-on bs at (r .position) (reading-of progress rows) _ s (t .is ∙ turn-onward at progress rows r none other)
 
 abbrev Inv-loop : tie.InvT-loop
 Inv-loop s at₀ progress₀ rows₀ at progress rows = (progress .count ≤ 32) × Stands s at (reading-of progress rows)
 
 abbrev μ-loop : tie.MeasureT-loop
 μ-loop s at₀ progress₀ rows₀ at progress rows = length s - at
+
+-- what the turn leads to that was found behind the progress and its rows
+module _ (c : tie.After-turn-at Inv-loop μ-loop) where
+  abbrev bytes : List ℕ
+  bytes = c .before .before .before .before .before .args .s .now
+
+  abbrev at : ℕ
+  at = c .before .loop .at
+
+  abbrev progress : Progress
+  progress = c .before .loop .progress
+
+  abbrev rows : List (List ℕ)
+  rows = c .before .loop .rows
+
+  abbrev found : TurnRead
+  found = c .turn-at .result
+
+  -- a turn that is refused is what loading comes to
+  refused-loads : (found .number ≡ 0 → ⊥) → load bytes ≡ refused (found .number) (found .position)
+  refused-loads some =
+      stands-ended bytes at (reading-of progress rows) _ (c .before .loop .inv .1) (c .turn-at .ensures .is ∙ turn-refused at progress rows found some)
+
+  -- a turn that is End's is judged
+  ended-loads : found .number ≡ 0 → found .byte ≡ 5 → load bytes ≡ end-loaded at (reading-of progress rows .table)
+  ended-loads none end =
+      stands-ended bytes at (reading-of progress rows) _ (c .before .loop .inv .1) (c .turn-at .ensures .is ∙ turn-ended at progress rows found none end)
+
+  -- a turn that reading goes on behind stands further
+  goes-further : found .number ≡ 0 → (found .byte ≡ 5 → ⊥) →
+      Stands bytes (found .position) (reading-of (found .progress) (rows-behind (found .byte) progress rows (found .span))) × (at < found .position)
+  goes-further none other =
+      stands-on bytes at (found .position) (reading-of progress rows) _ (c .before .loop .inv .1)
+      (c .turn-at .ensures .is ∙ turn-onward at progress rows found none other)
 
 nothing-read-requires : tie.Need-nothing-read-requires Inv-loop μ-loop
 nothing-read-requires c κs = search needs
@@ -58,54 +77,44 @@ refused-read-requires c κs = search needs
 
 returns : tie.Need-returns Inv-loop μ-loop
 returns c =
-    let loop = c .before .before .before .before .loop in
-    let found = c .before .before .before .turn-at in
+    let turn = c .before .before .before in
     let some = c .before .if1 .taken in
     let read = c .refused-read .ensures in (
-      refused-loads _ (loop .at) (loop .progress) (loop .rows) (found .result) (loop .inv .1) (found .ensures) some ∙
-          sym (refused-concluded _ _ (c .refused-read .result) some read),
+      refused-loads turn some ∙ sym (refused-concluded _ _ (c .refused-read .result) some read),
       λ none. absurd (some (sym (read .number) ∙ none)),
     )
 
 ended-read-requires : tie.Need-ended-read-requires Inv-loop μ-loop
-ended-read-requires c κs = c .before .before .before .before .before .loop .inv .0
+ended-read-requires c κs = let turn = c .before .before .before .before in turn .before .loop .inv .0
 
 returns-2 : tie.Need-returns-2 Inv-loop μ-loop
 returns-2 c =
-    let loop = c .before .before .before .before .before .before .loop in
-    let found = c .before .before .before .before .before .turn-at in
+    let turn = c .before .before .before .before .before in
     let none = c .before .before .before .if1 .left in
-    let end = c .before .if2 .taken in
     let read = c .ended-read .ensures in (
-      ended-loads _ (loop .at) (loop .progress) (loop .rows) (found .result) (loop .inv .1) (found .ensures) none end ∙
-          sym (ended-concluded (loop .at) _ (c .ended-read .result) read),
-      λ zero. kept-ended (loop .at) (reading-of (loop .progress) (loop .rows)) (c .ended-read .result) (loop .inv .1 .kept) read,
+      ended-loads turn none (c .before .if2 .taken) ∙ sym (ended-concluded (at turn) _ (c .ended-read .result) read),
+      λ zero. kept-ended (at turn) (reading-of (progress turn) (rows turn)) (c .ended-read .result) (turn .before .loop .inv .1 .kept) read,
     )
 
 rows-behind-requires : tie.Need-rows-behind-requires Inv-loop μ-loop
 rows-behind-requires c κs =
-    let loop = c .before .before .before .before .before .loop in
-    let found = c .before .before .before .before .turn-at in
-    (loop .inv .0, found .ensures .room (c .before .before .if1 .left))
+    let turn = c .before .before .before .before in
+    (turn .before .loop .inv .0, turn .turn-at .ensures .room (c .before .before .if1 .left))
 
 loop-less : tie.Need-loop-less Inv-loop μ-loop
 loop-less c =
-    let loop = c .before .before .before .before .before .before .before .loop in
-    let found = c .before .before .before .before .before .before .turn-at in
+    let turn = c .before .before .before .before .before .before in
     let none = c .before .before .before .before .if1 .left in
-    let here = found .ensures .here none in
-    let further =
-    goes-further _ (loop .at) (loop .progress) (loop .rows) (found .result) (loop .inv .1) (found .ensures) none (c .before .before .if2 .left) .1 in
+    let here = turn .turn-at .ensures .here none in
+    let further = goes-further turn none (c .before .before .if2 .left) .1 in
     omega arith
 
 loop-again : tie.Need-loop-again Inv-loop μ-loop
 loop-again c =
-    let loop = c .before .before .before .before .before .before .before .loop in
-    let found = c .before .before .before .before .before .before .turn-at in
+    let turn = c .before .before .before .before .before .before in
     let none = c .before .before .before .before .if1 .left in (
-      found .ensures .few,
-      rw (c .before .rows-behind .ensures)
-          (goes-further _ (loop .at) (loop .progress) (loop .rows) (found .result) (loop .inv .1) (found .ensures) none (c .before .before .if2 .left) .0),
+      turn .turn-at .ensures .few,
+      rw (c .before .rows-behind .ensures) (goes-further turn none (c .before .before .if2 .left) .0),
     )
 
 pub read-table-spec : {M : Type 1} → statement M

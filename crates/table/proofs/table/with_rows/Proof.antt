@@ -42,14 +42,6 @@ rowed-next i (c ∷ cs) [] d here there = absurd (omega arith)
 rowed-next zero (c ∷ cs) (row ∷ rows) d here there = refl
 rowed-next (suc i) (c ∷ cs) (row ∷ rows) d here there = ap (λ l. with-spans c row ∷ l) (rowed-next i cs rows d (omega arith) (omega arith))
 
--- as many as the components
-length-rowed : (i : ℕ) (cs : List Component) (rows : List (List ℕ)) → length (rowed i cs rows) ≡ length cs
-unfolding rowed
-length-rowed zero cs rows = refl
-length-rowed (suc i) [] rows = refl
-length-rowed (suc i) (c ∷ cs) [] = refl
-length-rowed (suc i) (c ∷ cs) (row ∷ rows) = ap suc (length-rowed i cs rows)
-
 -- all of them, trimmed
 rowed-all : (n : ℕ) (cs : List Component) (rows : List (List ℕ)) (count : ℕ) → length cs ≤ n → length cs ≤ length rows →
     map trimmed-component (take count (rowed n cs rows)) ≡ joined (take count cs) rows
@@ -102,24 +94,24 @@ loop-again : tie.Need-loop-again Inv-loop μ-loop
 loop-again c =
     let loop = c .before .before .before .loop in
     let start = c .before .before .before .before in
-    let many : length (start .args .parts) ≡ 32 = omega arith in
-    let here : loop .i < length (start .args .parts) = omega arith in
-    let there : loop .i < length (start .args .t2) = omega arith in
+    let parts = start .args .parts in
+    let rows = start .args .t2 in
+    let here : loop .i < length parts = omega arith in
+    let there : loop .i < length rows = omega arith in
     let more : suc (loop .i) ≡ loop .i + 1 = omega arith in (
       omega arith,
-      rw (loop .inv .1)
-          (rowed-next (loop .i) (start .args .parts) (start .args .t2) blank-component here there ∙
-          ap (λ n. rowed n (start .args .parts) (start .args .t2)) more),
+      rw (loop .inv .1) (rowed-next (loop .i) parts rows blank-component here there ∙ ap (λ n. rowed n parts rows) more),
     )
 
 returns : tie.Need-returns Inv-loop μ-loop
 returns c =
     let loop = c .before .loop in
     let start = c .before .before in
-    let many : length (start .args .parts) ≡ 32 = omega arith in
-    let all : length (start .args .parts) ≤ loop .i = omega arith in
-    let there : length (start .args .parts) ≤ length (start .args .t2) = omega arith in
-    λ count. rw (loop .inv .1) (rowed-all (loop .i) (start .args .parts) (start .args .t2) count all there)
+    let parts = start .args .parts in
+    let rows = start .args .t2 in
+    let all : length parts ≤ loop .i = omega arith in
+    let there : length parts ≤ length rows = omega arith in
+    λ count. rw (loop .inv .1) (rowed-all (loop .i) parts rows count all there)
 
 pub with-rows-spec : {M : Type 1} → statement M
 with-rows-spec =

@@ -14,30 +14,28 @@ use borrow.Author.Needs.{needs}
 use Rattle.table.proofs.turn.command.Statement.{statement}
 use Rattle.table.proofs.turn.command.Tie as tie
 
--- a Span, a Begin, a Part and a Wire, by their bytes
-span-as : (bs : List ℕ) (at : ℕ) (progress : Progress) (rows : List (List ℕ)) (b v : ℕ) (step : Step) → b ≡ 3 →
-    step-of (row-with rows (last-place progress) (span-count progress) v) at step ≡ uncut bs at 5 (span-command bs at (reading-of progress rows)) →
-    step-of (rows-behind b progress rows v) at step ≡ sized-command bs at (reading-of progress rows) b
-unfolding rows-behind sized-command command-width whole-command uncut
-span-as bs at progress rows b v step e h = rw e h
+-- a step that is the definition's command of its width is the definition's by the command's byte: a Span, a Begin, a Part and a Wire
+module _ (bs : List ℕ) (at : ℕ) (progress : Progress) (rows : List (List ℕ)) (b v : ℕ) (step : Step) where
+  span-as : b ≡ 3 →
+      step-of (row-with rows (last-place progress) (span-count progress) v) at step ≡ uncut bs at 5 (span-command bs at (reading-of progress rows)) →
+      step-of (rows-behind b progress rows v) at step ≡ sized-command bs at (reading-of progress rows) b
+  unfolding rows-behind sized-command command-width whole-command uncut
+  span-as e h = rw e h
 
-begin-as : (bs : List ℕ) (at : ℕ) (progress : Progress) (rows : List (List ℕ)) (b v : ℕ) (step : Step) → b ≡ 1 →
-    step-of rows at step ≡ uncut bs at 2 (begin-read bs at) →
-    step-of (rows-behind b progress rows v) at step ≡ sized-command bs at (reading-of progress rows) b
-unfolding rows-behind sized-command command-width whole-command uncut
-begin-as bs at progress rows b v step e h = rw e h
+  begin-as : b ≡ 1 → step-of rows at step ≡ uncut bs at 2 (begin-read bs at) →
+      step-of (rows-behind b progress rows v) at step ≡ sized-command bs at (reading-of progress rows) b
+  unfolding rows-behind sized-command command-width whole-command uncut
+  begin-as e h = rw e h
 
-part-as : (bs : List ℕ) (at : ℕ) (progress : Progress) (rows : List (List ℕ)) (b v : ℕ) (step : Step) → b ≡ 2 →
-    step-of rows at step ≡ uncut bs at 15 (part-command bs at (reading-of progress rows)) →
-    step-of (rows-behind b progress rows v) at step ≡ sized-command bs at (reading-of progress rows) b
-unfolding rows-behind sized-command command-width whole-command uncut
-part-as bs at progress rows b v step e h = rw e h
+  part-as : b ≡ 2 → step-of rows at step ≡ uncut bs at 15 (part-command bs at (reading-of progress rows)) →
+      step-of (rows-behind b progress rows v) at step ≡ sized-command bs at (reading-of progress rows) b
+  unfolding rows-behind sized-command command-width whole-command uncut
+  part-as e h = rw e h
 
-wire-as : (bs : List ℕ) (at : ℕ) (progress : Progress) (rows : List (List ℕ)) (b v : ℕ) (step : Step) → b ≡ 4 →
-    step-of rows at step ≡ uncut bs at 4 (wire-command bs at (reading-of progress rows)) →
-    step-of (rows-behind b progress rows v) at step ≡ sized-command bs at (reading-of progress rows) b
-unfolding rows-behind sized-command command-width whole-command uncut
-wire-as bs at progress rows b v step e h = rw e h
+  wire-as : b ≡ 4 → step-of rows at step ≡ uncut bs at 4 (wire-command bs at (reading-of progress rows)) →
+      step-of (rows-behind b progress rows v) at step ≡ sized-command bs at (reading-of progress rows) b
+  unfolding rows-behind sized-command command-width whole-command uncut
+  wire-as e h = rw e h
 
 span-beside-requires : tie.Need-span-beside-requires
 span-beside-requires c κs = (omega arith, omega arith, c .before .before .pre .4 (c .if1 .taken))

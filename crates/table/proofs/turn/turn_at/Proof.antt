@@ -11,6 +11,10 @@ use Rattle.table.specs.Judged.{command-byte, judged-placed, judged-refus
 use Rattle.table.proofs.turn.turn_at.Statement.{statement}
 use Rattle.table.proofs.turn.turn_at.Tie as tie
 
+-- there are places for as many parts as the progress counts
+few : (c : tie.Start) → c .args .progress .count ≤ length (c .args .progress .parts)
+few c = let many : length (c .args .progress .parts) ≡ 32 = omega (arith, simp length-map at (c .good .1 .1 .0)) in omega arith
+
 returns : tie.Need-returns
 returns c =
     let start = c .before .before in
@@ -48,19 +52,15 @@ placed-requires : tie.Need-placed-requires
 placed-requires c κs =
     let start = c .before .before .before .before .before in
     let args = start .args in
-    let many : length (args .progress .parts) ≡ 32 = omega (arith, simp length-map at (start .good .1 .1 .0)) in
-    let few : args .progress .count ≤ length (args .progress .parts) = omega arith in
     let none = sym (c .before .command-refusal .ensures) ∙ c .if2 .left in
     let (some, most) = command-byte (args .progress .begun) (args .progress .spannable) _ none in
-    (c .before .before .before .if1 .left, start .pre .0, some, most, span-asked (args .progress) (args .rows) _ few (start .pre .1) none)
+    (c .before .before .before .if1 .left, start .pre .0, some, most, span-asked (args .progress) (args .rows) _ (few start) (start .pre .1) none)
 
 returns-3 : tie.Need-returns-3
 unfolding byte-at
 returns-3 c =
     let start = c .before .before .before .before .before .before in
     let args = start .args in
-    let many : length (args .progress .parts) ≡ 32 = omega (arith, simp length-map at (start .good .1 .1 .0)) in
-    let few : args .progress .count ≤ length (args .progress .parts) = omega arith in
     let here = c .before .before .before .before .if1 .left in
     let none = sym (c .before .before .command-refusal .ensures) ∙ c .before .if2 .left in
     let found = c .placed .ensures in
@@ -68,8 +68,8 @@ returns-3 c =
       is = judged-placed _ (args .at) (args .progress) (args .rows) _ here refl none ∙ found .is;
       here = λ zero. here;
       room =
-          placed-room _ (args .at) (args .progress) (args .rows) _ (c .placed .result) few (start .pre .1)
-          (span-asked (args .progress) (args .rows) _ few (start .pre .1) none) found;
+          placed-room _ (args .at) (args .progress) (args .rows) _ (c .placed .result) (few start) (start .pre .1)
+          (span-asked (args .progress) (args .rows) _ (few start) (start .pre .1) none) found;
       few = found .few;
     }
 
