@@ -151,8 +151,4 @@ pub heard-shown :
     out ≡ output p now x y before → v ≡ with-output p out → v ≡ shown old now qs p
 unfolding shown
 heard-shown old qs now p v k0 k1 x y before out e0 e1 ex ey eb eo ev =
-    ev ∙
-    ap (with-output p)
-    (eo ∙ ap (λ (s : Signal). output p now s y before) (heard0 qs p k0 x e0 ex) ∙
-    ap (λ (s : Signal). output p now (reading0 qs p) s before) (heard1 qs p k1 y e1 ey) ∙
-    ap (λ (s : Signal). output p now (reading0 qs p) (reading1 qs p) s) (heard0 old p k0 before e0 eb))
+    rw (ev, eo, heard0 qs p k0 x e0 ex, heard1 qs p k1 y e1 ey, heard0 old p k0 before e0 eb)
