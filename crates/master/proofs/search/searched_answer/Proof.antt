@@ -53,22 +53,30 @@ abbrev model-of : tie.At-loop Inv-loop μ-loop Inv-ceilings μ-ceilings → Mode
 model-of at = trimmed (start-of at .args .m)
 
 -- a round that changed h
-changed : (c : tie.Else1 Inv-loop μ-loop Inv-ceilings μ-ceilings) → let at = c .before .before .before in round (model-of at) (at .loop .h) ≡ at .loop .h → ⊥
-changed c =
+changed :
+    (c : tie.Else1 Inv-loop μ-loop Inv-ceilings μ-ceilings) →
+    let at = c .before .before .before in
+    round (model-of at) (at .loop .h) ≡ at .loop .h → ⊥
+changed c same =
     let rounds = c .before .before in
-    λ same.
     eqb-false (rounds .round-of .result) (rounds .before .loop .h) (sym (c .before .changed-nothing .ensures) ∙ c .if1 .left)
     (rounds .round-of .ensures ∙ same)
 
 -- lowered it
-lowers : (c : tie.Else1 Inv-loop μ-loop Inv-ceilings μ-ceilings) → let rounds = c .before .before in rounds .round-of .result < rounds .before .loop .h
+lowers :
+    (c : tie.Else1 Inv-loop μ-loop Inv-ceilings μ-ceilings) →
+    let rounds = c .before .before in
+    rounds .round-of .result < rounds .before .loop .h
 lowers c =
     let rounds = c .before .before in
     let at = rounds .before in
     rw (rounds .round-of .ensures) (lower-below (model-of at) (start-of at .pre .0) (at .loop .h) (changed c))
 
 -- one that changed nothing
-kept : (refuses : tie.After-refusal-of Inv-loop μ-loop Inv-ceilings μ-ceilings) → let at = loop-of refuses in round (model-of at) (at .loop .h) ≡ at .loop .h
+kept :
+    (refuses : tie.After-refusal-of Inv-loop μ-loop Inv-ceilings μ-ceilings) →
+    let at = loop-of refuses in
+    round (model-of at) (at .loop .h) ≡ at .loop .h
 kept refuses =
     let tests = refuses .before .before in
     let rounds = tests .before in
@@ -76,11 +84,17 @@ kept refuses =
     eqb-true (rounds .round-of .result) (rounds .before .loop .h) (sym (tests .changed-nothing .ensures) ∙ refuses .before .if1 .taken)
 
 -- the step is not refused
-may : (c : tie.Else2 Inv-loop μ-loop Inv-ceilings μ-ceilings) → let at = loop-of (c .before) in refusal (model-of at) (at .loop .h) ≡ 0
-may c = sym (c .before .refusal-of .ensures) ∙ c .if2 .left
+not-refused :
+    (c : tie.Else2 Inv-loop μ-loop Inv-ceilings μ-ceilings) →
+    let at = loop-of (c .before) in
+    refusal (model-of at) (at .loop .h) ≡ 0
+not-refused c = sym (c .before .refusal-of .ensures) ∙ c .if2 .left
 
 -- a part objects to it
-objected : (c : tie.Then3 Inv-loop μ-loop Inv-ceilings μ-ceilings) → let at = loop-of-trial (c .before .before) in any-objects (at .loop .h) (step-made (model-of at) (at .loop .h)) ≡ true
+objected :
+    (c : tie.Then3 Inv-loop μ-loop Inv-ceilings μ-ceilings) →
+    let at = loop-of-trial (c .before .before) in
+    any-objects (at .loop .h) (step-made (model-of at) (at .loop .h)) ≡ true
 objected c =
     let tries = c .before .before in
     ap (any-objects (loop-of-trial tries .loop .h)) (sym (tries .made .ensures .0)) ∙ sym (c .before .any-objects-of .ensures) ∙ c .if3 .taken
@@ -90,7 +104,7 @@ halves : (c : tie.Then3 Inv-loop μ-loop Inv-ceilings μ-ceilings) → 2 ≤ loo
 halves c =
     let tries = c .before .before in
     let at = loop-of-trial tries in
-    halve-above (model-of at) (start-of at .pre .0) (at .loop .h) (kept (tries .before .before)) (may (tries .before)) (objected c)
+    halve-above (model-of at) (start-of at .pre .0) (at .loop .h) (kept (tries .before .before)) (not-refused (tries .before)) (objected c)
 
 ceilings-holds : tie.Need-ceilings-holds Inv-loop μ-loop Inv-ceilings μ-ceilings
 ceilings-holds c = (left-start (trimmed (c .args .m)) (c .args .w), omega arith, omega arith)
@@ -123,13 +137,13 @@ made-requires c κs =
     let small = s .pre .1 .0 in
     let far = s .pre .1 .1 in
     let within = at .loop .inv .1 in
-    (s .pre .0, (omega (arith, small, within), (omega (arith, far, within), may-step (s .args .m) (s .pre .0) (at .loop .h) (may c))))
+    (s .pre .0, (omega (arith, small, within), (omega (arith, far, within), may-step (s .args .m) (s .pre .0) (at .loop .h) (not-refused c))))
 
 any-objects-of-requires : tie.Need-any-objects-of-requires Inv-loop μ-loop Inv-ceilings μ-ceilings
 any-objects-of-requires c κs =
     let at = loop-of-trial c in
     let s = start-of at in
-    trial-sound (s .args .m) (s .pre .0) (s .args .w) (at .loop .h) (at .loop .rounds) (at .loop .inv .1) (s .pre .1 .1) (may (c .before))
+    trial-sound (s .args .m) (s .pre .0) (s .args .w) (at .loop .h) (at .loop .rounds) (at .loop .inv .1) (s .pre .1 .1) (not-refused (c .before))
     (c .made .result) (c .made .ensures .0)
 
 loop-less : tie.Need-loop-less Inv-loop μ-loop Inv-ceilings μ-ceilings
@@ -171,7 +185,7 @@ ceilings-again c =
     let two = halves c in
     let inv = at .loop .inv in (
       halved (model-of at) (s .pre .0) (s .args .w) (ceilings .ceiling) (at .loop .h) (at .loop .rounds) (ceilings .revisions) (inv .0)
-          (kept (tries .before .before)) (may (tries .before)) (objected c),
+          (kept (tries .before .before)) (not-refused (tries .before)) (objected c),
       omega (arith, two, inv .1),
       omega (arith, two, inv .2),
     )
@@ -192,7 +206,7 @@ returns-2 c =
     let s = start-of at in
     let ceilings = at .before .ceilings in
     committed-answer (s .args .m) (s .pre .0) (tries .made .result) (s .args .w) (ceilings .ceiling) (at .loop .h) (at .loop .rounds) (ceilings .revisions)
-    (at .loop .inv .0) (kept (tries .before .before)) (may (tries .before)) (sym (c .before .any-objects-of .ensures) ∙ c .if3 .left)
+    (at .loop .inv .0) (kept (tries .before .before)) (not-refused (tries .before)) (sym (c .before .any-objects-of .ensures) ∙ c .if3 .left)
     (tries .made .ensures .0) (tries .made .ensures .1)
 
 pub searched-answer-spec : {M : Type 1} → statement M
