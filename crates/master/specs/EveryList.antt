@@ -3,14 +3,14 @@
 -- given the model of the answer before it. So what a caller gets who hands each answer's model to the next call is a chain, one call at a time, and
 -- `whole-list` (wholelist's specs/Demand3.antt) speaks of it. Assumes nothing.
 use Prim.Native.Nat.{ℕ}
-use mathlib.Core.Path.{_≡_, refl, sym}
-use mathlib.Core.List.{List, [], _∷_, _++_}
+use mathlib.Core.Path.{_≡_, refl}
+use mathlib.Core.List.{List, [], _∷_}
 use Rattle.machine.specs.declared.model.Model.{Model}
 use Rattle.machine.specs.declared.model.Loaded.{Loaded}
 use Rattle.machine.specs.declared.model.Answer.{Answer}
 use Rattle.machine.specs.Model.{trimmed-loaded}
 use Rattle.machine.specs.Load.{load}
-use Rattle.machine.specs.Calls.{Advanced, Call, Chain, last-model}
+use Rattle.machine.specs.Calls.{Advanced, Call, Chain}
 use Rattle.machine.specs.WholeList.{WholeList}
 use Rattle.wholelist.specs.Demand3.{whole-list}
 
@@ -19,20 +19,8 @@ abbrev pub call : Model → ℕ → Answer → Call
 call m w r = record { given = m; wanted = w; answer = r }
 
 -- an answer that keeps the contract, before a chain from the model that it holds
-pub chain-step : (m : Model) (w : ℕ) (r : Answer) (cs : List Call) → Advanced m w r → Chain (r .model) cs → Chain m (call m w r ∷ cs)
+chain-step : (m : Model) (w : ℕ) (r : Answer) (cs : List Call) → Advanced m w r → Chain (r .model) cs → Chain m (call m w r ∷ cs)
 chain-step m w r cs keeps rest = (refl, keeps, rest)
-
--- and after a chain, of the model that its last answer holds, which is how a program makes its calls
-pub chain-more : (m : Model) (w : ℕ) (r : Answer) (cs : List Call) → Chain m cs → Advanced (last-model m cs) w r →
-    Chain m (cs ++ (call (last-model m cs) w r ∷ []))
-unfolding last-model
-chain-more m w r [] chain keeps = chain-step m w r [] keeps tt
-chain-more m w r (c ∷ cs) chain keeps = (chain .0, chain .1, chain-more (c .answer .model) w r cs (chain .2) keeps)
-
-pub last-more : (m : Model) (c : Call) (cs : List Call) → last-model m (cs ++ (c ∷ [])) ≡ c .answer .model
-unfolding last-model
-last-more m c [] = refl
-last-more m c (d ∷ cs) = last-more (d .answer .model) c cs
 
 -- the answers rs to the wanted steps ws, one call for each: the first call is given the model m, each next one the model of the answer before it. Nothing
 -- is asked of an answer but what the contract of `advance` promises
@@ -49,7 +37,7 @@ calls m (w ∷ ws) [] = []
 calls m (w ∷ ws) (r ∷ rs) = call m w r ∷ calls (r .model) ws rs
 
 -- it is a chain
-pub answered-chain : (m : Model) (ws : List ℕ) (rs : List Answer) → Answered m ws rs → Chain m (calls m ws rs)
+answered-chain : (m : Model) (ws : List ℕ) (rs : List Answer) → Answered m ws rs → Chain m (calls m ws rs)
 unfolding calls
 answered-chain m [] rs all = tt
 answered-chain m (w ∷ ws) [] all = absurd all

@@ -6,6 +6,7 @@ use crate::asking::any_objects_of;
 use crate::asking::round_of;
 use machine::model::Answer;
 use machine::model::Model;
+use machine::time::Point;
 use steps::step::made;
 ghost use mathlib.Core.Path.{_≡_};
 ghost use mathlib.Core.Bool.{true};
@@ -26,7 +27,7 @@ fn refusal_of(m: Model, h: u64) -> u64
     }
     if any_due_of(m) {
         let now = m.point;
-        if now.n == 999 {
+        if now.n == Point::LAST.n {
             return 21;
         }
         return 0;

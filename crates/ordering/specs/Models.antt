@@ -24,7 +24,7 @@ use Rattle.ordering.specs.Row.{row, stored, row-direct, components}
 use Rattle.ordering.specs.Filling.{Filling, filled-filling}
 
 -- settling changes no stored output, whatever the kind
-settled-as-output : (k : Kind) (x : Signal) (s : State) → settled-as k x s .output ≡ s .output
+pub settled-as-output : (k : Kind) (x : Signal) (s : State) → settled-as k x s .output ≡ s .output
 unfolding settled-as
 settled-as-output Constant x s = refl
 settled-as-output Gain x s = refl

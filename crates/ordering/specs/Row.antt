@@ -85,7 +85,7 @@ abbrev pub stored : List Part → ℕ → Signal
 stored qs i = part-at qs i .state .output
 
 -- a port reads the same in two lists where its source shows the same
-reading-same : (qs rs : List Part) (s : Source) → ((i : ℕ) → s ≡ From i → stored qs i ≡ stored rs i) →
+pub reading-same : (qs rs : List Part) (s : Source) → ((i : ℕ) → s ≡ From i → stored qs i ≡ stored rs i) →
     reading qs s ≡ reading rs s
 unfolding reading
 reading-same qs rs Unwired h = refl

@@ -24,7 +24,7 @@ use Rattle.soundness.specs.Ranges.{InRange}
 use Rattle.soundness.specs.Kept.{core, Core, Counted, finished-core, finished-kept, finished-states}
 
 -- the first part of a component that fits is in range
-first-in-range : (t : Table) (n : ℕ) (c : Component) → ComponentFits n c → InRange (first-part t c)
+pub first-in-range : (t : Table) (n : ℕ) (c : Component) → ComponentFits n c → InRange (first-part t c)
 unfolding first-part first-state is-value is-signal
 first-in-range t n c f =
     let (a, b) = operand-values (c .kind) (c .a) (c .b) (c .p) (f .operands) in

@@ -15,7 +15,7 @@ use Rattle.machine.specs.declared.part.Part.{Part}
 use Rattle.machine.specs.Lists.{All}
 use Rattle.machine.specs.Time.{local-count}
 use Rattle.machine.specs.Model.{blank-part, part-at, with-state, reading0}
-use Rattle.machine.specs.Step.{shown, filled, settled-as, settled, all-settled}
+use Rattle.machine.specs.Step.{with-output, shown, filled, settled-as, settled, all-settled}
 use Rattle.laws.specs.Alls.{map-kept, all-same-map}
 use Rattle.soundness.specs.Facts.{StateFits}
 use Rattle.soundness.specs.Ranges.{InRange, filled-in-range, all-settled-in-range}
@@ -30,13 +30,15 @@ pub record Core : Type 0 where
 abbrev pub core : Part → Core
 core p = record { component = p .component; ratio = p .ratio; local = p .state .local }
 
--- showing keeps the cores
-filled-core : (old : List Part) (now : Point) (ks : List ℕ) (ps : List Part) → map core (filled old now ks ps) ≡ map core ps
+-- showing keeps whatever does not depend on the stored output
+pub filled-kept :
+    {B : Type 0} (g : Part → B) → ((p : Part) (out : Signal) → g (with-output p out) ≡ g p) →
+    (old : List Part) (now : Point) (ks : List ℕ) (ps : List Part) → map g (filled old now ks ps) ≡ map g ps
 unfolding filled shown
-filled-core old now [] ps = refl
-filled-core old now (k ∷ ks) ps =
-    filled-core old now ks (set ps k (shown old now ps (part-at ps k))) ∙
-    map-set-same core ps k (shown old now ps (part-at ps k)) blank-part refl
+filled-kept g keeps old now [] ps = refl
+filled-kept g keeps old now (k ∷ ks) ps =
+    filled-kept g keeps old now ks (set ps k (shown old now ps (part-at ps k))) ∙
+    map-set-same g ps k (shown old now ps (part-at ps k)) blank-part (keeps (part-at ps k) _)
 
 -- settling keeps the core
 settled-core : (k : Kind) (x : Signal) (p : Part) → core (with-state p (settled-as k x (p .state))) ≡ core p
@@ -64,7 +66,7 @@ unfolding all-settled settled
 finished-core old now ks ps =
     map-kept core (λ (p : Part). settled (reading0 (filled old now ks ps) p) p) (filled old now ks ps)
     (λ p. settled-core (p .component .kind) (reading0 (filled old now ks ps) p) p) ∙
-    filled-core old now ks ps
+    filled-kept core (λ p out. refl) old now ks ps
 
 -- so they keep whatever is read from the cores
 pub finished-kept {ℓ} :

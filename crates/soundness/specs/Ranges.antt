@@ -86,7 +86,7 @@ unfolding is-value is-signal
 blank-in-range = record { a = refl; b = refl; held = refl; signal = refl; output = refl }
 
 -- a port reads a signal
-reading-signal : (ps : List Part) (s : Source) → All InRange ps → is-signal (reading ps s) ≡ true
+pub reading-signal : (ps : List Part) (s : Source) → All InRange ps → is-signal (reading ps s) ≡ true
 unfolding reading is-signal
 reading-signal ps Unwired h = refl
 reading-signal ps (From k) h = all-default InRange ps blank-part k h blank-in-range .output

@@ -1,24 +1,24 @@
--- What a model must be for its outputs to be filled, and for its parts to be settled. Assumes nothing.
+-- What a model must be for its outputs to be filled, and for its parts to be settled, and what that says of the places in use. Assumes nothing.
 use Prim.Native.Nat.{ℕ, _*_, _≤_, _<_}
 use native.Mathlib.Omega.{arith}
-use mathlib.Core.Path.{_≡_, refl}
-use mathlib.Core.Bool.{true}
+use mathlib.Core.Path.{_≡_, sym, subst, _∙_}
 use mathlib.Core.List.{List, map}
 use lib.ListN.{length, take, length-map, length-take}
 use mir.Syntax.{w64}
 use mir.Val.{Fits}
+use Rattle.machine.specs.declared.time.Point.{Point}
 use Rattle.machine.specs.declared.part.Source.{Source}
-use Rattle.machine.specs.declared.part.Source.the-variants.{Unwired, From}
 use Rattle.machine.specs.declared.part.Part.{Part}
 use Rattle.machine.specs.declared.model.Model.{Model}
 use Rattle.machine.specs.Lists.{All}
 use Rattle.machine.specs.Time.{last-tick}
-use Rattle.machine.specs.Signal.{is-signal}
 use Rattle.machine.specs.Kind.{period}
-use Rattle.machine.specs.Model.{most-parts, blank-part, part-at, reading, trimmed, trimmed-part, trimmed-component}
+use Rattle.machine.specs.Model.{most-parts, blank-part, part-at, with-parts, reading, trimmed, trimmed-part, trimmed-component}
+use Rattle.laws.specs.Alls.{all-same-map, length-same-map}
 use Rattle.laws.specs.Lists.{all-at}
 use Rattle.soundness.specs.Ranges.{InRange}
-use Rattle.steps.specs.Reading.{SourceBelow, WiredBelow, source-index, index-below, part-trimmed}
+use Rattle.steps.specs.Reading.{SourceBelow, WiredBelow, source-index, index-below, part-trimmed, reading-trimmed}
+use Rattle.steps.specs.Trimmed.{Changed}
 
 -- every part in use is wired to parts in use alone
 pub record Wired (m : Model) : Type 0 where
@@ -37,9 +37,26 @@ pub record Fillable (old new : Model) : Type 0 where
   pub before : All InRange (old .parts)
   pub ranges : All InRange (new .parts)
 
+-- a model with other parts of the same components is wired as before
+pub kept-wired :
+    (m : Model) (now : Point) (qs : List Part) → map (λ (p : Part). p .component) qs ≡ map (λ (p : Part). p .component) (m .parts) →
+    Wired m → Wired (with-parts m now qs)
+kept-wired m now qs kept wired =
+    record {
+      few = wired .few;
+      counted = wired .counted ∙ sym (length-same-map (λ (p : Part). p .component) qs (m .parts) kept);
+      sources = all-same-map (λ (p : Part). p .component) (WiredBelow (m .count)) qs (m .parts) kept (wired .sources);
+    }
+
+-- so is a changed one
+pub changed-wired :
+    (m : Model) (qs : List Part) (r : Model) → Changed m qs r →
+    map (λ (p : Part). p .component) qs ≡ map (λ (p : Part). p .component) (trimmed m .parts) → Wired (trimmed m) → Wired (trimmed r)
+changed-wired m qs r c kept wired = subst Wired (sym (c .is)) (kept-wired (trimmed m) (m .point) qs kept wired)
+
 -- where a part of 144 bytes stands in the array is a number of 64 bits
-pub place-fits : (i n : ℕ) → i < n → n ≤ most-parts → Fits w64 (i * 144)
-place-fits i n below few = omega arith
+pub place-fits : (i : ℕ) → i < most-parts → Fits w64 (i * 144)
+place-fits i below = omega arith
 
 -- there are places for all that are in use
 pub places-in-use : {A B : Type 0} (f : A → B) (n : ℕ) (l : List A) → n ≡ length (map f (take n l)) → n ≤ length l
@@ -47,33 +64,40 @@ places-in-use f n l e = omega (arith, length-map (take n l) f, length-take n l)
 
 -- what a wired model, once trimmed, says of the places in use of the model itself
 module _ (m : Model) (wired : Wired (trimmed m)) where
-  -- there are at most 32
-  pub wired-few : m .count ≤ 32
+  -- each is one of the array
+  pub place-in-use : (i : ℕ) → i < m .count → i < most-parts
   unfolding trimmed
-  wired-few = wired .few
+  place-in-use i h = omega (arith, wired .few)
 
   -- the array has them all
   pub wired-places : m .count ≤ length (m .parts)
   unfolding trimmed
   wired-places = places-in-use trimmed-part (m .count) (m .parts) (wired .counted)
 
+  -- the part there, trimmed, is that of the trimmed model
+  pub part-in-use : (i : ℕ) → i < m .count → trimmed-part (part-at (m .parts) i) ≡ part-at (trimmed m .parts) i
+  unfolding trimmed
+  part-in-use i h = sym (part-trimmed (m .count) (m .parts) i h wired-places)
+
   -- each is wired to places in use
   pub wired-at : (i : ℕ) → i < m .count → WiredBelow (m .count) (part-at (m .parts) i .component)
   unfolding trimmed trimmed-part trimmed-component
   wired-at i h =
       let q = all-at (λ (p : Part). WiredBelow (m .count) (p .component)) (trimmed m .parts) blank-part i (wired .sources) (rw (← wired .counted) h) in
-      let r = rw (part-trimmed (m .count) (m .parts) i h wired-places) at q in
+      let r = rw (← part-in-use i h) at q in
       record { port0 = r .port0; port1 = r .port1 }
 
-  -- the place that port 0 is wired to is one of the array
-  pub source-place : (i : ℕ) → i < m .count → source-index (part-at (m .parts) i .component .port0) < 32
-  source-place i h =
-      let below = index-below (m .count) (part-at (m .parts) i .component .port0) (omega arith) (wired-at i h .port0) in
-      omega (arith, wired-few)
+  -- the place that a port is wired to is one of the array
+  port-place : (s : Source) → 0 < m .count → SourceBelow (m .count) s → source-index s < most-parts
+  port-place s some below = place-in-use (source-index s) (index-below (m .count) s some below)
 
--- a port that is wired to a part in use reads a signal
-pub reading-in-range :
-    (ps : List Part) (s : Source) → SourceBelow (length ps) s → All InRange ps → is-signal (reading ps s) ≡ true
-unfolding reading is-signal SourceBelow
-reading-in-range ps Unwired below r = refl
-reading-in-range ps (From k) below r = all-at InRange ps blank-part k r below .output
+  pub source-place : (i : ℕ) → i < m .count → source-index (part-at (m .parts) i .component .port0) < most-parts
+  source-place i h = port-place (part-at (m .parts) i .component .port0) (omega arith) (wired-at i h .port0)
+
+  pub source-place1 : (i : ℕ) → i < m .count → source-index (part-at (m .parts) i .component .port1) < most-parts
+  source-place1 i h = port-place (part-at (m .parts) i .component .port1) (omega arith) (wired-at i h .port1)
+
+  -- a port that is wired to a place in use reads what it reads in the trimmed model
+  pub reading-in-use : (s : Source) → SourceBelow (m .count) s → reading (m .parts) s ≡ reading (trimmed m .parts) s
+  unfolding trimmed
+  reading-in-use s below = sym (reading-trimmed (m .count) (m .parts) s below wired-places)

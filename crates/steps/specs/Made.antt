@@ -2,8 +2,8 @@
 use Prim.Native.Nat.{ℕ, _≤_, _<_}
 use mathlib.Core.Path.{_≡_, refl, sym, ap, subst, _∙_}
 use mathlib.Core.Bool.{true}
-use mathlib.Core.List.{List, [], _∷_, List·Memᴰ, List·Memᴰ·head, List·Memᴰ·tail}
-use lib.ListN.{length, length-map}
+use mathlib.Core.List.{List, [], _∷_, map, List·Memᴰ, List·Memᴰ·head, List·Memᴰ·tail}
+use lib.ListN.{length}
 use Rattle.machine.specs.declared.time.Point.{Point}
 use Rattle.machine.specs.declared.part.Component.{Component}
 use Rattle.machine.specs.declared.part.Part.{Part}
@@ -15,16 +15,15 @@ use Rattle.machine.specs.Model.{with-parts, reading0, trimmed, spare-spans, Sam
 use Rattle.machine.specs.Table.{table-of, part-order}
 use Rattle.machine.specs.Step.{moved, all-moved, filled, all-settled, step-made}
 use Rattle.machine.specs.Sound.{sound}
-use Rattle.laws.specs.Alls.{all-map, all-same-map, length-same-map}
+use Rattle.laws.specs.Alls.{map-kept, all-map}
 use Rattle.soundness.specs.Facts.{table-facts, sound-facts}
 use Rattle.soundness.specs.Ranges.{all-moved-in-range}
+use Rattle.soundness.specs.Kept.{filled-kept}
 use Rattle.soundness.specs.Stepped.{in-range}
 use Rattle.ordering.specs.Order.{order-below, order-length}
-use Rattle.steps.specs.Reading.{WiredBelow}
-use Rattle.steps.specs.Trimmed.{Changed}
-use Rattle.steps.specs.Fillable.{Wired, Fillable}
+use Rattle.steps.specs.Trimmed.{Changed, changed-count, unused-through}
+use Rattle.steps.specs.Fillable.{Wired, Fillable, kept-wired, changed-wired}
 use Rattle.steps.specs.SoundParts.{sound-wired, sound-periods, sound-many}
-use Rattle.steps.specs.Filling.{filled-kept}
 
 -- what holds of every number in a list holds of all its elements
 members-all : (P : ℕ → Type 0) (l : List ℕ) → ((k : ℕ) → List·Memᴰ k l → P k) → All P l
@@ -36,24 +35,16 @@ pub order-numbers : (cs : List Component) → All (λ (k : ℕ). k < length cs) 
 order-numbers cs = members-all (λ (k : ℕ). k < length cs) (part-order cs) (order-below cs)
 
 -- once a sound model's parts are moved, its outputs can be filled
-pub moved-fillable :
+moved-fillable :
     (m : Model) (now : Point) (h : ℕ) → sound m ≡ true → Fillable m (with-parts m now (all-moved (tick (m .point)) h (m .parts)))
 unfolding all-moved moved table-of
 moved-fillable m now h s =
     let facts = sound-facts m s in
-    let wired = sound-wired m s in
     let t = tick (m .point) in
     let f : Part → Part = λ p. moved t h (reading0 (m .parts) p) p in
     let cs = table-of m .parts in
     record {
-      wired =
-          record {
-            few = wired .few;
-            counted = facts .counted ∙ sym (length-map (m .parts) f);
-            sources =
-                all-map f (λ (p : Part). WiredBelow (m .count) (p .component)) (λ (p : Part). WiredBelow (m .count) (p .component)) (m .parts)
-                (λ p w. w) (wired .sources);
-          };
+      wired = kept-wired m now (map f (m .parts)) (map-kept (λ (p : Part). p .component) f (m .parts) (λ p. refl)) (sound-wired m s);
       counted = facts .counted;
       same = refl;
       places = sym (ap length (facts .order) ∙ order-length cs (table-facts (table-of m) (facts .table) .order) ∙ sound-many m s);
@@ -63,32 +54,6 @@ moved-fillable m now h s =
       before = in-range m s;
       ranges = all-moved-in-range t h (m .parts) (in-range m s);
     }
-
--- a model with its outputs filled is wired as before
-pub filled-wired :
-    (old : List Part) (now : Point) (ks : List ℕ) (m : Model) → Wired m → Wired (with-parts m now (filled old now ks (m .parts)))
-filled-wired old now ks m wired =
-    let kept = filled-kept old now (λ (p : Part). p .component) (λ p out. refl) ks (m .parts) in
-    record {
-      few = wired .few;
-      counted = wired .counted ∙ sym (length-same-map (λ (p : Part). p .component) (filled old now ks (m .parts)) (m .parts) kept);
-      sources =
-          all-same-map (λ (p : Part). p .component) (WiredBelow (m .count)) (filled old now ks (m .parts)) (m .parts) kept (wired .sources);
-    }
-
--- the places in no use stay as they were through two changes
-pub unused-through : (m b r : Model) → b .count ≡ m .count → SameUnused m b → SameUnused b r → SameUnused m r
-unused-through m b r e u v =
-    record {
-      orders = (rw e at (v .orders)) ∙ u .orders;
-      parts = (rw e at (v .parts)) ∙ u .parts;
-      spans = λ i h. v .spans i (rw e h) ∙ u .spans i h;
-    }
-
--- a changed model has the count of the model before
-pub changed-count : (m : Model) (ps : List Part) (r : Model) → Changed m ps r → r .count ≡ m .count
-unfolding trimmed
-changed-count m ps r c = ap (λ (x : Model). x .count) (c .is)
 
 -- a model with its outputs filled, and then settled
 pub finished :
@@ -108,13 +73,13 @@ abbrev pub at-point : Model → Point → Model
 at-point a now = with-parts a now (a .parts)
 
 -- the model m with its parts moved, at the new point
-pub moved-is :
+moved-is :
     (m a : Model) (now : Point) (ps : List Part) → Changed m ps a → trimmed (at-point a now) ≡ with-parts (trimmed m) now ps
 unfolding trimmed
 moved-is m a now ps moves = ap (λ (x : Model). with-parts x now (x .parts)) (moves .is)
 
 -- its places in no use are those of m
-pub moved-unused : (m a : Model) (now : Point) (ps : List Part) → Changed m ps a → SameUnused m (at-point a now)
+moved-unused : (m a : Model) (now : Point) (ps : List Part) → Changed m ps a → SameUnused m (at-point a now)
 unfolding spare-spans
 moved-unused m a now ps moves =
     record { orders = moves .unused .orders; parts = moves .unused .parts; spans = moves .unused .spans }
@@ -146,7 +111,9 @@ made-fillable m a now h s moves =
 pub filled-settleable :
     (old : List Part) (b f : Model) → Wired (trimmed b) → Changed b (filled old (b .point) (trimmed b .order) (trimmed b .parts)) f →
     Wired (trimmed f)
-filled-settleable old b f wired fills = subst Wired (sym (fills .is)) (filled-wired old (b .point) (trimmed b .order) (trimmed b) wired)
+filled-settleable old b f wired fills =
+    changed-wired b (filled old (b .point) (trimmed b .order) (trimmed b .parts)) f fills
+    (filled-kept (λ (p : Part). p .component) (λ p out. refl) old (b .point) (trimmed b .order) (trimmed b .parts)) wired
 
 -- the places in no use stay as they were through the step
 pub made-unused : (m a r : Model) (now : Point) (ps qs : List Part) → Changed m ps a → Changed (at-point a now) qs r → SameUnused m r

@@ -26,7 +26,7 @@ heard Unwired out = Absent
 heard (From k) out = out
 
 -- together they are a port's reading
-pub heard-reading : (ps : List Part) (s : Source) → heard s (part-at ps (source-index s) .state .output) ≡ reading ps s
+heard-reading : (ps : List Part) (s : Source) → heard s (part-at ps (source-index s) .state .output) ≡ reading ps s
 unfolding source-index heard reading
 heard-reading ps Unwired = refl
 heard-reading ps (From k) = refl
@@ -59,16 +59,20 @@ unfolding reading SourceBelow trimmed-part
 reading-trimmed n ps Unwired below l = refl
 reading-trimmed n ps (From k) below l = ap (λ (p : Part). p .state .output) (part-trimmed n ps k below l)
 
--- so what is heard from the place that port 0 of a part is wired to is its reading
+-- what is heard from the place that a port is wired to is its reading
+heard-at :
+    (ps : List Part) (s : Source) (k : ℕ) (x : Signal) → k ≡ source-index s → x ≡ heard s (part-at ps k .state .output) → x ≡ reading ps s
+heard-at ps s k x e f = f ∙ ap (λ j. heard s (part-at ps j .state .output)) e ∙ heard-reading ps s
+
+-- so it is for ports 0 and 1 of a part
 pub heard0 :
     (ps : List Part) (p : Part) (k : ℕ) (x : Signal) → k ≡ source-index (p .component .port0) →
     x ≡ heard (p .component .port0) (part-at ps k .state .output) → x ≡ reading0 ps p
 unfolding reading0
-heard0 ps p k x e f = f ∙ (ap (λ j. heard (p .component .port0) (part-at ps j .state .output)) e ∙ heard-reading ps (p .component .port0))
+heard0 ps p = heard-at ps (p .component .port0)
 
--- the same of port 1
 pub heard1 :
     (ps : List Part) (p : Part) (k : ℕ) (x : Signal) → k ≡ source-index (p .component .port1) →
     x ≡ heard (p .component .port1) (part-at ps k .state .output) → x ≡ reading1 ps p
 unfolding reading1
-heard1 ps p k x e f = f ∙ (ap (λ j. heard (p .component .port1) (part-at ps j .state .output)) e ∙ heard-reading ps (p .component .port1))
+heard1 ps p = heard-at ps (p .component .port1)

@@ -5,7 +5,6 @@ use mathlib.Core.Bool.{true}
 use mathlib.Core.List.{List, [], _∷_}
 use lib.ListN.{length, set, length-map}
 use lib.Dec.{leb}
-use lib.IntN.{ℤ, pos}
 use borrow.Author.Tests.{leb-true}
 use Rattle.machine.specs.declared.signal.Signal.{Signal}
 use Rattle.machine.specs.declared.part.Kind.{Kind}
@@ -14,17 +13,16 @@ use Rattle.machine.specs.declared.part.Component.{Component}
 use Rattle.machine.specs.declared.part.Part.{Part}
 use Rattle.machine.specs.declared.model.Model.{Model}
 use Rattle.machine.specs.Time.{last-tick, start}
-use Rattle.machine.specs.Signal.{is-value, is-signal}
-use Rattle.machine.specs.Kind.{period, output-as, output, integrates}
+use Rattle.machine.specs.Kind.{period, output-as, output}
 use Rattle.machine.specs.Model.{part-at, with-parts, reading0, reading1, trimmed}
 use Rattle.machine.specs.Table.{Table, component-ratio, periods-fit, part-order}
 use Rattle.machine.specs.Step.{with-output, shown, filled, all-settled}
-use Rattle.machine.specs.Fresh.{first-state, first-part, first-parts, fresh}
+use Rattle.machine.specs.Fresh.{first-part, first-parts, fresh}
 use Rattle.machine.specs.Sound.{table-fits}
-use Rattle.laws.specs.Bools.{cond-cases}
 use Rattle.laws.specs.Alls.{all-map, every-all}
-use Rattle.soundness.specs.Facts.{operand-values, ComponentFits, table-facts}
+use Rattle.soundness.specs.Facts.{ComponentFits, table-facts}
 use Rattle.soundness.specs.Ranges.{InRange}
+use Rattle.soundness.specs.Fresh.{first-in-range}
 use Rattle.ordering.specs.Order.{order-length}
 use Rattle.steps.specs.Reading.{WiredBelow}
 use Rattle.steps.specs.Trimmed.{Changed}
@@ -42,19 +40,6 @@ pub record Unfilled (m : Model) : Type 0 where
   pub table : Table
   pub fits : table-fits table ≡ true
   pub is : trimmed m ≡ unfilled table
-
--- a first part is in range
-first-in-range : (t : Table) (n : ℕ) (c : Component) → ComponentFits n c → InRange (first-part t c)
-unfolding first-part first-state is-value is-signal
-first-in-range t n c f =
-    let (a, b) = operand-values (c .kind) (c .a) (c .b) (c .p) (f .operands) in
-    record {
-      a = a;
-      b = b;
-      held = cond-cases (λ (v : ℤ). is-value v ≡ true) (integrates (c .kind)) (c .a) (pos 0) (λ e. a) (λ e. refl);
-      signal = refl;
-      output = refl;
-    }
 
 -- such a model can be filled, with itself as the model at the point before
 pub unfilled-fillable : (t : Table) → table-fits t ≡ true → Fillable (unfilled t) (unfilled t)

@@ -15,36 +15,39 @@ is-sound-requires c κs = search needs
 barred-number-requires : tie.Need-barred-number-requires
 barred-number-requires c κs = search needs
 
+-- the start, seen from the number that bars the call
+abbrev start-of : tie.After-barred-number → tie.Start
+start-of bars = bars .before .before .before
+
+-- the number is the machine's
+bars-by : (bars : tie.After-barred-number) → bars .barred-number .result ≡ barred (trimmed (start-of bars .args .m)) (start-of bars .args .w)
+bars-by bars =
+    let s = start-of bars in
+    let sounds = bars .before in
+    barred-trimmed (s .args .m) (s .args .w) (bars .barred-number .result) (sounds .is-sound .result) (sounds .is-sound .ensures)
+    (bars .barred-number .ensures)
+
+-- and where it is 0, nothing bars the call
+free : (c : tie.Else1) → barred (trimmed (start-of (c .before) .args .m)) (start-of (c .before) .args .w) ≡ 0
+free c = sym (bars-by (c .before)) ∙ c .if1 .left
+
 returns : tie.Need-returns
 returns c =
     let bars = c .before in
-    let sounds = bars .before in
-    let m = sounds .before .before .args .m in
-    let w = sounds .before .before .args .w in
-    barred-answer m w (bars .barred-number .result)
-    (barred-trimmed m w (bars .barred-number .result) (sounds .is-sound .result) (sounds .is-sound .ensures) (bars .barred-number .ensures)) (c .if1 .taken)
+    let s = start-of bars in
+    barred-answer (s .args .m) (s .args .w) (bars .barred-number .result) (bars-by bars) (c .if1 .taken)
 
 searched-answer-requires : tie.Need-searched-answer-requires
 unfolding trimmed
 searched-answer-requires c κs =
-    let bars = c .before in
-    let sounds = bars .before in
-    let m = sounds .before .before .args .m in
-    let w = sounds .before .before .args .w in
-    let none : barred (trimmed m) w ≡ 0 =
-    sym (barred-trimmed m w (bars .barred-number .result) (sounds .is-sound .result) (sounds .is-sound .ensures) (bars .barred-number .ensures)) ∙ c .if1 .left in
-    let free = not-barred (trimmed m) w none in
-    (free .is-sound, (free .at-most, free .in-time))
+    let s = start-of (c .before) in
+    let met = not-barred (trimmed (s .args .m)) (s .args .w) (free c) in
+    (met .is-sound, (met .at-most, met .in-time))
 
 returns-2 : tie.Need-returns-2
 returns-2 c =
-    let bars = c .before .before in
-    let sounds = bars .before in
-    let m = sounds .before .before .args .m in
-    let w = sounds .before .before .args .w in
-    let none : barred (trimmed m) w ≡ 0 =
-    sym (barred-trimmed m w (bars .barred-number .result) (sounds .is-sound .result) (sounds .is-sound .ensures) (bars .barred-number .ensures)) ∙ c .before .if1 .left in
-    searched-advance m w (c .searched-answer .result) none (c .searched-answer .ensures)
+    let s = start-of (c .before .before) in
+    searched-advance (s .args .m) (s .args .w) (c .searched-answer .result) (free (c .before)) (c .searched-answer .ensures)
 
 pub advance-spec : {M : Type 1} → statement M
 advance-spec =

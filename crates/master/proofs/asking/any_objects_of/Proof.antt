@@ -1,12 +1,12 @@
 -- `any_objects_of` is `any-objects`. The invariant: some part objects where some part from here on does. The measure is what is left of the count.
-use Prim.Native.Nat.{_-_, _≤_}
+use Prim.Native.Nat.{_-_, _≤_, _<_}
 use native.Mathlib.Omega.{arith}
 use mathlib.Core.Path.{_≡_, refl, sym, _∙_}
 use lib.ListN.{drop}
 use Rattle.machine.specs.Lists.{any}
-use Rattle.machine.specs.Model.{part-at, trimmed}
+use Rattle.machine.specs.Model.{most-parts, part-at, trimmed, trimmed-part}
 use Rattle.machine.specs.Advance.{objects, any-objects}
-use Rattle.steps.specs.Fillable.{place-fits, wired-few}
+use Rattle.steps.specs.Fillable.{place-fits, place-in-use}
 use Rattle.master.specs.Asked.{wired, period-of, objects-trimmed, any-hit, any-miss, any-end}
 use Rattle.master.proofs.asking.any_objects_of.Statement.{statement}
 use Rattle.master.proofs.asking.any_objects_of.Tie as tie
@@ -17,56 +17,69 @@ Inv-loop h trial i₀ i = (i ≤ trial .count) × (any (objects h) (drop i (trim
 abbrev μ-loop : tie.MeasureT-loop
 μ-loop h trial i₀ i = trial .count - i
 
+-- the start and the loop's test, seen from later places
+abbrev start-of : tie.In-loop Inv-loop μ-loop → tie.Start Inv-loop μ-loop
+start-of test = test .before .before
+
+abbrev test-of : tie.After-objects-of Inv-loop μ-loop → tie.In-loop Inv-loop μ-loop
+test-of asked = asked .before .before
+
+-- the place of the part asked
+place : (test : tie.In-loop Inv-loop μ-loop) → test .before .loop .i < most-parts
+place test =
+    let s = start-of test in
+    place-in-use (s .args .t2) (wired (s .args .t2) (s .pre)) (test .before .loop .i) (test .loop-test .taken)
+
+-- what the part answers is the definition's test of it
+answers :
+    (asked : tie.After-objects-of Inv-loop μ-loop) →
+    let s = start-of (test-of asked) in
+    objects (s .args .h) (trimmed-part (part-at (s .args .t2 .parts) (test-of asked .before .loop .i))) ≡ asked .objects-of .result
+answers asked =
+    let s = start-of (test-of asked) in
+    objects-trimmed (s .args .h) (part-at (s .args .t2 .parts) (test-of asked .before .loop .i)) ∙ sym (asked .objects-of .ensures)
+
 loop-holds : tie.Need-loop-holds Inv-loop μ-loop
 unfolding any-objects
 loop-holds c = (omega arith, refl)
 
 mul-p : tie.Need-mul-p Inv-loop μ-loop
-mul-p c =
-    let s = c .before .before in
-    place-fits (c .before .loop .i) (s .args .t2 .count) (c .loop-test .taken) (wired-few (s .args .t2) (wired (s .args .t2) (s .pre)))
+mul-p c = place-fits (c .before .loop .i) (place c)
 
 element-copy-out-p : tie.Need-element-copy-out-p Inv-loop μ-loop
-element-copy-out-p c =
-    let s = c .before .before in
-    let few = wired-few (s .args .t2) (wired (s .args .t2) (s .pre)) in
-    omega (arith, c .loop-test .taken)
+element-copy-out-p c = place c
 
 objects-of-requires : tie.Need-objects-of-requires Inv-loop μ-loop
 objects-of-requires c κs =
     let test = c .before in
-    let s = test .before .before in
+    let s = start-of test in
     period-of (s .args .t2) (s .pre) (test .before .loop .i) (test .loop-test .taken)
 
 returns : tie.Need-returns Inv-loop μ-loop
 returns c =
-    let test = c .before .before .before in
-    let s = test .before .before in
-    let m = s .args .t2 in
-    let i = test .before .loop .i in
-    sym (any-hit m (s .pre) (objects (s .args .h)) i (test .loop-test .taken)
-    (objects-trimmed (s .args .h) (part-at (m .parts) i) ∙ sym (c .before .objects-of .ensures) ∙ c .if1 .taken)) ∙
+    let asked = c .before in
+    let test = test-of asked in
+    let s = start-of test in
+    sym (any-hit (s .args .t2) (s .pre) (objects (s .args .h)) (test .before .loop .i) (test .loop-test .taken) (answers asked ∙ c .if1 .taken)) ∙
     test .before .loop .inv .1
 
 add-i : tie.Need-add-i Inv-loop μ-loop
 add-i c =
-    let test = c .before .before .before in
-    let s = test .before .before in
-    let few = wired-few (s .args .t2) (wired (s .args .t2) (s .pre)) in
-    omega (arith, test .loop-test .taken)
+    let below = place (test-of (c .before)) in
+    omega (arith, below)
 
 loop-less : tie.Need-loop-less Inv-loop μ-loop
-loop-less c = omega (arith, c .before .before .before .loop-test .taken)
+loop-less c =
+    let test = test-of (c .before) in
+    omega (arith, test .loop-test .taken)
 
 loop-again : tie.Need-loop-again Inv-loop μ-loop
 loop-again c =
-    let test = c .before .before .before in
-    let s = test .before .before in
-    let m = s .args .t2 in
-    let i = test .before .loop .i in (
+    let asked = c .before in
+    let test = test-of asked in
+    let s = start-of test in (
       omega (arith, test .loop-test .taken),
-      sym (any-miss m (s .pre) (objects (s .args .h)) i (test .loop-test .taken)
-          (objects-trimmed (s .args .h) (part-at (m .parts) i) ∙ sym (c .before .objects-of .ensures) ∙ c .if1 .left)) ∙
+      sym (any-miss (s .args .t2) (s .pre) (objects (s .args .h)) (test .before .loop .i) (test .loop-test .taken) (answers asked ∙ c .if1 .left)) ∙
           test .before .loop .inv .1,
     )
 

@@ -2,6 +2,7 @@
 use mathlib.Core.Path.{sym, _∙_}
 use borrow.Author.Needs.{needs}
 use borrow.Author.Tests.{eq-eqb, ne-eqb}
+use Rattle.machine.specs.Time.{last-microstep}
 use Rattle.machine.specs.Model.{trimmed}
 use Rattle.master.specs.Searching.{refusal}
 use Rattle.master.proofs.search.refusal_of.Statement.{statement}
@@ -14,24 +15,30 @@ returns c = rw (ne-eqb (c .before .args .h) 0 (c .if1 .taken))
 any-due-of-requires : tie.Need-any-due-of-requires
 any-due-of-requires c κs = search needs
 
+-- the tests of a step of 0 where a part is due
+abbrev tests-of : tie.After-struct-known2 → tie.Then2
+tests-of known = known .before .before .before
+
 returns-2 : tie.Need-returns-2
 unfolding refusal trimmed
 returns-2 c =
-    let tests = c .before .before .before in
+    let tests = tests-of (c .before) in
+    let zeros = tests .before .before in
     rw (
-      eq-eqb (tests .before .before .before .args .h) 0 (tests .before .before .if1 .left),
+      eq-eqb (zeros .before .args .h) 0 (zeros .if1 .left),
       sym (tests .before .any-due-of .ensures) ∙ tests .if2 .taken,
-      eq-eqb (tests .before .before .before .args .m .point .n) 999 (c .if3 .taken),
+      eq-eqb (zeros .before .args .m .point .n) last-microstep (c .if3 .taken),
     )
 
 returns-3 : tie.Need-returns-3
 unfolding refusal trimmed
 returns-3 c =
-    let tests = c .before .before .before in
+    let tests = tests-of (c .before) in
+    let zeros = tests .before .before in
     rw (
-      eq-eqb (tests .before .before .before .args .h) 0 (tests .before .before .if1 .left),
+      eq-eqb (zeros .before .args .h) 0 (zeros .if1 .left),
       sym (tests .before .any-due-of .ensures) ∙ tests .if2 .taken,
-      ne-eqb (tests .before .before .before .args .m .point .n) 999 (c .if3 .left),
+      ne-eqb (zeros .before .args .m .point .n) last-microstep (c .if3 .left),
     )
 
 returns-4 : tie.Need-returns-4

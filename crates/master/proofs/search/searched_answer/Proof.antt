@@ -3,8 +3,7 @@
 use Prim.Native.Nat.{ℕ, _+_, _≤_, _<_}
 use native.Mathlib.Omega.{arith}
 use mathlib.Core.Path.{_≡_, sym, ap, subst, _∙_}
-use mathlib.Core.Bool.{Bool, true, false}
-use lib.Dec.{eqb}
+use mathlib.Core.Bool.{true}
 use borrow.Author.Needs.{needs}
 use borrow.Author.Tests.{eqb-true, eqb-false}
 use Rattle.machine.specs.declared.model.Model.{Model}
@@ -39,16 +38,76 @@ unfolding trimmed
 trial-sound m is-sound w h n within far none trial is =
     ap sound is ∙ step-sound (trimmed m) h is-sound (omega arith) (may-step m is-sound h none)
 
--- what a round that changed nothing came to, and one that changed h
-kept : (least h k : ℕ) (test : Bool) → least ≡ k → test ≡ eqb least h → test ≡ true → k ≡ h
-kept least h k test is tests taken = sym is ∙ eqb-true least h (sym tests ∙ taken)
+-- the start, the head of the inner loop, and the trial, seen from later places
+abbrev start-of : tie.At-loop Inv-loop μ-loop Inv-ceilings μ-ceilings → tie.Start Inv-loop μ-loop Inv-ceilings μ-ceilings
+start-of at = at .before .before
 
-changed : (least h k : ℕ) (test : Bool) → least ≡ k → test ≡ eqb least h → test ≡ false → k ≡ h → ⊥
-changed least h k test is tests left e = eqb-false least h (sym tests ∙ left) (is ∙ e)
+abbrev loop-of : tie.After-refusal-of Inv-loop μ-loop Inv-ceilings μ-ceilings → tie.At-loop Inv-loop μ-loop Inv-ceilings μ-ceilings
+loop-of refuses = refuses .before .before .before .before
+
+abbrev loop-of-trial : tie.After-made Inv-loop μ-loop Inv-ceilings μ-ceilings → tie.At-loop Inv-loop μ-loop Inv-ceilings μ-ceilings
+loop-of-trial tries = loop-of (tries .before .before)
+
+-- the model handed in, trimmed
+abbrev model-of : tie.At-loop Inv-loop μ-loop Inv-ceilings μ-ceilings → Model
+model-of at = trimmed (start-of at .args .m)
+
+-- a round that changed h
+changed :
+    (c : tie.Else1 Inv-loop μ-loop Inv-ceilings μ-ceilings) →
+    let at = c .before .before .before in
+    round (model-of at) (at .loop .h) ≡ at .loop .h → ⊥
+changed c same =
+    let rounds = c .before .before in
+    eqb-false (rounds .round-of .result) (rounds .before .loop .h) (sym (c .before .changed-nothing .ensures) ∙ c .if1 .left)
+    (rounds .round-of .ensures ∙ same)
+
+-- lowered it
+lowers :
+    (c : tie.Else1 Inv-loop μ-loop Inv-ceilings μ-ceilings) →
+    let rounds = c .before .before in
+    rounds .round-of .result < rounds .before .loop .h
+lowers c =
+    let rounds = c .before .before in
+    let at = rounds .before in
+    rw (rounds .round-of .ensures) (lower-below (model-of at) (start-of at .pre .0) (at .loop .h) (changed c))
+
+-- one that changed nothing
+kept :
+    (refuses : tie.After-refusal-of Inv-loop μ-loop Inv-ceilings μ-ceilings) →
+    let at = loop-of refuses in
+    round (model-of at) (at .loop .h) ≡ at .loop .h
+kept refuses =
+    let tests = refuses .before .before in
+    let rounds = tests .before in
+    sym (rounds .round-of .ensures) ∙
+    eqb-true (rounds .round-of .result) (rounds .before .loop .h) (sym (tests .changed-nothing .ensures) ∙ refuses .before .if1 .taken)
+
+-- the step is not refused
+not-refused :
+    (c : tie.Else2 Inv-loop μ-loop Inv-ceilings μ-ceilings) →
+    let at = loop-of (c .before) in
+    refusal (model-of at) (at .loop .h) ≡ 0
+not-refused c = sym (c .before .refusal-of .ensures) ∙ c .if2 .left
+
+-- a part objects to it
+objected :
+    (c : tie.Then3 Inv-loop μ-loop Inv-ceilings μ-ceilings) →
+    let at = loop-of-trial (c .before .before) in
+    any-objects (at .loop .h) (step-made (model-of at) (at .loop .h)) ≡ true
+objected c =
+    let tries = c .before .before in
+    ap (any-objects (loop-of-trial tries .loop .h)) (sym (tries .made .ensures .0)) ∙ sym (c .before .any-objects-of .ensures) ∙ c .if3 .taken
+
+-- so it is one of at least 2
+halves : (c : tie.Then3 Inv-loop μ-loop Inv-ceilings μ-ceilings) → 2 ≤ loop-of-trial (c .before .before) .loop .h
+halves c =
+    let tries = c .before .before in
+    let at = loop-of-trial tries in
+    halve-above (model-of at) (start-of at .pre .0) (at .loop .h) (kept (tries .before .before)) (not-refused (tries .before)) (objected c)
 
 ceilings-holds : tie.Need-ceilings-holds Inv-loop μ-loop Inv-ceilings μ-ceilings
-ceilings-holds c =
-    (left-start (trimmed (c .args .m)) (c .args .w), omega arith, omega arith)
+ceilings-holds c = (left-start (trimmed (c .args .m)) (c .args .w), omega arith, omega arith)
 
 loop-holds : tie.Need-loop-holds Inv-loop μ-loop Inv-ceilings μ-ceilings
 loop-holds c =
@@ -57,116 +116,76 @@ loop-holds c =
 
 round-of-requires : tie.Need-round-of-requires Inv-loop μ-loop Inv-ceilings μ-ceilings
 round-of-requires c κs =
-    let s = c .before .before in
-    let far = s .pre .1 .1 in
-    let within = c .loop .inv .1 in
-    (s .pre .0, omega (arith, far, within))
+    let s = start-of c in
+    (s .pre .0, omega (arith, s .pre .1 .1, c .loop .inv .1))
 
 add-rounds : tie.Need-add-rounds Inv-loop μ-loop Inv-ceilings μ-ceilings
 add-rounds c =
-    let s = c .before .before .before in
-    let small = s .pre .1 .0 in
-    let within = c .before .loop .inv .1 in
-    omega (arith, small, within)
+    let at = c .before in
+    omega (arith, start-of at .pre .1 .0, at .loop .inv .1)
 
 changed-nothing-requires : tie.Need-changed-nothing-requires Inv-loop μ-loop Inv-ceilings μ-ceilings
 changed-nothing-requires c κs = search needs
 
 refusal-of-requires : tie.Need-refusal-of-requires Inv-loop μ-loop Inv-ceilings μ-ceilings
-refusal-of-requires c κs =
-    c .before .before .before .before .before .pre .0
+refusal-of-requires c κs = start-of (c .before .before .before) .pre .0
 
 made-requires : tie.Need-made-requires Inv-loop μ-loop Inv-ceilings μ-ceilings
 made-requires c κs =
-    let at = c .before .before .before .before .before in
-    let s = at .before .before in
-    let far = s .pre .1 .1 in
+    let at = loop-of (c .before) in
+    let s = start-of at in
     let small = s .pre .1 .0 in
+    let far = s .pre .1 .1 in
     let within = at .loop .inv .1 in
-    let none : refusal (trimmed (s .args .m)) (at .loop .h) ≡ 0 = sym (c .before .refusal-of .ensures) ∙ c .if2 .left in
-    (s .pre .0, (omega (arith, small, within), (omega (arith, far, within), may-step (s .args .m) (s .pre .0) (at .loop .h) none)))
+    (s .pre .0, (omega (arith, small, within), (omega (arith, far, within), may-step (s .args .m) (s .pre .0) (at .loop .h) (not-refused c))))
 
 any-objects-of-requires : tie.Need-any-objects-of-requires Inv-loop μ-loop Inv-ceilings μ-ceilings
 any-objects-of-requires c κs =
-    let at = c .before .before .before .before .before .before in
-    let s = at .before .before in
-    let m = s .args .m in
-    let h = at .loop .h in
-    let none : refusal (trimmed m) h ≡ 0 = sym (c .before .before .refusal-of .ensures) ∙ c .before .if2 .left in
-    trial-sound m (s .pre .0) (s .args .w) h (at .loop .rounds) (at .loop .inv .1) (s .pre .1 .1) none (c .made .result) (c .made .ensures .0)
+    let at = loop-of-trial c in
+    let s = start-of at in
+    trial-sound (s .args .m) (s .pre .0) (s .args .w) (at .loop .h) (at .loop .rounds) (at .loop .inv .1) (s .pre .1 .1) (not-refused (c .before))
+    (c .made .result) (c .made .ensures .0)
 
 loop-less : tie.Need-loop-less Inv-loop μ-loop Inv-ceilings μ-ceilings
-loop-less c =
-    let rounds = c .before .before in
-    let at = rounds .before in
-    let s = at .before .before in
-    let m = trimmed (s .args .m) in
-    let h = at .loop .h in
-    let is = rounds .round-of .ensures in
-    let other : round m h ≡ h → ⊥ = changed (rounds .round-of .result) h (round m h) _ is (c .before .changed-nothing .ensures) (c .if1 .left) in
-    rw is (lower-below m (s .pre .0) h other)
+loop-less c = lowers c
 
 loop-again : tie.Need-loop-again Inv-loop μ-loop Inv-ceilings μ-ceilings
 loop-again c =
     let rounds = c .before .before in
     let at = rounds .before in
-    let s = at .before .before in
-    let m = trimmed (s .args .m) in
-    let h = at .loop .h in
-    let is = rounds .round-of .ensures in
-    let other : round m h ≡ h → ⊥ = changed (rounds .round-of .result) h (round m h) _ is (c .before .changed-nothing .ensures) (c .if1 .left) in
-    let below : round m h < h = lower-below m (s .pre .0) h other in
+    let s = start-of at in
+    let ceilings = at .before .ceilings in
+    let below = lowers c in
     let inv = at .loop .inv in (
-      subst (λ (l : ℕ). Left m (s .args .w) (at .before .ceilings .ceiling) l (at .loop .rounds + 1) (at .before .ceilings .revisions)) (sym is)
-          (lowered m (s .pre .0) (s .args .w) (at .before .ceilings .ceiling) h (at .loop .rounds) (at .before .ceilings .revisions) (inv .0) other),
-      omega (arith, is, below, inv .1),
-      omega (arith, is, below, inv .2),
-      omega (arith, is, below, inv .3),
+      subst (λ (l : ℕ). Left (model-of at) (s .args .w) (ceilings .ceiling) l (at .loop .rounds + 1) (ceilings .revisions))
+          (sym (rounds .round-of .ensures))
+          (lowered (model-of at) (s .pre .0) (s .args .w) (ceilings .ceiling) (at .loop .h) (at .loop .rounds) (ceilings .revisions) (inv .0) (changed c)),
+      omega (arith, below, inv .1),
+      omega (arith, below, inv .2),
+      omega (arith, below, inv .3),
     )
 
 add-revisions : tie.Need-add-revisions Inv-loop μ-loop Inv-ceilings μ-ceilings
 add-revisions c =
-    let at = c .before .before .before .before .before .before .before .before in
-    let s = at .before .before in
-    let small = s .pre .1 .0 in
-    let within = at .loop .inv .2 in
-    omega (arith, small, within)
+    let at = loop-of-trial (c .before .before) in
+    omega (arith, start-of at .pre .1 .0, at .loop .inv .2)
 
 ceilings-less : tie.Need-ceilings-less Inv-loop μ-loop Inv-ceilings μ-ceilings
 ceilings-less c =
-    let after = c .before .before in
-    let refuses = after .before .before in
-    let rounds = refuses .before .before .before in
-    let at = rounds .before in
-    let s = at .before .before in
-    let m = s .args .m in
-    let h = at .loop .h in
-    let same : round (trimmed m) h ≡ h =
-    kept (rounds .round-of .result) h (round (trimmed m) h) _ (rounds .round-of .ensures) (refuses .before .before .changed-nothing .ensures) (refuses .before .if1 .taken) in
-    let none : refusal (trimmed m) h ≡ 0 = sym (refuses .refusal-of .ensures) ∙ after .before .if2 .left in
-    let some : any-objects h (step-made (trimmed m) h) ≡ true =
-    ap (any-objects h) (sym (after .made .ensures .0)) ∙ sym (c .before .any-objects-of .ensures) ∙ c .if3 .taken in
-    let two : 2 ≤ h = halve-above (trimmed m) (s .pre .0) h same none some in
-    let within = at .loop .inv .3 in
+    let two = halves c in
+    let within = loop-of-trial (c .before .before) .loop .inv .3 in
     omega (arith, two, within)
 
 ceilings-again : tie.Need-ceilings-again Inv-loop μ-loop Inv-ceilings μ-ceilings
 ceilings-again c =
-    let after = c .before .before in
-    let refuses = after .before .before in
-    let rounds = refuses .before .before .before in
-    let at = rounds .before in
-    let s = at .before .before in
-    let m = s .args .m in
-    let h = at .loop .h in
-    let same : round (trimmed m) h ≡ h =
-    kept (rounds .round-of .result) h (round (trimmed m) h) _ (rounds .round-of .ensures) (refuses .before .before .changed-nothing .ensures) (refuses .before .if1 .taken) in
-    let none : refusal (trimmed m) h ≡ 0 = sym (refuses .refusal-of .ensures) ∙ after .before .if2 .left in
-    let some : any-objects h (step-made (trimmed m) h) ≡ true =
-    ap (any-objects h) (sym (after .made .ensures .0)) ∙ sym (c .before .any-objects-of .ensures) ∙ c .if3 .taken in
-    let two : 2 ≤ h = halve-above (trimmed m) (s .pre .0) h same none some in
+    let tries = c .before .before in
+    let at = loop-of-trial tries in
+    let s = start-of at in
+    let ceilings = at .before .ceilings in
+    let two = halves c in
     let inv = at .loop .inv in (
-      halved (trimmed m) (s .pre .0) (s .args .w) (at .before .ceilings .ceiling) h (at .loop .rounds) (at .before .ceilings .revisions) (inv .0) same none some,
+      halved (model-of at) (s .pre .0) (s .args .w) (ceilings .ceiling) (at .loop .h) (at .loop .rounds) (ceilings .revisions) (inv .0)
+          (kept (tries .before .before)) (not-refused (tries .before)) (objected c),
       omega (arith, two, inv .1),
       omega (arith, two, inv .2),
     )
@@ -174,30 +193,21 @@ ceilings-again c =
 returns : tie.Need-returns Inv-loop μ-loop Inv-ceilings μ-ceilings
 returns c =
     let refuses = c .before in
-    let rounds = refuses .before .before .before in
-    let at = rounds .before in
-    let s = at .before .before in
-    let m = s .args .m in
-    let h = at .loop .h in
-    let same : round (trimmed m) h ≡ h =
-    kept (rounds .round-of .result) h (round (trimmed m) h) _ (rounds .round-of .ensures) (refuses .before .before .changed-nothing .ensures) (refuses .before .if1 .taken) in
-    refused-answer m (s .pre .0) (s .args .w) (at .before .ceilings .ceiling) h (at .loop .rounds) (at .before .ceilings .revisions) (refuses .refusal-of .result)
-    (at .loop .inv .0) same (refuses .refusal-of .ensures) (c .if2 .taken)
+    let at = loop-of refuses in
+    let s = start-of at in
+    let ceilings = at .before .ceilings in
+    refused-answer (s .args .m) (s .pre .0) (s .args .w) (ceilings .ceiling) (at .loop .h) (at .loop .rounds) (ceilings .revisions)
+    (refuses .refusal-of .result) (at .loop .inv .0) (kept refuses) (refuses .refusal-of .ensures) (c .if2 .taken)
 
 returns-2 : tie.Need-returns-2 Inv-loop μ-loop Inv-ceilings μ-ceilings
 returns-2 c =
-    let after = c .before .before in
-    let refuses = after .before .before in
-    let rounds = refuses .before .before .before in
-    let at = rounds .before in
-    let s = at .before .before in
-    let m = s .args .m in
-    let h = at .loop .h in
-    let same : round (trimmed m) h ≡ h =
-    kept (rounds .round-of .result) h (round (trimmed m) h) _ (rounds .round-of .ensures) (refuses .before .before .changed-nothing .ensures) (refuses .before .if1 .taken) in
-    let none : refusal (trimmed m) h ≡ 0 = sym (refuses .refusal-of .ensures) ∙ after .before .if2 .left in
-    committed-answer m (s .pre .0) (after .made .result) (s .args .w) (at .before .ceilings .ceiling) h (at .loop .rounds) (at .before .ceilings .revisions)
-    (at .loop .inv .0) same none (sym (c .before .any-objects-of .ensures) ∙ c .if3 .left) (after .made .ensures .0) (after .made .ensures .1)
+    let tries = c .before .before in
+    let at = loop-of-trial tries in
+    let s = start-of at in
+    let ceilings = at .before .ceilings in
+    committed-answer (s .args .m) (s .pre .0) (tries .made .result) (s .args .w) (ceilings .ceiling) (at .loop .h) (at .loop .rounds) (ceilings .revisions)
+    (at .loop .inv .0) (kept (tries .before .before)) (not-refused (tries .before)) (sym (c .before .any-objects-of .ensures) ∙ c .if3 .left)
+    (tries .made .ensures .0) (tries .made .ensures .1)
 
 pub searched-answer-spec : {M : Type 1} → statement M
 searched-answer-spec =

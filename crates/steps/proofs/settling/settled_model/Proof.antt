@@ -1,137 +1,100 @@
 -- `settled_model` is `all-settled` of the model that `filled_model` gives. The invariant: of the parts the first i are settled, each by its reading in
 -- that model, and nothing else is changed. The measure is what is left of the count.
-use Prim.Native.Nat.{ℕ, _+_, _-_, _≤_, _<_}
+use Prim.Native.Nat.{_-_, _≤_}
 use native.Mathlib.Omega.{arith}
 use borrow.Author.Tests.{not-true}
-use mathlib.Core.Path.{_≡_, refl, ap, sym, _∙_}
+use mathlib.Core.Path.{_≡_, sym, ap, _∙_}
 use mathlib.Core.Bool.{false}
-use lib.ListN.{length}
 use Rattle.machine.specs.declared.part.Part.{Part}
 use Rattle.machine.specs.declared.model.Model.{Model}
-use Rattle.machine.specs.Model.{blank-part, with-parts, reading0, part-at, trimmed}
+use Rattle.machine.specs.Model.{reading0, part-at, trimmed, trimmed-part, trimmed-component}
 use Rattle.machine.specs.Step.{settled, all-settled}
-use Rattle.laws.specs.Partway.{partway, partway-same}
-use Rattle.steps.specs.Reading.{source-index}
-use Rattle.steps.specs.Trimmed.{all-changed, replaced}
-use Rattle.steps.specs.Fillable.{place-fits, Wired, wired-few, wired-places, wired-at, source-place}
-use Rattle.steps.specs.InPlace.{unchanged, changed-next}
-use Rattle.steps.specs.Settling.{settled-unread, settled-component, settled-output, settles, settled-same}
+use Rattle.steps.specs.Trimmed.{Changed, none-changed}
+use Rattle.steps.specs.Fillable.{Wired, place-fits}
+use Rattle.steps.specs.InPlace.{changed-to, Turn, turn, all-changed}
+use Rattle.steps.specs.Settling.{settling, settles, settled-same}
 use Rattle.steps.specs.Made.{filled-settleable, finished}
 use Rattle.steps.proofs.settling.settled_model.Statement.{statement}
 use Rattle.steps.proofs.settling.settled_model.Tie as tie
 
 abbrev Inv-loop : tie.InvT-loop
-Inv-loop next₀ i₀ next i =
-    (i ≤ next₀ .count) ×
-    (next ≡ with-parts next₀ (next₀ .point) (partway (λ p. settled (reading0 (next₀ .parts) p) p) i (next₀ .parts)))
+Inv-loop next₀ i₀ next i = (i ≤ next₀ .count) × Changed next₀ (changed-to settled next₀ i) next
 
 abbrev μ-loop : tie.MeasureT-loop
 μ-loop next₀ i₀ next i = next₀ .count - i
 
--- what a turn of the loop asks, of the model m at first and the one that the loop holds
-record Turn (m next : Model) (i : ℕ) : Type 0 where
-  pub within : i < m .count
-  pub few : m .count ≤ 32
-  pub places : m .count ≤ length (m .parts)
-  pub source : source-index (part-at (next .parts) i .component .port0) < 32
+-- the model with its outputs filled, and how it is wired
+abbrev filled-of : tie.After-filled-model Inv-loop μ-loop → Model
+filled-of s = s .filled-model .result
 
-turn :
-    (m next : Model) (i : ℕ) → Wired (trimmed m) →
-    next ≡ with-parts m (m .point) (partway (λ p. settled (reading0 (m .parts) p) p) i (m .parts)) → i < next .count → Turn m next i
-turn m next i wired e h =
-    let within : i < m .count = rw (ap (λ (x : Model). x .count) e) at h in
-    record {
-      within = within;
-      few = wired-few m wired;
-      places = wired-places m wired;
-      source = rw (unchanged settled settled-output (m .parts) (next .parts) i (ap (λ (x : Model). x .parts) e)) (source-place m wired i within);
-    }
+wired : (s : tie.After-filled-model Inv-loop μ-loop) → Wired (trimmed (filled-of s))
+wired s =
+    let start = s .before in
+    filled-settleable (trimmed (start .args .old) .parts) (start .args .new) (filled-of s) (start .pre .wired) (s .filled-model .ensures)
+
+-- the loop's test, seen from a part that is passed over, from the call that finds the source, and from the part settled
+abbrev test-of-passed : tie.Then1 Inv-loop μ-loop → tie.In-loop Inv-loop μ-loop
+test-of-passed c = c .before .before .before .before
+
+abbrev test-of : tie.After-source-index Inv-loop μ-loop → tie.In-loop Inv-loop μ-loop
+test-of source = source .before .before .before .before .before
+
+abbrev source-of : tie.After-settled-part Inv-loop μ-loop → tie.After-source-index Inv-loop μ-loop
+source-of c = c .before .before .before .before
+
+-- the turn at the loop's test
+turn-at :
+    (test : tie.In-loop Inv-loop μ-loop) → Turn settled (filled-of (test .before .before)) (test .before .loop .next) (test .before .loop .i)
+turn-at test =
+    let s = test .before .before in
+    let loop = test .before .loop in
+    turn settled settling (filled-of s) (wired s) (loop .next) (loop .i) (loop .inv .1) (test .loop-test .taken)
 
 filled-model-requires : tie.Need-filled-model-requires Inv-loop μ-loop
 filled-model-requires c κs = c .pre
 
--- the model with its outputs filled, and how it is wired
-abbrev f : tie.After-filled-model Inv-loop μ-loop → Model
-f s = s .filled-model .result
-
-wired : (s : tie.After-filled-model Inv-loop μ-loop) → Wired (trimmed (f s))
-wired s =
-    let new = s .before .args .new in
-    filled-settleable (trimmed (s .before .args .old) .parts) new (s .filled-model .result) (s .before .pre .wired) (s .filled-model .ensures)
-
 loop-holds : tie.Need-loop-holds Inv-loop μ-loop
-loop-holds c = (omega arith, refl)
+loop-holds c = (omega arith, none-changed (filled-of c))
 
 mul-p : tie.Need-mul-p Inv-loop μ-loop
-mul-p c =
-    let test = c in
-    let s = test .before .before in
-    let loop = test .before .loop in
-    let at = turn (f s) (loop .next) (loop .i) (wired s) (loop .inv .1) (test .loop-test .taken) in
-    place-fits (loop .i) (f s .count) (at .within) (at .few)
+mul-p c = place-fits (c .before .loop .i) (turn-at c .place)
 
 element-copy-out-p : tie.Need-element-copy-out-p Inv-loop μ-loop
-element-copy-out-p c =
-    let test = c in
-    let s = test .before .before in
-    let loop = test .before .loop in
-    let at = turn (f s) (loop .next) (loop .i) (wired s) (loop .inv .1) (test .loop-test .taken) in
-    omega (arith, at .within, at .few)
+element-copy-out-p c = turn-at c .place
 
 settles-requires : tie.Need-settles-requires Inv-loop μ-loop
 settles-requires c κs = tt
 
 add-i : tie.Need-add-i Inv-loop μ-loop
 add-i c =
-    let test = c .before .before .before .before in
-    let s = test .before .before in
-    let loop = test .before .loop in
-    let at = turn (f s) (loop .next) (loop .i) (wired s) (loop .inv .1) (test .loop-test .taken) in
-    omega (arith, at .within, at .few)
+    let at = turn-at (test-of-passed c) in
+    omega (arith, at .place)
 
 loop-less : tie.Need-loop-less Inv-loop μ-loop
 loop-less c =
-    let test = c .before .before .before .before in
-    let s = test .before .before in
-    let loop = test .before .loop in
-    let at = turn (f s) (loop .next) (loop .i) (wired s) (loop .inv .1) (test .loop-test .taken) in
+    let at = turn-at (test-of-passed c) in
     omega (arith, at .within)
 
 loop-again : tie.Need-loop-again Inv-loop μ-loop
+unfolding trimmed-part trimmed-component
 loop-again c =
-    let test = c .before .before .before .before in
-    let s = test .before .before in
-    let loop = test .before .loop in
-    let at = turn (f s) (loop .next) (loop .i) (wired s) (loop .inv .1) (test .loop-test .taken) in
-    let m = f s in
-    let same = unchanged settled settled-output (m .parts) (loop .next .parts) (loop .i) (ap (λ (x : Model). x .parts) (loop .inv .1)) in
-    let none : settles (part-at (m .parts) (loop .i) .component .kind) ≡ false = rw same at (sym (c .before .settles .ensures) ∙ not-true (c .before .settles .result) (c .if1 .taken)) in
-    let inside : loop .i < length (m .parts) = omega (arith, at .within, at .places) in (
-      omega (arith, at .within),
-      loop .inv .1 ∙
-          ap (with-parts m (m .point))
-          (partway-same (λ (q : Part). settled (reading0 (m .parts) q) q) (loop .i) (m .parts) blank-part
-          (settled-same (reading0 (m .parts) (part-at (m .parts) (loop .i))) (part-at (m .parts) (loop .i)) none) inside),
-    )
+    let test = test-of-passed c in
+    let ps = trimmed (filled-of (test .before .before)) .parts in
+    let p = part-at ps (test .before .loop .i) in
+    let at = turn-at test in
+    let none : settles (p .component .kind) ≡ false =
+    ap (λ (q : Part). settles (q .component .kind)) (sym (at .unchanged)) ∙ sym (c .before .settles .ensures) ∙
+    not-true (c .before .settles .result) (c .if1 .taken) in
+    (omega (arith, at .within), at .passes (settled-same (reading0 ps p) p none))
 
 source-index-requires : tie.Need-source-index-requires Inv-loop μ-loop
 source-index-requires c κs = tt
 
 mul-q : tie.Need-mul-q Inv-loop μ-loop
-mul-q c =
-    let test = c .before .before .before .before .before in
-    let s = test .before .before in
-    let loop = test .before .loop in
-    let at = turn (f s) (loop .next) (loop .i) (wired s) (loop .inv .1) (test .loop-test .taken) in
-    rw (c .source-index .ensures) (place-fits _ 32 (at .source) (omega arith))
+mul-q c = rw (c .source-index .ensures) (place-fits _ (turn-at (test-of c) .source))
 
 element-copy-out-q : tie.Need-element-copy-out-q Inv-loop μ-loop
-element-copy-out-q c =
-    let test = c .before .before .before .before .before in
-    let s = test .before .before in
-    let loop = test .before .loop in
-    let at = turn (f s) (loop .next) (loop .i) (wired s) (loop .inv .1) (test .loop-test .taken) in
-    rw (c .source-index .ensures) (at .source)
+element-copy-out-q c = rw (c .source-index .ensures) (turn-at (test-of c) .source)
 
 heard-of-requires : tie.Need-heard-of-requires Inv-loop μ-loop
 heard-of-requires c κs = tt
@@ -141,66 +104,37 @@ settled-part-requires c κs = tt
 
 mul-settled : tie.Need-mul-settled Inv-loop μ-loop
 mul-settled c =
-    let test = c .before .before .before .before .before .before .before .before .before in
-    let s = test .before .before in
-    let loop = test .before .loop in
-    let at = turn (f s) (loop .next) (loop .i) (wired s) (loop .inv .1) (test .loop-test .taken) in
-    place-fits (loop .i) (f s .count) (at .within) (at .few)
+    let test = test-of (source-of c) in
+    place-fits (test .before .loop .i) (turn-at test .place)
 
 element-set-from-settled : tie.Need-element-set-from-settled Inv-loop μ-loop
-element-set-from-settled c =
-    let test = c .before .before .before .before .before .before .before .before .before in
-    let s = test .before .before in
-    let loop = test .before .loop in
-    let at = turn (f s) (loop .next) (loop .i) (wired s) (loop .inv .1) (test .loop-test .taken) in
-    omega (arith, at .within, at .few)
+element-set-from-settled c = turn-at (test-of (source-of c)) .place
 
 add-i-2 : tie.Need-add-i-2 Inv-loop μ-loop
 add-i-2 c =
-    let test = c .before .before .before .before .before .before .before .before .before in
-    let s = test .before .before in
-    let loop = test .before .loop in
-    let at = turn (f s) (loop .next) (loop .i) (wired s) (loop .inv .1) (test .loop-test .taken) in
-    omega (arith, at .within, at .few)
+    let at = turn-at (test-of (source-of c)) in
+    omega (arith, at .place)
 
 loop-less-2 : tie.Need-loop-less-2 Inv-loop μ-loop
 loop-less-2 c =
-    let test = c .before .before .before .before .before .before .before .before .before in
-    let s = test .before .before in
-    let loop = test .before .loop in
-    let at = turn (f s) (loop .next) (loop .i) (wired s) (loop .inv .1) (test .loop-test .taken) in
+    let at = turn-at (test-of (source-of c)) in
     omega (arith, at .within)
 
 loop-again-2 : tie.Need-loop-again-2 Inv-loop μ-loop
 loop-again-2 c =
-    let test = c .before .before .before .before .before .before .before .before .before in
-    let s = test .before .before in
-    let loop = test .before .loop in
-    let at = turn (f s) (loop .next) (loop .i) (wired s) (loop .inv .1) (test .loop-test .taken) in
-    let m = f s in
-    let source = c .before .before .before .before in
-    let g : Part → Part = λ q. settled (reading0 (m .parts) q) q in
-    let inside : loop .i < length (m .parts) = omega (arith, at .within, at .places) in (
-      omega (arith, at .within),
-      replaced m (loop .next) (partway g (loop .i) (m .parts)) _ (partway g (loop .i + 1) (m .parts)) (loop .inv .1)
-          (changed-next settled settled-output (m .parts) (loop .next .parts) (loop .i) (ap (λ (x : Model). x .parts) (loop .inv .1)) (source .source-index .result)
-          (c .before .heard-of .result) (c .settled-part .result) inside (source .source-index .ensures) (c .before .heard-of .ensures)
-          (c .settled-part .ensures)),
-    )
+    let source = source-of c in
+    let hears = c .before in
+    let at = turn-at (test-of source) in
+    let reads = at .reads (source .source-index .result) (hears .heard-of .result) (source .source-index .ensures) (hears .heard-of .ensures) in
+    (omega (arith, at .within), at .changes (hears .heard-of .result) (c .settled-part .result) reads (c .settled-part .ensures))
 
 returns : tie.Need-returns Inv-loop μ-loop
 unfolding all-settled
 returns c =
     let s = c .before .before in
-    let m = f s in
     let loop = c .before .loop in
-    let old = trimmed (s .before .args .old) .parts in
-    let g : Part → Part = λ q. settled (reading0 (m .parts) q) q in
-    let counts : loop .next .count ≡ m .count = ap (λ (x : Model). x .count) (loop .inv .1) in
-    let done : loop .i ≡ m .count = omega (arith, c .loop-test .left, loop .inv .0) in
-    finished old (s .before .args .new) m (loop .next) (s .filled-model .ensures)
-    (all-changed m settled (wired-places m (wired s)) (wired-at m (wired s)) settled-unread settled-component (loop .next)
-    (loop .inv .1 ∙ ap (λ (j : ℕ). with-parts m (m .point) (partway g j (m .parts))) done))
+    finished (trimmed (s .before .args .old) .parts) (s .before .args .new) (filled-of s) (loop .next) (s .filled-model .ensures)
+    (all-changed settled (filled-of s) (wired s) (loop .next) (loop .i) (loop .inv .1) (c .loop-test .left))
 
 pub settled-model-spec : {M : Type 1} → statement M
 settled-model-spec =
