@@ -11,10 +11,10 @@ use Rattle.machine.specs.declared.part.State.{State}
 use Rattle.machine.specs.declared.part.Part.{Part}
 use Rattle.machine.specs.declared.model.Model.{Model}
 use Rattle.machine.specs.Time.{tick}
-use Rattle.machine.specs.Kind.{kind-number, kind-of}
+use Rattle.machine.specs.Kind.{kind-of}
 use Rattle.machine.specs.Model.{blank-part, part-at}
-use Rattle.codec.specs.Words.{table, bytes-of, word-in, signed-word, word-signed}
-use Rattle.codec.specs.Encoded.{source-code, side-code, mark-code, signal-code, signal-value, spans-words, order-words, operand-words, component-words, state-words, part-words, parts-words, model-words, model-bytes}
+use Rattle.codec.specs.Words.{table, bytes-of, word-in, word-signed}
+use Rattle.codec.specs.Encoded.{source-code, spans-words, order-words, operand-words, component-words, state-words, part-words, parts-words, model-words, model-bytes}
 use Rattle.codec.specs.Decoded.{source-of, side-coded, mark-coded, signal-of, signal-in, spans-of, component-of, state-of, part-of, order-of, parts-of, model-of}
 use Rattle.codec.specs.Sized.{SizedComponent, SizedState, SizedPart, Sized}
 use Rattle.codec.specs.Tables.{length-table, table-at, table-same, table-list, rows-at}

@@ -1,7 +1,7 @@
 -- `signed_word` is the definition: a negative number is −(n + 1), n being its distance from 0 less 1.
 use mir.Val.{ofZ, toZ}
 use native.Mathlib.Omega.{arith}
-use mathlib.Core.Path.{ap, _∙_}
+use mathlib.Core.Path.{ap}
 use mir.Syntax.{w64}
 use mir.ValLaws.{toZ-ofZ}
 use Rattle.codec.specs.Words.{signed-word}
