@@ -20,6 +20,8 @@ mod draft;
 #[allow(dead_code)]
 #[path = "../../../second/src/bin/differ/generate.rs"]
 mod generate;
+#[path = "../../../second/src/bin/differ/options.rs"]
+mod options;
 #[allow(dead_code)]
 #[path = "../../../second/src/bin/differ/random.rs"]
 mod random;
@@ -313,19 +315,10 @@ struct Arguments {
 }
 
 fn arguments() -> Option<Arguments> {
-    let mut given = std::env::args().skip(1);
-    let mut arguments = Arguments { calls: 200_000, seed: 1, only: None, trace: false };
-    while let Some(name) = given.next() {
-        let number = given.next()?.parse().ok()?;
-        match name.as_str() {
-            "--calls" => arguments.calls = number,
-            "--seed" => arguments.seed = number,
-            "--only" => arguments.only = Some(number),
-            "--trace" => arguments.trace = number == 1,
-            _ => return None,
-        }
-    }
-    Some(arguments)
+    let given = std::env::args().skip(1);
+    let [calls, seed, only, trace] = options::numbers(given, ["--calls", "--seed", "--only", "--trace"])?;
+    let (calls, seed) = (calls.unwrap_or(200_000), seed.unwrap_or(1));
+    Some(Arguments { calls, seed, only, trace: trace == Some(1) })
 }
 
 fn compare(arguments: &Arguments) -> Result<String, String> {

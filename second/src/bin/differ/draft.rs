@@ -79,6 +79,20 @@ impl Draft {
         number
     }
 
+    /// A part whose port 0 reads another.
+    pub fn add_reading(&mut self, source: usize, kind: u8, a: i32, p: u32) -> usize {
+        let number = self.add(kind, a, 0, p);
+        self.wire(source, number, 0);
+        number
+    }
+
+    /// A part of two ports, such as an adder or a sampler, that reads two others.
+    pub fn add_joining(&mut self, kind: u8, source0: usize, source1: usize) -> usize {
+        let number = self.add_reading(source0, kind, 0, 0);
+        self.wire(source1, number, 1);
+        number
+    }
+
     pub fn wire(&mut self, source: usize, reader: usize, port: u8) {
         if !self.is_wired(reader, port) {
             self.wires.push((source, reader, port));
