@@ -19,7 +19,12 @@ pub const KINDS: usize = 12;
 pub const NO_PREFERENCE: u8 = 0xFF;
 
 /// Ports of each kind.
-const PORTS: [u8; KINDS] = [0, 1, 2, 0, 0, 1, 1, 2, 1, 1, 2, 1];
+pub const PORTS: [u8; KINDS] = [0, 1, 2, 0, 0, 1, 1, 2, 1, 1, 2, 1];
+
+/// Whether a kind's output reads a port within a point.
+pub fn is_direct(kind: u8, port: u8) -> bool {
+    matches!((kind, port), (GAIN | HOLD, 0) | (ADDER | SAMPLER, 0 | 1) | (RESET, 1))
+}
 
 #[derive(Clone, Debug)]
 pub struct Row {

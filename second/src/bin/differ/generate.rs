@@ -144,8 +144,7 @@ fn join(draft: &mut Draft, random: &mut Random) {
         if often == 0 || random.once_in(often + 1) {
             continue;
         }
-        let direct =
-            !matches!((draft.rows[reader].kind, port), (DELAY | INTEGRATOR | DETECTOR | DRIVE, _) | (RESET, 0));
+        let direct = is_direct(draft.rows[reader].kind, port);
         let source = random.below(if direct && !loops { reader.max(1) } else { draft.rows.len() });
         // A delay that always reads something would not let time go on.
         let steady = !matches!(draft.rows[source].kind, PULSE | DETECTOR | SAMPLER | DELAY);
