@@ -117,38 +117,33 @@ pub struct Answer {
 
 extern "C" {
     fn dozhumek_load(stream: *const u8, stream_length: usize, out: *mut u8, out_length: usize) -> u64;
-    fn dozhumek_advance(
-        model: *const u8,
-        model_length: usize,
-        wanted: u64,
-        out: *mut u8,
-        out_length: usize,
-    ) -> u64;
+    fn dozhumek_advance(model: *const u8, model_length: usize, wanted: u64, out: *mut u8, out_length: usize) -> u64;
+}
+
+/// The bytes of an answer of N bytes, which `call` writes into a buffer of this function's own, handed over
+/// as its first byte and its length.
+fn answered<const N: usize>(call: impl FnOnce(*mut u8, usize) -> u64) -> [u8; N] {
+    let mut out = [0u8; N];
+    let number = call(out.as_mut_ptr(), out.len());
+    assert_eq!(number, 0, "an answer has {N} bytes");
+    out
 }
 
 /// The table at the start of a stream, loaded.
 pub fn load(stream: &[u8]) -> Loaded {
-    let mut out = [0u8; LOADED_BYTES];
-    // The slices are whole, and `out` is this function's own, so that it overlaps no other.
-    let number = unsafe { dozhumek_load(stream.as_ptr(), stream.len(), out.as_mut_ptr(), out.len()) };
-    assert_eq!(number, 0, "a load's answer has {LOADED_BYTES} bytes");
+    // SAFETY: both slices are whole, and the answer's overlaps no other.
+    let out: [u8; LOADED_BYTES] =
+        answered(|out, length| unsafe { dozhumek_load(stream.as_ptr(), stream.len(), out, length) });
     let mut from = Reader::new(&out);
-    Loaded {
-        number: from.word(),
-        position: from.word(),
-        model: from.model(),
-    }
+    Loaded { number: from.word(), position: from.word(), model: from.model() }
 }
 
 /// One advance of a model, by at most `wanted`.
 pub fn advance(model: &Model, wanted: u64) -> Answer {
     let given = model.bytes();
-    let mut out = [0u8; ANSWER_BYTES];
-    // The slices are whole, and `out` is this function's own, so that it overlaps no other.
-    let number = unsafe {
-        dozhumek_advance(given.as_ptr(), given.len(), wanted, out.as_mut_ptr(), out.len())
-    };
-    assert_eq!(number, 0, "an advance's answer has {ANSWER_BYTES} bytes");
+    // SAFETY: both slices are whole, and the answer's overlaps no other.
+    let out: [u8; ANSWER_BYTES] =
+        answered(|out, length| unsafe { dozhumek_advance(given.as_ptr(), given.len(), wanted, out, length) });
     let mut from = Reader::new(&out);
     Answer {
         number: from.word(),

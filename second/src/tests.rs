@@ -1,23 +1,15 @@
 //! What the program's output cannot show: refusals 23 and 24, last ceilings, and the two places where the library
 //! does not follow the document word by word (a drive's longest step, the test of an order), against ones that do.
 
+#[allow(dead_code)]
+#[path = "bin/differ/random.rs"]
+mod random;
+
 use crate::advance::{local_step, longest_of_drive};
 use crate::model::{LAST_TICK, MOST_PARTS};
 use crate::order::{is_the_order, order};
 use crate::{advance, load, rehearse, Answer, Kind, Model, Part, Point, Side};
-
-/// SplitMix64.
-struct Random(u64);
-
-impl Random {
-    fn below(&mut self, bound: u64) -> u64 {
-        self.0 = self.0.wrapping_add(0x9E37_79B9_7F4A_7C15);
-        let mut z = self.0;
-        z = (z ^ (z >> 30)).wrapping_mul(0xBF58_476D_1CE4_E5B9);
-        z = (z ^ (z >> 27)).wrapping_mul(0x94D0_49BB_1331_11EB);
-        (z ^ (z >> 31)) % bound
-    }
-}
+use random::Random;
 
 fn bytes(hexadecimal: &str) -> Vec<u8> {
     hexadecimal.split_whitespace().map(|byte| u8::from_str_radix(byte, 16).unwrap()).collect()
@@ -243,10 +235,10 @@ fn sound_models_that_no_run_reaches_are_accepted() {
 
 #[test]
 fn what_loading_and_advancing_give_is_sound() {
-    let mut random = Random(1);
+    let mut random = Random::of_case(1, 0);
     let mut model = everything();
     for _ in 0..2000 {
-        let w = 1 + random.below(60);
+        let w = 1 + random.below(60) as u64;
         let answer = advance(model, w);
         assert!(answer.model.sound());
         model = answer.model;
@@ -256,16 +248,16 @@ fn what_loading_and_advancing_give_is_sound() {
 
 #[test]
 fn a_drives_longest_step_is_the_first_accepted_from_above() {
-    let mut random = Random(2);
+    let mut random = Random::of_case(2, 0);
     for _ in 0..20_000 {
         let mut spans: Vec<u32> = (0..random.below(9)).map(|_| 1 + random.below(40) as u32).collect();
         spans.sort_unstable();
         spans.dedup();
-        let ratio = [1, 10, 100][random.below(3) as usize];
-        let t = random.below(5000);
+        let ratio = random.pick(&[1, 10, 100]);
+        let t = random.below(5000) as u64;
         let mut drive = Part::new(Kind::Drive { a: 0, spans: spans.clone() }, Some(0));
         (drive.ratio, drive.local) = (ratio, t / ratio);
-        let h = random.below(60 * ratio);
+        let h = random.below(60 * ratio as usize) as u64;
         let accepts = |&step: &u64| {
             let d = local_step(&drive, t, step);
             d == 0 || spans.iter().any(|&span| u64::from(span) == d)
@@ -287,14 +279,14 @@ fn a_drive_of_the_largest_numbers_is_asked_without_a_fault() {
 
 #[test]
 fn an_order_is_recognised_exactly_where_it_is_the_one_built() {
-    let mut random = Random(3);
+    let mut random = Random::of_case(3, 0);
     let (mut accepted, mut loops) = (0, 0);
     for _ in 0..3000 {
-        let count = 1 + random.below(6) as usize;
+        let count = 1 + random.below(6);
         let mut parts = vec![Part::new(Kind::Adder, None); count];
         for part in &mut parts {
             for input in &mut part.inputs {
-                *input = (random.below(3) == 0).then(|| random.below(count as u64) as u8);
+                *input = random.once_in(3).then(|| random.below(count) as u8);
             }
         }
         let built = order(&parts);

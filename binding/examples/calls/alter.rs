@@ -1,5 +1,6 @@
 //! Ways to alter a sound model: into one that no run reaches, into one that is unsound, or into either.
 
+use crate::draft::{self, PORTS};
 use crate::random::Random;
 use crate::words::*;
 
@@ -417,7 +418,7 @@ fn not_zero(random: &mut Random) -> u64 {
 }
 
 fn ports(kind: u64) -> usize {
-    [0, 1, 2, 0, 0, 1, 1, 2, 1, 1, 2, 1][kind as usize]
+    PORTS[kind as usize].into()
 }
 
 fn names_a(kind: u64) -> bool {
@@ -429,7 +430,7 @@ fn names_p(kind: u64) -> bool {
 }
 
 fn is_direct(kind: u64, port: usize) -> bool {
-    matches!((kind, port), (1 | 9, 0) | (2 | 10, _) | (7, 1))
+    draft::is_direct(kind as u8, port as u8)
 }
 
 /// The sources at a part's direct ports.

@@ -20,6 +20,8 @@ mod draft;
 #[allow(dead_code)]
 #[path = "../../../second/src/bin/differ/generate.rs"]
 mod generate;
+#[path = "../../../second/src/bin/differ/options.rs"]
+mod options;
 #[allow(dead_code)]
 #[path = "../../../second/src/bin/differ/random.rs"]
 mod random;
@@ -251,55 +253,62 @@ fn try_case(seed: u64, number: u64, seen: &mut Seen, last: &mut Last) -> Result<
         seen.count("unused places with words too wide");
     }
     words.put(&model);
-    let steps = |words: &mut Words, most: usize, random: &mut Random, seen: &mut Seen, last: &mut Last| {
-        for _ in 0..random.below(most + 1) {
-            let w = wanted(words, random);
-            *last = Last { what: format!("advance by {w} of"), bytes: words.bytes() };
-            let (number, after) = advance(words, w, random, seen)?;
-            *words = after;
-            if number == 24 {
-                return Err("a model that was played is unsound".to_string());
-            }
-        }
-        Ok::<(), String>(())
-    };
     seen.may_cut = false;
-    steps(&mut words, 8, random, seen, last)?;
+    play(&mut words, 8, random, seen, last)?;
     seen.played(&words);
-
     for _ in 0..14 {
-        let (name, then, alteration) = random.pick(SORTS);
-        let mut altered = words.clone();
-        // Some faults are far from the start.
-        let first = random.pick(&SORTS[..10]);
-        let moved = first.1 == Then::Sound && random.once_in(3) && first.2(&mut altered, random);
-        if !moved {
-            altered = words.clone();
+        play_altered(&mut words, random, seen, last)?;
+    }
+    Ok(())
+}
+
+/// Plays up to `most` steps of a sound model, which stays sound.
+fn play(words: &mut Words, most: usize, random: &mut Random, seen: &mut Seen, last: &mut Last) -> Result<(), String> {
+    for _ in 0..random.below(most + 1) {
+        let w = wanted(words, random);
+        *last = Last { what: format!("advance by {w} of"), bytes: words.bytes() };
+        let (number, after) = advance(words, w, random, seen)?;
+        *words = after;
+        if number == 24 {
+            return Err("a model that was played is unsound".to_string());
         }
-        if !alteration(&mut altered, random) {
-            continue;
-        }
-        let w = wanted(&altered, random);
-        *last = Last { what: format!("{name}: advance by {w} of"), bytes: altered.bytes() };
-        let before = altered.normal().model().is_some_and(|model| model.sound());
-        match then {
-            Then::Sound if !before => return Err("the second implementation finds it unsound".to_string()),
-            Then::Unsound if before => return Err("the second implementation finds it sound".to_string()),
-            _ => {}
-        }
-        seen.sort(name, before);
-        seen.may_cut = then == Then::Either;
-        let (number, after) = advance(&altered, w, random, seen)?;
-        if !seen.may_cut && (number == 24) == before {
-            return Err("24 does not tell whether it is sound".to_string());
-        }
-        seen.may_cut = false;
-        if before && number != 24 {
-            altered = after;
-            steps(&mut altered, 3, random, seen, last)?;
-            if random.once_in(4) {
-                words = altered;
-            }
+    }
+    Ok(())
+}
+
+/// Alters a model, advances it and, where it is sound, plays on; sometimes what comes of that is the model from then on.
+fn play_altered(words: &mut Words, random: &mut Random, seen: &mut Seen, last: &mut Last) -> Result<(), String> {
+    let (name, then, alteration) = random.pick(SORTS);
+    let mut altered = words.clone();
+    // Some faults are far from the start.
+    let first = random.pick(&SORTS[..10]);
+    let moved = first.1 == Then::Sound && random.once_in(3) && first.2(&mut altered, random);
+    if !moved {
+        altered = words.clone();
+    }
+    if !alteration(&mut altered, random) {
+        return Ok(());
+    }
+    let w = wanted(&altered, random);
+    *last = Last { what: format!("{name}: advance by {w} of"), bytes: altered.bytes() };
+    let sound = altered.normal().model().is_some_and(|model| model.sound());
+    match then {
+        Then::Sound if !sound => return Err("the second implementation finds it unsound".to_string()),
+        Then::Unsound if sound => return Err("the second implementation finds it sound".to_string()),
+        _ => {}
+    }
+    seen.sort(name, sound);
+    seen.may_cut = then == Then::Either;
+    let (number, after) = advance(&altered, w, random, seen)?;
+    if !seen.may_cut && (number == 24) == sound {
+        return Err("24 does not tell whether it is sound".to_string());
+    }
+    seen.may_cut = false;
+    if sound && number != 24 {
+        altered = after;
+        play(&mut altered, 3, random, seen, last)?;
+        if random.once_in(4) {
+            *words = altered;
         }
     }
     Ok(())
@@ -313,19 +322,10 @@ struct Arguments {
 }
 
 fn arguments() -> Option<Arguments> {
-    let mut given = std::env::args().skip(1);
-    let mut arguments = Arguments { calls: 200_000, seed: 1, only: None, trace: false };
-    while let Some(name) = given.next() {
-        let number = given.next()?.parse().ok()?;
-        match name.as_str() {
-            "--calls" => arguments.calls = number,
-            "--seed" => arguments.seed = number,
-            "--only" => arguments.only = Some(number),
-            "--trace" => arguments.trace = number == 1,
-            _ => return None,
-        }
-    }
-    Some(arguments)
+    let given = std::env::args().skip(1);
+    let [calls, seed, only, trace] = options::numbers(given, ["--calls", "--seed", "--only", "--trace"])?;
+    let (calls, seed) = (calls.unwrap_or(200_000), seed.unwrap_or(1));
+    Some(Arguments { calls, seed, only, trace: trace == Some(1) })
 }
 
 fn compare(arguments: &Arguments) -> Result<String, String> {

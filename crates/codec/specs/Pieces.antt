@@ -1,46 +1,26 @@
--- Laws of bytes and words put into a buffer: nothing put, one byte, one word, and one piece behind another. Assumes nothing.
-use Prim.Native.Nat.{ℕ, zero, suc, _+_, _-_, _*_, _≤_, _<_}
+-- Laws of words put into a buffer: no words, one word, words behind words, and words at the front. Assumes nothing.
+use Prim.Native.Nat.{ℕ, _+_, _*_}
 use native.Mathlib.Omega.{arith}
-use mathlib.Core.Path.{_≡_, refl, sym, ap, _∙_}
+use mathlib.Core.Path.{_≡_, refl, sym, _∙_}
 use mathlib.Core.List.{List, [], _∷_, _++_, append-assoc, append-nil}
-use lib.ListN.{length, take, drop, length-append, take-append-drop}
-use lib.Seq.{drop-drop}
+use lib.ListN.{take, drop, length-append, take-append-drop}
 use Rattle.lines.specs.Put.{Put}
+use Rattle.lines.specs.Pieces.{drop-more}
 use Rattle.codec.specs.Words.{word-bytes, bytes-of}
-use Rattle.codec.specs.Widths.{bytes-append}
-use Rattle.codec.specs.Put.{BytesPut, WordsPut}
-
--- what is kept behind a position is kept behind a later one
-drop-more : (p q : ℕ) (l₀ l₁ : List ℕ) → p ≤ q → drop p l₁ ≡ drop p l₀ → drop q l₁ ≡ drop q l₀
-drop-more p q l₀ l₁ h e =
-    let sum : q ≡ p + (q - p) = omega arith in
-    rw (sum, ← drop-drop (q - p) p l₁, ← drop-drop (q - p) p l₀, e) refl
-
--- one byte
-pub of-byte : {b at p : ℕ} {l₀ l₁ : List ℕ} → Put 1 (b ∷ []) at l₀ l₁ p → BytesPut 1 (b ∷ []) at l₀ l₁ p
-of-byte put = record { position = put .position; wide = refl; front = put .line; behind = put .behind }
-
--- bytes behind bytes
-pub bytes-then : {a b : ℕ} {t u : List ℕ} {at p q : ℕ} {l₀ l₁ l₂ : List ℕ} → BytesPut a t at l₀ l₁ p → BytesPut b u p l₁ l₂ q →
-    BytesPut (a + b) (t ++ u) at l₀ l₂ q
-bytes-then {t = t} {u = u} {p = p} {q = q} {l₀ = l₀} {l₁ = l₁} first second =
-    record {
-      position = omega arith;
-      wide = rw (length-append t u) (omega arith);
-      front = second .front ∙ simp (first .front, append-assoc);
-      behind = second .behind ∙ drop-more p q l₀ l₁ (omega arith) (first .behind);
-    }
+use Rattle.codec.specs.Widths.{word-wide, bytes-append}
+use Rattle.codec.specs.Put.{WordsPut}
 
 -- no words
 pub no-words : (at : ℕ) (l : List ℕ) → WordsPut 0 [] at l l at
 unfolding bytes-of
 no-words at l = record { position = omega arith; wide = refl; front = sym (append-nil (take at l)); behind = refl }
 
--- one word
-pub one-word : {v at p : ℕ} {l₀ l₁ : List ℕ} → BytesPut 8 (word-bytes v) at l₀ l₁ p → WordsPut 1 (v ∷ []) at l₀ l₁ p
+-- one word, put as its bytes
+pub one-word : {v at p : ℕ} {l₀ l₁ : List ℕ} → Put 8 (word-bytes v) at l₀ l₁ p → WordsPut 1 (v ∷ []) at l₀ l₁ p
 unfolding bytes-of
 one-word {v} put =
-    record { position = put .position; wide = refl; front = put .front ∙ rw (append-nil (word-bytes v)) refl; behind = put .behind }
+    let eight = word-wide v in
+    record { position = omega arith; wide = refl; front = put .line ∙ rw (append-nil (word-bytes v)) refl; behind = put .behind }
 
 -- words behind words
 pub words-then : {a b : ℕ} {us vs : List ℕ} {at p q : ℕ} {l₀ l₁ l₂ : List ℕ} → WordsPut a us at l₀ l₁ p → WordsPut b vs p l₁ l₂ q →

@@ -11,10 +11,10 @@ use Rattle.machine.specs.declared.part.State.{State}
 use Rattle.machine.specs.declared.part.Part.{Part}
 use Rattle.machine.specs.declared.model.Model.{Model}
 use Rattle.machine.specs.Time.{tick}
-use Rattle.machine.specs.Kind.{kind-number, kind-of}
+use Rattle.machine.specs.Kind.{kind-of}
 use Rattle.machine.specs.Model.{blank-part, part-at}
-use Rattle.codec.specs.Words.{table, bytes-of, word-in, signed-word, word-signed}
-use Rattle.codec.specs.Encoded.{source-code, side-code, mark-code, signal-code, signal-value, spans-words, order-words, operand-words, component-words, state-words, part-words, parts-words, model-words, model-bytes}
+use Rattle.codec.specs.Words.{table, bytes-of, word-in, word-signed}
+use Rattle.codec.specs.Encoded.{source-code, spans-words, order-words, operand-words, component-words, state-words, part-words, parts-words, model-words, model-bytes}
 use Rattle.codec.specs.Decoded.{source-of, side-coded, mark-coded, signal-of, signal-in, spans-of, component-of, state-of, part-of, order-of, parts-of, model-of}
 use Rattle.codec.specs.Sized.{SizedComponent, SizedState, SizedPart, Sized}
 use Rattle.codec.specs.Tables.{length-table, table-at, table-same, table-list, rows-at}
@@ -40,6 +40,7 @@ port1-word : (c : Component) → getD (component-words c) 15 0 ≡ source-code (
 unfolding component-words operand-words spans-words table
 port1-word c = refl
 
+-- a component whose words stand in bytes from the word k on, field by field
 module _ (bs : List ℕ) (k : ℕ) (c : Component) (sized : SizedComponent c)
     (h : (j : ℕ) → j < 16 → word-in bs (k + j) ≡ in-word (getD (component-words c) j 0)) where
   kind-read : kind-of (word-in bs k) ≡ c .kind
@@ -101,6 +102,7 @@ module _ (bs : List ℕ) (k : ℕ) (c : Component) (sized : SizedComponent c)
   unfolding component-of
   component-back = rw (kind-read, preference-read, a-read, b-read, p-read, count-read, spans-read, port0-read, port1-read) refl
 
+-- a state, in the same way
 module _ (bs : List ℕ) (k : ℕ) (s : State) (sized : SizedState s)
     (h : (j : ℕ) → j < 8 → word-in bs (k + j) ≡ in-word (getD (state-words s) j 0)) where
   local-read : word-in bs k ≡ s .local .0
@@ -197,6 +199,7 @@ part-word m i j here low =
     ap (λ (n : ℕ). getD (model-words m) n 0) place ∙ getD-append-add (table f 32) (parts-words (m .parts)) (25 * i + j) 0 ∙
     rows-at g 32 i j (λ n. part-wide (part-at (m .parts) n)) here low
 
+-- a model's own bytes, field by field
 module _ (m : Model) (sized : Sized m) where
   magnitude-read : word-in (model-bytes m) 0 % 256 ≡ m .magnitude
   unfolding model-bytes model-words

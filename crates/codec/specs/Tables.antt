@@ -1,14 +1,14 @@
--- Laws of tables and rows: one more element, as a list and in an array that is filled from the front; how long they are, and what stands where.
--- Assumes nothing.
-use Prim.Native.Nat.{ℕ, zero, suc, _+_, _*_, _<_}
+-- Laws of tables and rows: one more element, how long they are, and what stands where; and an array that is filled from the front with a table's
+-- elements. Assumes nothing.
+use Prim.Native.Nat.{ℕ, zero, suc, _+_, _*_, _<_, _≤_}
 use native.Mathlib.Numerals.{add-one}
 use native.Mathlib.Omega.{arith}
 use mathlib.Core.Path.{_≡_, refl, sym, subst, ap, ap₂, _∙_}
 use mathlib.Core.Bool.{true, false}
 use mathlib.Core.Logic.{_⊎_, inl, inr}
 use mathlib.Core.List.{List, [], _∷_, _++_}
-use lib.ListN.{length, getD, take, set, length-append, List·getD-append}
-use lib.Seq.{take-suc-set, getD-at, getD-append-add, ext-getD}
+use lib.ListN.{length, getD, take, set, length-append, length-set, List·getD-append}
+use lib.Seq.{take-suc-set, take-all, getD-at, getD-append-add, ext-getD}
 use lib.Dec.{ltb}
 use borrow.Author.Tests.{ltb-true, ltb-false}
 use Rattle.laws.specs.Bools.{either}
@@ -28,11 +28,21 @@ module _ {ℓ} {A : Type ℓ} where
       let later = length-table f n in
       rw (length-append (table f n) (f n ∷ [])) (omega arith)
 
-  -- the next place of an array filled
-  pub filled-more : (f : ℕ → A) (i : ℕ) (l : List A) (v : A) → i < length l → take i l ≡ table f i → v ≡ f i →
-      take (i + 1) (set l i v) ≡ table f (i + 1)
+  -- the first i of an array's n places hold a table's elements
+  abbrev pub Filled : (ℕ → A) → ℕ → ℕ → List A → Type ℓ
+  Filled f n i l = (i ≤ n) × (length l ≡ n) × (take i l ≡ table f i)
+
+  -- one place more, and all of them
+  pub filled-more : (f : ℕ → A) (n i : ℕ) (l : List A) (v : A) → Filled f n i l → i < n → v ≡ f i → Filled f n (i + 1) (set l i v)
   unfolding table
-  filled-more f i l v inside before e = rw (add-one, take-suc-set l i v inside, before, e) refl
+  filled-more f n i l v filled low e =
+      let inside : i < length l = omega (arith, filled .1) in
+      (omega arith, simp length-set (filled .1), rw (add-one, take-suc-set l i v inside, filled .2, e) refl)
+
+  pub filled-all : (f : ℕ → A) (n i : ℕ) (l : List A) → Filled f n i l → n ≤ i → l ≡ table f n
+  filled-all f n i l filled past =
+      let done : i ≡ n = omega (arith, filled .0) in
+      sym (take-all i l (omega (arith, filled .1))) ∙ filled .2 ∙ ap (table f) done
 
   -- what stands at a place
   pub table-at : (f : ℕ → A) (n i : ℕ) (d : A) → i < n → getD (table f n) i d ≡ f i

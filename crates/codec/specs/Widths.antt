@@ -22,7 +22,7 @@ bytes-append [] vs = refl
 bytes-append (u ∷ us) vs = rw (bytes-append us vs, append-assoc) refl
 
 -- a word has eight bytes, and words eight each
-word-wide : (v : ℕ) → length (word-bytes v) ≡ 8
+pub word-wide : (v : ℕ) → length (word-bytes v) ≡ 8
 unfolding word-bytes four-bytes
 word-wide v = refl
 

@@ -1,5 +1,5 @@
-// The model that bytes mean, whatever bytes they are. A field is read from the word with a number. The
-// contracts cite `specs/Decoded.antt`.
+// The model that bytes mean, whatever bytes they are. A field is read from the words from number k on; the
+// condition is that these are words of a model, which has 836. The contracts cite `specs/Decoded.antt`.
 use crate::fields::kind_coded;
 use crate::fields::mark_coded;
 use crate::fields::side_coded;
@@ -19,13 +19,13 @@ use machine::time::LocalTicks;
 use machine::time::Point;
 use machine::time::Ticks;
 ghost use mathlib.Core.Path.{_≡_};
-ghost use Prim.Native.Nat.{_<_};
+ghost use Prim.Native.Nat.{_+_, _<_, _≤_};
 ghost use Rattle.codec.specs.Words.{word-in, word-signed};
 ghost use Rattle.codec.specs.Decoded.{component-of, model-of, order-of, part-of, parts-of, signal-in, source-of, spans-of, state-of};
 
 // A signed number.
 fn signed_at(bytes: &[u8], k: usize) -> i64
-    requires { ⌜ k < 900 ⌝ }
+    requires { ⌜ k < 836 ⌝ }
     ensures { λ r. ⌜ r ≡ word-signed (word-in (now (bytes .entry)) k) ⌝ }
 {
     word_signed(word(bytes, k))
@@ -33,7 +33,7 @@ fn signed_at(bytes: &[u8], k: usize) -> i64
 
 // A port.
 fn source_at(bytes: &[u8], k: usize) -> Source
-    requires { ⌜ k < 900 ⌝ }
+    requires { ⌜ k < 836 ⌝ }
     ensures { λ r. ⌜ r ≡ source-of (word-in (now (bytes .entry)) k) ⌝ }
 {
     source_coded(word(bytes, k))
@@ -41,7 +41,7 @@ fn source_at(bytes: &[u8], k: usize) -> Source
 
 // A signal, which has two words.
 fn signal_at(bytes: &[u8], k: usize) -> Signal
-    requires { ⌜ k < 890 ⌝ }
+    requires { ⌜ k + 2 ≤ 836 ⌝ }
     ensures { λ r. ⌜ r ≡ signal-in (now (bytes .entry)) k ⌝ }
 {
     signal_coded(word(bytes, k), word(bytes, k + 1))
@@ -49,7 +49,7 @@ fn signal_at(bytes: &[u8], k: usize) -> Signal
 
 // The spans.
 fn spans_at(bytes: &[u8], k: usize) -> [u32; SPANS]
-    requires { ⌜ k < 890 ⌝ }
+    requires { ⌜ k + 8 ≤ 836 ⌝ }
     ensures { λ r. ⌜ r ≡ spans-of (now (bytes .entry)) k ⌝ }
 {
     let mut spans = [0u32; SPANS];
@@ -63,7 +63,7 @@ fn spans_at(bytes: &[u8], k: usize) -> [u32; SPANS]
 
 // What the table fixes of a part.
 fn component_at(bytes: &[u8], k: usize) -> Component
-    requires { ⌜ k < 880 ⌝ }
+    requires { ⌜ k + 16 ≤ 836 ⌝ }
     ensures { λ r. ⌜ r ≡ component-of (now (bytes .entry)) k ⌝ }
 {
     let kind = kind_coded(word(bytes, k));
@@ -90,7 +90,7 @@ fn component_at(bytes: &[u8], k: usize) -> Component
 
 // What a step changes of a part.
 fn state_at(bytes: &[u8], k: usize) -> State
-    requires { ⌜ k < 880 ⌝ }
+    requires { ⌜ k + 8 ≤ 836 ⌝ }
     ensures { λ r. ⌜ r ≡ state-of (now (bytes .entry)) k ⌝ }
 {
     let local = LocalTicks(word(bytes, k));
@@ -111,7 +111,7 @@ fn state_at(bytes: &[u8], k: usize) -> State
 
 // A part.
 fn part_at(bytes: &[u8], k: usize) -> Part
-    requires { ⌜ k < 850 ⌝ }
+    requires { ⌜ k + 25 ≤ 836 ⌝ }
     ensures { λ r. ⌜ r ≡ part-of (now (bytes .entry)) k ⌝ }
 {
     let component = component_at(bytes, k);

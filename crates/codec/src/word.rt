@@ -8,7 +8,8 @@ ghost use Prim.Native.Nat.{_+_, _%_, _<_, _≤_};
 ghost use lib.ListN.{length};
 ghost use Rattle.machine.specs.Load.{byte-at, word-at};
 ghost use Rattle.codec.specs.Words.{four-bytes, signed-word, word-in, word-signed};
-ghost use Rattle.codec.specs.Put.{BytesPut, WordsPut};
+ghost use Rattle.lines.specs.Put.{Put};
+ghost use Rattle.codec.specs.Put.{WordsPut};
 ghost use Rattle.codec.specs.Sized.{FitsWord};
 
 // Half of the words: the signed number of a word below it is the word itself.
@@ -27,7 +28,7 @@ fn low_byte(v: u64) -> u8
 // The lowest four bytes of a number, the lowest first.
 fn put_four(out: &mut [u8], at: usize, v: u64) -> usize
     requires { ⌜ at + 4 ≤ length (now out) ⌝ }
-    ensures { λ r. ⌜ BytesPut 4 (four-bytes v) at (now (out .entry)) (now (out .exit)) r ⌝ }
+    ensures { λ r. ⌜ Put 4 (four-bytes v) at (now (out .entry)) (now (out .exit)) r ⌝ }
 {
     let at = put_byte(out, at, low_byte(v));
     let at = put_byte(out, at, low_byte(v / 256));
@@ -57,7 +58,7 @@ fn byte(bytes: &[u8], at: usize) -> u64
 
 // The four bytes from a position on as a number, the lowest first.
 fn four(bytes: &[u8], at: usize) -> u64
-    requires { ⌜ at ≤ 8000 ⌝ }
+    requires { ⌜ at + 4 ≤ 6688 ⌝ }
     ensures { λ r. ⌜ (r ≡ word-at (now (bytes .entry)) at) × (r < 4294967296) ⌝ }
 {
     byte(bytes, at)
@@ -66,9 +67,9 @@ fn four(bytes: &[u8], at: usize) -> u64
         + 16777216 * byte(bytes, at + 3)
 }
 
-// The word with the number k.
-pub fn word(bytes: &[u8], k: usize) -> u64
-    requires { ⌜ k < 900 ⌝ }
+// The word with the number k, of the 836 that a model has.
+pub(crate) fn word(bytes: &[u8], k: usize) -> u64
+    requires { ⌜ k < 836 ⌝ }
     ensures { λ r. ⌜ r ≡ word-in (now (bytes .entry)) k ⌝ }
 {
     let at = 8 * k;
@@ -86,7 +87,7 @@ pub fn signed_word(v: i64) -> u64
 }
 
 // The signed number of a word, in two's complement.
-pub fn word_signed(w: u64) -> i64
+pub(crate) fn word_signed(w: u64) -> i64
     ensures { λ r. ⌜ r ≡ word-signed w ⌝ }
 {
     if w < HALF {

@@ -1,13 +1,14 @@
 -- Laws of `WrittenInto`: a buffer that is too short, and words that were put at a buffer's front. Assumes nothing.
 use Prim.Native.Nat.{ℕ, _*_, _≤_, _<_}
 use native.Mathlib.Omega.{arith}
-use mathlib.Core.Path.{_≡_, refl, _∙_}
-use mathlib.Core.List.{List, _++_}
-use lib.ListN.{length, drop}
+use mathlib.Core.Path.{_≡_}
+use mathlib.Core.List.{List}
+use lib.ListN.{length}
 use borrow.Author.Tests.{le-leb, lt-leb}
 use Rattle.codec.specs.Words.{bytes-of}
 use Rattle.codec.specs.Put.{WordsPut}
-use Rattle.encoding.specs.Written.{WrittenInto, too-short}
+use Rattle.lines.specs.Written.{too-short}
+use Rattle.encoding.specs.Written.{WrittenInto}
 use Rattle.codec.specs.Widths.{length-bytes}
 use Rattle.codec.specs.Pieces.{at-front}
 

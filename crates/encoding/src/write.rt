@@ -2,6 +2,7 @@
 // of the crate `codec`, and `specs/Written.antt`.
 use crate::encode::put_model;
 use codec::word::put_word;
+use lines::line::TOO_SHORT;
 use machine::model::Answer;
 use machine::model::Loaded;
 ghost use mathlib.Core.Path.{_≡_};
@@ -13,9 +14,6 @@ ghost use Rattle.encoding.specs.Written.{WrittenInto};
 const LOADED_WIDTH: usize = 6704;
 
 const ANSWER_WIDTH: usize = 6728;
-
-// The number of a call whose buffer is too short.
-const TOO_SHORT: u64 = 25;
 
 // A load's answer.
 pub fn write_loaded(loaded: Loaded, out: &mut [u8]) -> u64

@@ -7,7 +7,7 @@ use lib.ListN.{length, drop}
 use lib.Dec.{leb}
 use Rattle.lines.specs.declared.line.Written.{Written}
 
--- the number of a text that does not fit the buffer
+-- the number of a call whose buffer is too short
 abbrev pub too-short : ℕ
 too-short = 25
 

@@ -24,6 +24,9 @@ const ROOM: usize = 1024;
 // numbers of 20 digits, and a line feed.
 const REFUSAL_ROOM: usize = 64;
 
+// The number of a call whose buffer is too short.
+pub const TOO_SHORT: u64 = 25;
+
 // What a writing call answers: 0 and the text's length, or 25 and the length that the buffer needs.
 pub struct Written {
     pub number: u64,
@@ -36,7 +39,7 @@ fn write_text(text: &[u8], buf: &mut [u8]) -> Written
 {
     if buf.len() < text.len() {
         return Written {
-            number: 25,
+            number: TOO_SHORT,
             length: text.len(),
         };
     }

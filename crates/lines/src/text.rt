@@ -26,7 +26,7 @@ fn last_digit(n: u64) -> u8
 }
 
 // A number in base ten: the digits of its tenth part, then its last one.
-pub fn put_decimal(line: &mut [u8], at: usize, n: u64) -> usize
+pub(crate) fn put_decimal(line: &mut [u8], at: usize, n: u64) -> usize
     requires { ⌜ at + 20 ≤ length (now line) ⌝ }
     ensures { λ r. ⌜ Put 20 (decimal n) at (now (line .entry)) (now (line .exit)) r ⌝ }
 {
@@ -60,7 +60,7 @@ fn put_value(line: &mut [u8], at: usize, v: i64) -> usize
 }
 
 // A blank and an output: its value, or a hyphen where it is absent.
-pub fn put_output(line: &mut [u8], at: usize, output: Signal) -> usize
+pub(crate) fn put_output(line: &mut [u8], at: usize, output: Signal) -> usize
     requires { ⌜ at + 22 ≤ length (now line) ⌝ }
     ensures { λ r. ⌜ Put 22 (blank ∷ signal-text output) at (now (line .entry)) (now (line .exit)) r ⌝ }
 {
@@ -72,7 +72,7 @@ pub fn put_output(line: &mut [u8], at: usize, output: Signal) -> usize
 }
 
 // A text as it stands.
-pub fn put_text(line: &mut [u8], at: usize, text: &[u8]) -> usize
+pub(crate) fn put_text(line: &mut [u8], at: usize, text: &[u8]) -> usize
     requires { ⌜ at + length (now text) ≤ length (now line) ⌝ }
     ensures { λ r. ⌜ Put (length (now (text .entry))) (now (text .entry)) at (now (line .entry)) (now (line .exit)) r ⌝ }
 {

@@ -3,22 +3,21 @@
 use Prim.Native.Nat.{ℕ, zero, suc, _+_, _-_, _≤_, _<_}
 use native.Mathlib.Omega.{arith}
 use mathlib.Core.Path.{_≡_, refl, sym, ap, _∙_}
-use mathlib.Core.Bool.{true, false, cond, true≢false}
+use mathlib.Core.Bool.{true, false, true≢false}
 use mathlib.Core.List.{List, [], _∷_, _++_, append-assoc, append-nil}
 use lib.ListN.{length, take, drop, length-append, length-take, length-drop}
 use lib.Seq.{take-all, take-at, drop-at, drop-drop}
-use lib.Dec.{leb, ltb}
+use lib.Dec.{ltb}
 use borrow.Author.Tests.{le-leb, ltb-true}
 use Rattle.machine.specs.declared.model.Model.{Model}
 use Rattle.machine.specs.declared.model.Answer.{Answer}
 use Rattle.machine.specs.declared.model.Score.{Score}
 use Rattle.machine.specs.declared.model.Score.the-variants.{End, Wanted, Refused}
 use Rattle.machine.specs.Model.{trimmed, trimmed-answer}
-use Rattle.machine.specs.Advance.{advance}
 use Rattle.machine.specs.Calls.{Advanced}
 use Rattle.machine.specs.Score.{score-command, score-at}
 use Rattle.machine.specs.Load.{byte-at}
-use Rattle.machine.specs.Rehearse.{answer-line, refused-at-line, score-lines, lines-from}
+use Rattle.machine.specs.Rehearse.{answer-line, refused-at-line, lines-from}
 use Rattle.laws.specs.Bools.{cond-cases}
 use Rattle.printing.specs.Fuel.{score-later, lines-enough}
 use Rattle.lines.specs.declared.line.Written.{Written}

@@ -13,7 +13,7 @@ ghost use Rattle.machine.specs.Rehearse.{answer-line, refused-at-line};
 ghost use Rattle.lines.specs.Put.{Put};
 ghost use Rattle.rehearse.specs.Playing.{PlayedOne, PlayedSome};
 
-// How many bytes every line fits.
+// How many bytes have room for any line.
 const LINE: usize = 1024;
 
 // How far a score was played: whether it ended, the next command's position, how many bytes the lines take, and
@@ -80,7 +80,7 @@ fn play_one(stream: &[u8], at: usize, model: Model, lines: &mut [u8], used: usiz
 }
 
 // The score commands from `from` on, as long as there is room for another line.
-pub fn play_some(stream: &[u8], from: usize, model: Model, lines: &mut [u8]) -> Played
+pub(crate) fn play_some(stream: &[u8], from: usize, model: Model, lines: &mut [u8]) -> Played
     ensures { λ r. ⌜ PlayedSome (now (stream .entry)) from model (now (lines .exit)) r ⌝ }
 {
     let mut at = from;

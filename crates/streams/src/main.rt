@@ -1,5 +1,5 @@
-// Loads each stream that its standard input spells, and prints the number, the position and what was loaded. A line that has digits spells a
-// stream in hexadecimal; a hyphen alone is the empty stream, and `#` begins a comment.
+// The program `streams`, a test of the loader: loads each stream that its standard input spells, and prints the number, the position and what was loaded. A line that has
+// digits spells a stream in hexadecimal; a hyphen alone is the empty stream, and `#` begins a comment.
 use crate::print::print_loaded;
 use loading::load;
 ghost use Prim.Native.Nat.{_≤_};

@@ -186,7 +186,7 @@ fn print_parts(m: Model) {
 }
 
 // The number, the position and what was loaded.
-pub fn print_loaded(r: Loaded) {
+pub(crate) fn print_loaded(r: Loaded) {
     if r.number != 0 {
         print_number(b"refused ", r.number);
         print_number(b" at ", r.position as u64);

@@ -31,9 +31,8 @@ fn stream(draft: &Draft, low: i64, high: i64) -> Vec<u8> {
 /// A constant into an integrator.
 fn two() -> Draft {
     let mut draft = Draft::default();
-    draft.add(CONSTANT, 1, 0, 0);
-    draft.add(INTEGRATOR, 0, 0, 0);
-    draft.wire(0, 1, 0);
+    let constant = draft.add(CONSTANT, 1, 0, 0);
+    draft.add_reading(constant, INTEGRATOR, 0, 0);
     draft
 }
 
@@ -115,14 +114,10 @@ fn revisions() -> Draft {
     let mut draft = Draft::default();
     for number in 0..6 {
         let rate = draft.add(CONSTANT, -1 - number, 0, 0);
-        let level = draft.add(RESET, 1000 + 100 * number, 0, 0);
-        let detector = draft.add(DETECTOR, 0, 0, 4 + number as u32);
+        let level = draft.add_reading(rate, RESET, 1000 + 100 * number, 0);
+        let detector = draft.add_reading(level, DETECTOR, 0, 4 + number as u32);
         let top = draft.add(CONSTANT, 2000 + 300 * number, 0, 0);
-        let back = draft.add(SAMPLER, 0, 0, 0);
-        draft.wire(rate, level, 0);
-        draft.wire(level, detector, 0);
-        draft.wire(top, back, 0);
-        draft.wire(detector, back, 1);
+        let back = draft.add_joining(SAMPLER, top, detector);
         draft.wire(back, level, 1);
     }
     draft

@@ -10,7 +10,7 @@ pub fn damaged(draft: &Draft, random: &mut Random) -> Vec<u8> {
     let mut commands = draft.commands(random);
     let table = commands.len();
     let steps = 1 + random.below(40);
-    commands.extend(score(draft, steps, random).chunks(5).map(<[u8]>::to_vec));
+    commands.extend(score_commands(draft, steps, random));
     for _ in 0..1 + random.below(3) {
         // Half of the damages fall into the table.
         let all = commands.len();
@@ -119,129 +119,43 @@ pub fn noise(random: &mut Random) -> Vec<u8> {
     bytes
 }
 
+/// A table's commands, each with its operands.
+type Commands = Vec<Vec<u8>>;
+
+fn score_commands(draft: &Draft, commands: usize, random: &mut Random) -> Commands {
+    score(draft, commands, random).chunks(5).map(<[u8]>::to_vec).collect()
+}
+
+/// A table's commands without its End.
+fn unended(draft: &Draft, random: &mut Random) -> Commands {
+    let mut commands = draft.commands(random);
+    commands.pop();
+    commands
+}
+
+/// A table of one drive, whose spans are 10, 20 and so on.
+fn one_drive(spans: u32) -> Draft {
+    let mut draft = Draft::default();
+    draft.add_drive(0, (1..=spans).map(|s| 10 * s).collect());
+    draft
+}
+
 /// A good beginning of a table, then one command with one fault or two, then sometimes a cut.
 pub fn at_fault(random: &mut Random) -> Vec<u8> {
-    let mut draft = mixed(random);
-    let drive =
-        |spans: u32| Draft { rows: vec![], ..Draft::default() }.with_drive((1..=spans).map(|s| 10 * s).collect());
-    let parts = draft.rows.len();
-    let mut commands;
-    match random.below(17) {
-        // A part too many, with or without another fault.
-        0 | 1 => {
-            while !draft.is_full(1) {
-                let row = random.pick(&[CONSTANT, HOLD, DELAY, INTEGRATOR]);
-                draft.add(row, 0, 0, 0);
-            }
-            commands = draft.commands(random);
-            commands.pop();
-            commands.push(any_row(random).bytes());
-        }
-        // A ninth span, or another bad one.
-        2 | 3 => {
-            let spans = random.pick(&[8, 8, 7, 1, 0]);
-            commands = drive(spans).commands(random);
-            commands.pop();
-            let before = i64::from(spans) * 10;
-            let next = random.pick(&[before, before - 1, before + 1, 0, 1, 1_000_000_000, 1_000_000_001, 0xFFFF_FFFF]);
-            commands.push(span(next.max(0) as u32));
-            commands.push(vec![5]);
-        }
-        // A span where none may stand.
-        4 => {
-            commands = drive(random.below(3) as u32).commands(random);
-            commands.pop();
-            let between = random.pick(&[&[4, 0, 0, 0][..], &[2, 6, 0xFF, 0, 0, 0, 0, 0, 0, 0, 0, 0, 0, 0, 0], &[1, 0]]);
-            commands.push(between.to_vec());
-            commands.push(span(random.pick(&[0, 1, 100])));
-        }
-        // Wires: unknown, taken, or both.
-        5 | 6 => {
-            commands = draft.commands(random);
-            commands.pop();
-            let (source, reader, port) = match draft.wires.len() {
-                0 => (0, 0, 0),
-                wires => draft.wires[random.below(wires)],
-            };
-            let mut wire = [4, source as u8, reader as u8, port];
-            if random.once_in(2) {
-                wire[1 + random.below(3)] = random.pick(&[parts as u8, parts as u8 - 1, 32, 255, 0, 1, 2]);
-            }
-            commands.push(wire.to_vec());
-            commands.push(vec![5]);
-        }
-        // Another Begin, or none.
-        7 => {
-            commands = draft.commands(random);
-            let e = random.pick(&[0, 15, 16, 0xFF]);
-            match random.below(3) {
-                0 => drop(commands.remove(0)),
-                1 => commands[0] = vec![1, e],
-                _ => commands.insert(1 + random.below(commands.len()), vec![1, e]),
-            }
-        }
+    let draft = mixed(random);
+    let commands = match random.below(17) {
+        0 | 1 => part_too_many(draft, random),
+        2 | 3 => bad_span(random),
+        4 => span_out_of_place(random),
+        5 | 6 => bad_wire(&draft, random),
+        7 => bad_begin(&draft, random),
         // No parts.
-        8 => commands = vec![vec![1, random.below(16) as u8], vec![5]],
-        // P at the edge of 10^18, sometimes with a loop.
-        9 | 10 => {
-            let ratio = random.between(9, 15);
-            let p = 10i64.pow(18 - ratio as u32) + random.between(-1, 1).max(if ratio == 9 { -1 } else { -9 });
-            draft = Draft { magnitude: ratio as u8, ..Draft::default() };
-            let number = draft.add(random.pick(&[SQUARE, PULSE, DETECTOR]), 0, 0, p.clamp(1, 1_000_000_000) as u32);
-            draft.rows[number].preference = 0;
-            if random.once_in(3) {
-                let gain = draft.add(GAIN, 1, 0, 0);
-                draft.wire(gain, gain, 0);
-            }
-            if random.once_in(2) {
-                draft.add(CONSTANT, 1, 0, 0);
-                draft.renumber(random);
-            }
-            commands = draft.commands(random);
-            commands.extend(score(&draft, 5, random).chunks(5).map(<[u8]>::to_vec));
-        }
-        // A ring of parts, broken by a port that is not direct or not broken.
-        11 | 12 => {
-            draft = Draft::default();
-            let length = 1 + random.below(6);
-            let kinds = [GAIN, ADDER, HOLD, SAMPLER, RESET, INTEGRATOR, DELAY, DETECTOR, DRIVE];
-            let breakable = random.once_in(2);
-            for _ in 0..length {
-                let kind = kinds[random.below(if breakable { kinds.len() } else { 5 })];
-                draft.add(kind, 0, 0, u32::from(kind == DETECTOR));
-            }
-            for number in 0..length {
-                let port = match draft.rows[number].kind {
-                    ADDER | SAMPLER => random.below(2) as u8,
-                    RESET => u8::from(!random.once_in(5)),
-                    _ => 0,
-                };
-                draft.wire((number + 1) % length, number, port);
-            }
-            let constant = draft.add(CONSTANT, 3, 0, 0);
-            for (reader, port) in draft.open_ports() {
-                draft.wire(constant, reader, port);
-            }
-            draft.renumber(random);
-            commands = draft.commands(random);
-            commands.extend(score(&draft, 8, random).chunks(5).map(<[u8]>::to_vec));
-        }
-        // Numbers at the edges of their ranges in an otherwise good table.
-        13..=15 => {
-            commands = vec![vec![1, random.pick(&[0, 0, 1, 15, 16, 0xFF])]];
-            commands.extend((0..1 + random.below(3)).map(|_| any_row(random).bytes()));
-            commands.push(vec![5]);
-            commands.extend(score(&draft, 3, random).chunks(5).map(<[u8]>::to_vec));
-        }
-        // A score that goes wrong.
-        _ => {
-            commands = draft.commands(random);
-            let steps = random.below(5);
-            commands.extend(score(&draft, steps, random).chunks(5).map(<[u8]>::to_vec));
-            commands.push(vec![any_byte(random)]);
-            commands.push(score(&draft, 1, random));
-        }
-    }
+        8 => vec![vec![1, random.below(16) as u8], vec![5]],
+        9 | 10 => period_at_its_limit(random),
+        11 | 12 => ring(random),
+        13..=15 => operands_at_their_limits(&draft, random),
+        _ => bad_score(&draft, random),
+    };
     let mut bytes = commands.concat();
     if random.once_in(5) {
         let cut = 1 + random.below(16);
@@ -252,9 +166,129 @@ pub fn at_fault(random: &mut Random) -> Vec<u8> {
     bytes
 }
 
-impl Draft {
-    fn with_drive(mut self, spans: Vec<u32>) -> Draft {
-        self.add_drive(0, spans);
-        self
+/// A part too many, with or without another fault.
+fn part_too_many(mut draft: Draft, random: &mut Random) -> Commands {
+    while !draft.is_full(1) {
+        let row = random.pick(&[CONSTANT, HOLD, DELAY, INTEGRATOR]);
+        draft.add(row, 0, 0, 0);
     }
+    let mut commands = unended(&draft, random);
+    commands.push(any_row(random).bytes());
+    commands
+}
+
+/// A ninth span, or another bad one.
+fn bad_span(random: &mut Random) -> Commands {
+    let spans = random.pick(&[8, 8, 7, 1, 0]);
+    let mut commands = unended(&one_drive(spans), random);
+    let before = i64::from(spans) * 10;
+    let next = random.pick(&[before, before - 1, before + 1, 0, 1, 1_000_000_000, 1_000_000_001, 0xFFFF_FFFF]);
+    commands.push(span(next.max(0) as u32));
+    commands.push(vec![5]);
+    commands
+}
+
+/// A span where none may stand.
+fn span_out_of_place(random: &mut Random) -> Commands {
+    let mut commands = unended(&one_drive(random.below(3) as u32), random);
+    let between = random.pick(&[&[4, 0, 0, 0][..], &[2, 6, 0xFF, 0, 0, 0, 0, 0, 0, 0, 0, 0, 0, 0, 0], &[1, 0]]);
+    commands.push(between.to_vec());
+    commands.push(span(random.pick(&[0, 1, 100])));
+    commands
+}
+
+/// A wire that is unknown, taken, or both.
+fn bad_wire(draft: &Draft, random: &mut Random) -> Commands {
+    let parts = draft.rows.len() as u8;
+    let mut commands = unended(draft, random);
+    let (source, reader, port) = match draft.wires.len() {
+        0 => (0, 0, 0),
+        wires => draft.wires[random.below(wires)],
+    };
+    let mut wire = [4, source as u8, reader as u8, port];
+    if random.once_in(2) {
+        wire[1 + random.below(3)] = random.pick(&[parts, parts - 1, 32, 255, 0, 1, 2]);
+    }
+    commands.push(wire.to_vec());
+    commands.push(vec![5]);
+    commands
+}
+
+/// Another Begin, or none.
+fn bad_begin(draft: &Draft, random: &mut Random) -> Commands {
+    let mut commands = draft.commands(random);
+    let e = random.pick(&[0, 15, 16, 0xFF]);
+    match random.below(3) {
+        0 => drop(commands.remove(0)),
+        1 => commands[0] = vec![1, e],
+        _ => commands.insert(1 + random.below(commands.len()), vec![1, e]),
+    }
+    commands
+}
+
+/// P at the edge of 10^18, sometimes with a loop.
+fn period_at_its_limit(random: &mut Random) -> Commands {
+    let ratio = random.between(9, 15);
+    let p = 10i64.pow(18 - ratio as u32) + random.between(-1, 1);
+    let mut draft = Draft { magnitude: ratio as u8, ..Draft::default() };
+    let number = draft.add(random.pick(&[SQUARE, PULSE, DETECTOR]), 0, 0, p.clamp(1, 1_000_000_000) as u32);
+    draft.rows[number].preference = 0;
+    if random.once_in(3) {
+        let gain = draft.add(GAIN, 1, 0, 0);
+        draft.wire(gain, gain, 0);
+    }
+    if random.once_in(2) {
+        draft.add(CONSTANT, 1, 0, 0);
+        draft.renumber(random);
+    }
+    let mut commands = draft.commands(random);
+    commands.extend(score_commands(&draft, 5, random));
+    commands
+}
+
+/// A ring of parts, broken by a port that is not direct or not broken.
+fn ring(random: &mut Random) -> Commands {
+    let mut draft = Draft::default();
+    let length = 1 + random.below(6);
+    let kinds = [GAIN, ADDER, HOLD, SAMPLER, RESET, INTEGRATOR, DELAY, DETECTOR, DRIVE];
+    let breakable = random.once_in(2);
+    for _ in 0..length {
+        let kind = kinds[random.below(if breakable { kinds.len() } else { 5 })];
+        draft.add(kind, 0, 0, u32::from(kind == DETECTOR));
+    }
+    for number in 0..length {
+        let port = match draft.rows[number].kind {
+            ADDER | SAMPLER => random.below(2) as u8,
+            RESET => u8::from(!random.once_in(5)),
+            _ => 0,
+        };
+        draft.wire((number + 1) % length, number, port);
+    }
+    let constant = draft.add(CONSTANT, 3, 0, 0);
+    for (reader, port) in draft.open_ports() {
+        draft.wire(constant, reader, port);
+    }
+    draft.renumber(random);
+    let mut commands = draft.commands(random);
+    commands.extend(score_commands(&draft, 8, random));
+    commands
+}
+
+/// Numbers at the edges of their ranges in an otherwise good table, with the score of another.
+fn operands_at_their_limits(other: &Draft, random: &mut Random) -> Commands {
+    let mut commands = vec![vec![1, random.pick(&[0, 0, 1, 15, 16, 0xFF])]];
+    commands.extend((0..1 + random.below(3)).map(|_| any_row(random).bytes()));
+    commands.push(vec![5]);
+    commands.extend(score_commands(other, 3, random));
+    commands
+}
+
+/// A score that goes wrong.
+fn bad_score(draft: &Draft, random: &mut Random) -> Commands {
+    let mut commands = draft.commands(random);
+    let steps = random.below(5);
+    commands.extend(score_commands(draft, steps, random));
+    commands.push(vec![any_byte(random)]);
+    commands.push(score(draft, 1, random));
+    commands
 }

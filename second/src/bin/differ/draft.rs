@@ -19,7 +19,12 @@ pub const KINDS: usize = 12;
 pub const NO_PREFERENCE: u8 = 0xFF;
 
 /// Ports of each kind.
-const PORTS: [u8; KINDS] = [0, 1, 2, 0, 0, 1, 1, 2, 1, 1, 2, 1];
+pub const PORTS: [u8; KINDS] = [0, 1, 2, 0, 0, 1, 1, 2, 1, 1, 2, 1];
+
+/// Whether a kind's output reads a port within a point.
+pub fn is_direct(kind: u8, port: u8) -> bool {
+    matches!((kind, port), (GAIN | HOLD, 0) | (ADDER | SAMPLER, 0 | 1) | (RESET, 1))
+}
 
 #[derive(Clone, Debug)]
 pub struct Row {
@@ -76,6 +81,20 @@ impl Draft {
     pub fn add_drive(&mut self, a: i32, spans: Vec<u32>) -> usize {
         let number = self.add(DRIVE, a, 0, 0);
         self.rows[number].spans = spans;
+        number
+    }
+
+    /// A part whose port 0 reads another.
+    pub fn add_reading(&mut self, source: usize, kind: u8, a: i32, p: u32) -> usize {
+        let number = self.add(kind, a, 0, p);
+        self.wire(source, number, 0);
+        number
+    }
+
+    /// A part of two ports, such as an adder or a sampler, that reads two others.
+    pub fn add_joining(&mut self, kind: u8, source0: usize, source1: usize) -> usize {
+        let number = self.add_reading(source0, kind, 0, 0);
+        self.wire(source1, number, 1);
         number
     }
 

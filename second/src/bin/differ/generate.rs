@@ -93,6 +93,15 @@ impl Scale {
         random.of_any_size(self.period) as u32
     }
 
+    /// A detector's: small ones more often.
+    fn tolerance(self, random: &mut Random) -> u32 {
+        if random.once_in(2) {
+            random.between(1, 4) as u32
+        } else {
+            self.period(random)
+        }
+    }
+
     fn spans(self, random: &mut Random) -> Vec<u32> {
         let mut spans: Vec<u32> = (0..random.below(8)).map(|_| self.period(random)).collect();
         if !random.once_in(4) {
@@ -135,8 +144,7 @@ fn join(draft: &mut Draft, random: &mut Random) {
         if often == 0 || random.once_in(often + 1) {
             continue;
         }
-        let direct =
-            !matches!((draft.rows[reader].kind, port), (DELAY | INTEGRATOR | DETECTOR | DRIVE, _) | (RESET, 0));
+        let direct = is_direct(draft.rows[reader].kind, port);
         let source = random.below(if direct && !loops { reader.max(1) } else { draft.rows.len() });
         // A delay that always reads something would not let time go on.
         let steady = !matches!(draft.rows[source].kind, PULSE | DETECTOR | SAMPLER | DELAY);
@@ -181,9 +189,7 @@ fn source(draft: &mut Draft, scale: Scale, random: &mut Random) -> usize {
     let kind = random.pick(&[CONSTANT, CONSTANT, SQUARE, SQUARE, PULSE]);
     let number = any_part(draft, kind, scale, random);
     if kind == PULSE && random.once_in(2) {
-        let hold = draft.add(HOLD, 0, 0, 0);
-        draft.wire(number, hold, 0);
-        return hold;
+        return draft.add_reading(number, HOLD, 0, 0);
     }
     number
 }
@@ -202,125 +208,111 @@ fn integrator(draft: &mut Draft, scale: Scale, random: &mut Random) -> usize {
     number
 }
 
+/// Some parts that work together.
 fn group(draft: &mut Draft, scale: Scale, random: &mut Random) {
     if draft.is_full(8) {
         return;
     }
-    let small =
-        |random: &mut Random| if random.once_in(2) { random.between(1, 4) as u32 } else { scale.period(random) };
     match random.below(9) {
-        // A source into an integrator into a detector, and what follows from its mark.
-        0..=2 => {
-            let level = integrator(draft, scale, random);
-            let tolerance = small(random);
-            let detector = draft.add(DETECTOR, 0, 0, tolerance);
-            draft.wire(level, detector, 0);
-            match random.below(5) {
-                0 => {
-                    let gain = draft.add(GAIN, scale.value(random), 0, 0);
-                    draft.wire(detector, gain, 0);
-                    draft.wire(gain, level, if draft.rows[level].kind == RESET { 1 } else { 0 });
-                }
-                1 => {
-                    let constant = draft.add(CONSTANT, scale.value(random), 0, 0);
-                    let sampler = draft.add(SAMPLER, 0, 0, 0);
-                    draft.wire(constant, sampler, 0);
-                    draft.wire(detector, sampler, 1);
-                    if draft.rows[level].kind == RESET {
-                        draft.wire(sampler, level, 1);
-                    }
-                }
-                2 => {
-                    let delay = draft.add(DELAY, 0, 0, 0);
-                    draft.wire(detector, delay, 0);
-                }
-                3 => {
-                    let hold = draft.add(HOLD, 0, 0, 0);
-                    draft.wire(detector, hold, 0);
-                }
-                _ => {}
+        0..=2 => watched(draft, scale, random),
+        3 => sampled(draft, scale, random),
+        4 => delayed(draft, scale, random),
+        5 => to_and_fro(draft, scale, random),
+        6 => switched(draft, scale, random),
+        7 => seen_at_times(draft, scale, random),
+        _ => drives(draft, scale, random),
+    }
+}
+
+/// A source into an integrator into a detector, and what follows from its mark.
+fn watched(draft: &mut Draft, scale: Scale, random: &mut Random) {
+    let level = integrator(draft, scale, random);
+    let detector = draft.add_reading(level, DETECTOR, 0, scale.tolerance(random));
+    match random.below(5) {
+        0 => {
+            let gain = draft.add_reading(detector, GAIN, scale.value(random), 0);
+            draft.wire(gain, level, if draft.rows[level].kind == RESET { 1 } else { 0 });
+        }
+        1 => {
+            let constant = draft.add(CONSTANT, scale.value(random), 0, 0);
+            let sampler = draft.add_joining(SAMPLER, constant, detector);
+            if draft.rows[level].kind == RESET {
+                draft.wire(sampler, level, 1);
             }
         }
-        // Samples of a moving number, held and added up.
-        3 => {
-            let level = integrator(draft, scale, random);
-            let pulse = any_part(draft, PULSE, scale, random);
-            let sampler = draft.add(SAMPLER, 0, 0, 0);
-            draft.wire(level, sampler, 0);
-            draft.wire(pulse, sampler, 1);
-            let hold = draft.add(HOLD, 0, 0, 0);
-            draft.wire(sampler, hold, 0);
-            let adder = draft.add(ADDER, 0, 0, 0);
-            draft.wire(hold, adder, 0);
-            draft.wire(level, adder, 1);
-        }
-        // An event through a chain of delays.
-        4 => {
-            let mut last = any_part(draft, PULSE, scale, random);
-            for _ in 0..1 + random.below(4) {
-                let delay = draft.add(DELAY, 0, 0, 0);
-                draft.wire(last, delay, 0);
-                last = delay;
-            }
-            let kind = random.pick(&[ADDER, HOLD, RESET, GAIN]);
-            let end = any_part(draft, kind, scale, random);
-            draft.wire(last, end, if kind == RESET { 1 } else { 0 });
-        }
-        // Two integrators that drive each other to and fro.
-        5 => {
-            let x = any_part(draft, random.pick(&[INTEGRATOR, RESET, DRIVE]), scale, random);
-            let y = any_part(draft, INTEGRATOR, scale, random);
-            let gain = draft.add(GAIN, random.pick(&[-1, -1, -2, 1]), 0, 0);
-            draft.wire(y, x, 0);
-            draft.wire(x, gain, 0);
-            draft.wire(gain, y, 0);
-            let tolerance = small(random);
-            let detector = draft.add(DETECTOR, 0, 0, tolerance);
-            draft.wire(random.pick(&[x, y]), detector, 0);
-        }
-        // A detector on a source that switches or shows up at times only.
-        6 => {
-            let from = source(draft, scale, random);
-            let gain = draft.add(GAIN, scale.value(random), 0, 0);
-            draft.wire(from, gain, 0);
-            let tolerance = small(random);
-            let detector = draft.add(DETECTOR, 0, 0, tolerance);
-            draft.wire(gain, detector, 0);
-            let level = draft.add(RESET, scale.positive(random), 0, 0);
-            draft.wire(from, level, 0);
-            draft.wire(detector, level, 1);
-        }
-        // A detector that reads something at times only, now on one side and now on the other.
-        7 => {
-            let kind = random.pick(&[SQUARE, SQUARE, INTEGRATOR]);
-            let level = any_part(draft, kind, scale, random);
-            let pulse = any_part(draft, PULSE, scale, random);
-            if kind == SQUARE {
-                (draft.rows[level].a, draft.rows[level].b) = (scale.positive(random), -scale.positive(random));
-            } else {
-                draft.wire(pulse, level, 0);
-            }
-            let sampler = draft.add(SAMPLER, 0, 0, 0);
-            draft.wire(level, sampler, 0);
-            draft.wire(pulse, sampler, 1);
-            let tolerance = small(random);
-            let detector = draft.add(DETECTOR, 0, 0, tolerance);
-            draft.wire(sampler, detector, 0);
-        }
-        // Drives behind one source.
-        _ => {
-            let from = source(draft, scale, random);
-            let common = scale.spans(random);
-            for _ in 0..1 + random.below(3) {
-                let mut spans = scale.spans(random);
-                spans.extend(common.iter().filter(|_| random.once_in(2)));
-                spans.sort_unstable();
-                spans.dedup();
-                spans.truncate(8);
-                let drive = draft.add_drive(scale.value(random), spans);
-                draft.wire(from, drive, 0);
-            }
-        }
+        2 => drop(draft.add_reading(detector, DELAY, 0, 0)),
+        3 => drop(draft.add_reading(detector, HOLD, 0, 0)),
+        _ => {}
+    }
+}
+
+/// Samples of a moving number, held and added up.
+fn sampled(draft: &mut Draft, scale: Scale, random: &mut Random) {
+    let level = integrator(draft, scale, random);
+    let pulse = any_part(draft, PULSE, scale, random);
+    let sampler = draft.add_joining(SAMPLER, level, pulse);
+    let hold = draft.add_reading(sampler, HOLD, 0, 0);
+    draft.add_joining(ADDER, hold, level);
+}
+
+/// An event through a chain of delays.
+fn delayed(draft: &mut Draft, scale: Scale, random: &mut Random) {
+    let mut last = any_part(draft, PULSE, scale, random);
+    for _ in 0..1 + random.below(4) {
+        last = draft.add_reading(last, DELAY, 0, 0);
+    }
+    let kind = random.pick(&[ADDER, HOLD, RESET, GAIN]);
+    let end = any_part(draft, kind, scale, random);
+    draft.wire(last, end, if kind == RESET { 1 } else { 0 });
+}
+
+/// Two integrators that drive each other to and fro.
+fn to_and_fro(draft: &mut Draft, scale: Scale, random: &mut Random) {
+    let x = any_part(draft, random.pick(&[INTEGRATOR, RESET, DRIVE]), scale, random);
+    let y = any_part(draft, INTEGRATOR, scale, random);
+    let gain = draft.add(GAIN, random.pick(&[-1, -1, -2, 1]), 0, 0);
+    draft.wire(y, x, 0);
+    draft.wire(x, gain, 0);
+    draft.wire(gain, y, 0);
+    let tolerance = scale.tolerance(random);
+    draft.add_reading(random.pick(&[x, y]), DETECTOR, 0, tolerance);
+}
+
+/// A detector on a source that switches or shows up at times only.
+fn switched(draft: &mut Draft, scale: Scale, random: &mut Random) {
+    let from = source(draft, scale, random);
+    let gain = draft.add_reading(from, GAIN, scale.value(random), 0);
+    let detector = draft.add_reading(gain, DETECTOR, 0, scale.tolerance(random));
+    let level = draft.add_reading(from, RESET, scale.positive(random), 0);
+    draft.wire(detector, level, 1);
+}
+
+/// A detector that reads something at times only, now on one side and now on the other.
+fn seen_at_times(draft: &mut Draft, scale: Scale, random: &mut Random) {
+    let kind = random.pick(&[SQUARE, SQUARE, INTEGRATOR]);
+    let level = any_part(draft, kind, scale, random);
+    let pulse = any_part(draft, PULSE, scale, random);
+    if kind == SQUARE {
+        (draft.rows[level].a, draft.rows[level].b) = (scale.positive(random), -scale.positive(random));
+    } else {
+        draft.wire(pulse, level, 0);
+    }
+    let sampler = draft.add_joining(SAMPLER, level, pulse);
+    draft.add_reading(sampler, DETECTOR, 0, scale.tolerance(random));
+}
+
+/// Drives behind one source.
+fn drives(draft: &mut Draft, scale: Scale, random: &mut Random) {
+    let from = source(draft, scale, random);
+    let common = scale.spans(random);
+    for _ in 0..1 + random.below(3) {
+        let mut spans = scale.spans(random);
+        spans.extend(common.iter().filter(|_| random.once_in(2)));
+        spans.sort_unstable();
+        spans.dedup();
+        spans.truncate(8);
+        let drive = draft.add_drive(scale.value(random), spans);
+        draft.wire(from, drive, 0);
     }
 }
 
@@ -375,10 +367,8 @@ fn crossing(draft: &mut Draft, random: &mut Random) {
     let constant = draft.add(CONSTANT, rate, 0, 0);
     let furthest = random.pick(&[1, 3, 1000]);
     let ticks = random.of_any_size(furthest) as i32;
-    let level = draft.add(random.pick(&[INTEGRATOR, RESET]), -rate * ticks, 0, 0);
-    draft.wire(constant, level, 0);
-    let detector = draft.add(DETECTOR, 0, 0, random.between(1, 3) as u32);
-    draft.wire(level, detector, 0);
+    let level = draft.add_reading(constant, random.pick(&[INTEGRATOR, RESET]), -rate * ticks, 0);
+    let detector = draft.add_reading(level, DETECTOR, 0, random.between(1, 3) as u32);
     if draft.rows[level].kind == RESET {
         let far = -rate * random.between(0, 50) as i32;
         let back = if random.once_in(4) {
@@ -386,9 +376,7 @@ fn crossing(draft: &mut Draft, random: &mut Random) {
             draft.add(GAIN, far, 0, 0)
         } else {
             let place = draft.add(CONSTANT, far, 0, 0);
-            let sampler = draft.add(SAMPLER, 0, 0, 0);
-            draft.wire(place, sampler, 0);
-            sampler
+            draft.add_reading(place, SAMPLER, 0, 0)
         };
         draft.wire(detector, back, u8::from(draft.rows[back].kind == SAMPLER));
         draft.wire(back, level, 1);
@@ -477,36 +465,23 @@ fn restless(random: &mut Random) -> Vec<u8> {
 /// stops the switching: at the last microstep or close to it. There a drive may then accept nothing.
 fn microsteps(draft: &mut Draft, random: &mut Random) {
     let detector = draft.add(DETECTOR, 0, 0, 1);
-    let shown = draft.add(HOLD, 0, 0, 0);
-    draft.wire(detector, shown, 0);
+    let shown = draft.add_reading(detector, HOLD, 0, 0);
     let swing = random.between(990, 1001) as i32;
-    let push = draft.add(GAIN, -swing, 0, 0);
-    draft.wire(shown, push, 0);
+    let push = draft.add_reading(shown, GAIN, -swing, 0);
     // The count: one more than it was at the point before, whenever a mark was shown there.
     let count = draft.add(RESET, 0, 0, 0);
-    let counted = draft.add(SAMPLER, 0, 0, 0);
-    draft.wire(count, counted, 0);
-    draft.wire(detector, counted, 1);
-    let before = draft.add(DELAY, 0, 0, 0);
-    draft.wire(counted, before, 0);
+    let counted = draft.add_joining(SAMPLER, count, detector);
+    let before = draft.add_reading(counted, DELAY, 0, 0);
     let one = draft.add(CONSTANT, 1, 0, 0);
-    let more = draft.add(SAMPLER, 0, 0, 0);
-    draft.wire(one, more, 0);
-    draft.wire(before, more, 1);
-    let sum = draft.add(ADDER, 0, 0, 0);
-    draft.wire(before, sum, 0);
-    draft.wire(more, sum, 1);
+    let more = draft.add_joining(SAMPLER, one, before);
+    let sum = draft.add_joining(ADDER, before, more);
     draft.wire(sum, count, 1);
     // What the detector sees; the square gives the first push.
     let period = random.between(2, 6) as u32;
     let first = random.pick(&[1, -1, -1]);
     let start = draft.add(SQUARE, first, -first, period);
-    let bias = draft.add(ADDER, 0, 0, 0);
-    draft.wire(start, bias, 0);
-    draft.wire(count, bias, 1);
-    let level = draft.add(ADDER, 0, 0, 0);
-    draft.wire(bias, level, 0);
-    draft.wire(push, level, 1);
+    let bias = draft.add_joining(ADDER, start, count);
+    let level = draft.add_joining(ADDER, bias, push);
     draft.wire(level, detector, 0);
     if !random.once_in(3) {
         draft.add_drive(0, vec![period, period + 3]);

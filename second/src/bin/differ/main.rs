@@ -2,13 +2,14 @@
 //!
 //!     differ PROGRAM [--cases N] [--seed S] [--only NUMBER] [--unnamed 1]
 //!
-//! Case NUMBER of seed S is the same everywhere; --unnamed 1 leaves the named and the swept ones out. What differs is printed with its seed, number and bytes. The status is
-//! 0 only if nothing differs and the cases reached all they should.
+//! Case NUMBER of seed S is the same everywhere; --unnamed 1 leaves the named and the swept ones out. What differs is
+//! printed with its seed, number and bytes. The status is 0 only if nothing differs and the cases reached all they should.
 
 mod damage;
 mod draft;
 mod generate;
 mod named;
+mod options;
 mod program;
 mod random;
 mod seen;
@@ -34,18 +35,10 @@ struct Arguments {
 
 fn arguments() -> Option<Arguments> {
     let mut given = std::env::args().skip(1);
-    let mut arguments = Arguments { program: given.next()?, cases: 20_000, seed: 1, only: None, unnamed: false };
-    while let Some(name) = given.next() {
-        let number = given.next()?.parse().ok()?;
-        match name.as_str() {
-            "--cases" => arguments.cases = number,
-            "--seed" => arguments.seed = number,
-            "--only" => arguments.only = Some(number),
-            "--unnamed" => arguments.unnamed = number == 1,
-            _ => return None,
-        }
-    }
-    Some(arguments)
+    let program = given.next()?;
+    let [cases, seed, only, unnamed] = options::numbers(given, ["--cases", "--seed", "--only", "--unnamed"])?;
+    let (cases, seed) = (cases.unwrap_or(20_000), seed.unwrap_or(1));
+    Some(Arguments { program, cases, seed, only, unnamed: unnamed == Some(1) })
 }
 
 fn main() -> ExitCode {

@@ -69,21 +69,27 @@ source-at-requires-2 c κs = search needs
 returns : tie.Need-returns
 unfolding component-of
 returns c =
-    let b = c .before .before .before .before .before in
+    let port0 = c .before in
+    let spans = port0 .before in
+    let count = spans .before in
+    let p = count .before in
+    let b = p .before in
     let a = b .before in
+    let preference = a .before in
+    let kind = preference .before in
     rw (
       toZ-ofZ w64 (a .signed-at .result) (record { sfits = a .signed-at .ok }),
       toZ-ofZ w64 (b .signed-at2 .result) (record { sfits = b .signed-at2 .ok }),
       c .source-at2 .ensures,
-      c .before .source-at .ensures,
-      c .before .before .spans-at .ensures,
-      c .before .before .before .word4 .ensures,
-      c .before .before .before .before .word3 .ensures,
+      port0 .source-at .ensures,
+      spans .spans-at .ensures,
+      count .word4 .ensures,
+      p .word3 .ensures,
       b .signed-at2 .ensures,
       a .signed-at .ensures,
-      a .before .word2 .ensures,
-      a .before .before .kind-coded .ensures,
-      a .before .before .before .word .ensures,
+      preference .word2 .ensures,
+      kind .kind-coded .ensures,
+      kind .before .word .ensures,
     )
 
 pub component-at-spec : {M : Type 1} → statement M

@@ -28,14 +28,18 @@ parts-at-requires c κs = search needs
 returns : tie.Need-returns
 unfolding model-of
 returns c =
-    let fourth = c .before .before in
+    let order = c .before in
+    let microstep = order .before in
+    let tick = microstep .before in
+    let count = tick .before in
+    let magnitude = count .before in
     rw (
       c .parts-at .ensures,
-      c .before .order-at .ensures,
-      fourth .word4 .ensures,
-      fourth .before .word3 .ensures,
-      fourth .before .before .word2 .ensures,
-      fourth .before .before .before .word .ensures,
+      order .order-at .ensures,
+      microstep .word4 .ensures,
+      tick .word3 .ensures,
+      count .word2 .ensures,
+      magnitude .word .ensures,
     )
 
 pub model-of-spec : {M : Type 1} → statement M

@@ -1,18 +1,21 @@
 -- `order_at` reads one place after the other. The loop's invariant: the first i places are the definition's; the measure is how many are left.
-use Prim.Native.Nat.{ℕ, _+_, _-_, _*_, _%_, _≤_, _<_}
+use Prim.Native.Nat.{ℕ, _+_, _-_, _%_}
 use native.Mathlib.Omega.{arith}
-use mathlib.Core.Path.{_≡_, refl, sym, ap, _∙_}
-use lib.ListN.{length, take, length-set}
-use lib.Seq.{take-all}
+use mathlib.Core.Path.{refl, ap}
+use mathlib.Core.List.{List}
 use Rattle.codec.specs.Words.{table, word-in}
 use Rattle.codec.specs.Decoded.{order-of}
-use Rattle.codec.specs.Tables.{filled-more}
+use Rattle.codec.specs.Tables.{Filled, filled-more, filled-all}
 use borrow.Author.Needs.{needs}
 use Rattle.codec.proofs.decode.order_at.Statement.{statement}
 use Rattle.codec.proofs.decode.order_at.Tie as tie
 
+-- place j of the part order, by its word
+abbrev place : List ℕ → ℕ → ℕ
+place bytes j = word-in bytes (4 + j) % 65536
+
 abbrev Inv-loop : tie.InvT-loop
-Inv-loop bytes order₀ i₀ order i = (i ≤ 32) × (length order ≡ 32) × (take i order ≡ table (λ (j : ℕ). word-in bytes (4 + j) % 65536) i)
+Inv-loop bytes order₀ i₀ order i = Filled (place bytes) 32 i order
 
 abbrev μ-loop : tie.MeasureT-loop
 μ-loop bytes order₀ i₀ order i = 32 - i
@@ -45,22 +48,13 @@ loop-less c = search needs
 loop-again : tie.Need-loop-again Inv-loop μ-loop
 loop-again c =
     let turn = c .before .before in
-    let start = turn .before .before in
-    let f : ℕ → ℕ = (λ (j : ℕ). word-in (start .args .bytes .now) (4 + j) % 65536) in
-    let inside : turn .loop .i < length (turn .loop .order) = omega arith in (
-      omega arith,
-      simp length-set (turn .loop .inv .1),
-      filled-more f (turn .loop .i) (turn .loop .order) _ inside (turn .loop .inv .2) (ap (λ (x : ℕ). x % 65536) (c .word .ensures)),
-    )
+    filled-more _ 32 (turn .loop .i) _ _ (turn .loop .inv) (omega arith) (ap (λ (w : ℕ). w % 65536) (c .word .ensures))
 
 returns : tie.Need-returns Inv-loop μ-loop
 unfolding order-of
 returns c =
     let turn = c .before in
-    let start = turn .before .before in
-    let f : ℕ → ℕ = (λ (j : ℕ). word-in (start .args .bytes .now) (4 + j) % 65536) in
-    let done : turn .loop .i ≡ 32 = omega arith in
-    sym (take-all (turn .loop .i) (turn .loop .order) (omega arith)) ∙ turn .loop .inv .2 ∙ ap (table f) done
+    filled-all _ 32 (turn .loop .i) _ (turn .loop .inv) (omega arith)
 
 pub order-at-spec : {M : Type 1} → statement M
 order-at-spec =

@@ -1,19 +1,22 @@
 -- `parts_at` reads one place after the other. The loop's invariant: the first i places are the definition's; the measure is how many are left.
-use Prim.Native.Nat.{ℕ, _+_, _-_, _*_, _%_, _≤_, _<_}
+use Prim.Native.Nat.{ℕ, _+_, _-_, _*_}
 use native.Mathlib.Omega.{arith}
-use mathlib.Core.Path.{_≡_, refl, sym, ap, _∙_}
-use lib.ListN.{length, take, length-set}
-use lib.Seq.{take-all}
-use Rattle.codec.specs.Words.{table, word-in}
+use mathlib.Core.Path.{refl}
+use mathlib.Core.List.{List}
+use Rattle.codec.specs.Words.{table}
 use Rattle.codec.specs.Decoded.{parts-of, part-of}
-use Rattle.codec.specs.Tables.{filled-more}
+use Rattle.codec.specs.Tables.{Filled, filled-more, filled-all}
 use Rattle.machine.specs.declared.part.Part.{Part}
 use borrow.Author.Needs.{needs}
 use Rattle.codec.proofs.decode.parts_at.Statement.{statement}
 use Rattle.codec.proofs.decode.parts_at.Tie as tie
 
+-- part j, one of 25 words each behind the first 36
+abbrev part : List ℕ → ℕ → Part
+part bytes j = part-of bytes (36 + 25 * j)
+
 abbrev Inv-loop : tie.InvT-loop
-Inv-loop bytes parts₀ i₀ parts i = (i ≤ 32) × (length parts ≡ 32) × (take i parts ≡ table (λ (j : ℕ). part-of bytes (36 + 25 * j)) i)
+Inv-loop bytes parts₀ i₀ parts i = Filled (part bytes) 32 i parts
 
 abbrev μ-loop : tie.MeasureT-loop
 μ-loop bytes parts₀ i₀ parts i = 32 - i
@@ -49,22 +52,13 @@ loop-less c = search needs
 loop-again : tie.Need-loop-again Inv-loop μ-loop
 loop-again c =
     let turn = c .before .before in
-    let start = turn .before .before .before in
-    let f : ℕ → Part = (λ (j : ℕ). part-of (start .args .bytes .now) (36 + 25 * j)) in
-    let inside : turn .loop .i < length (turn .loop .parts) = omega arith in (
-      omega arith,
-      simp length-set (turn .loop .inv .1),
-      filled-more f (turn .loop .i) (turn .loop .parts) _ inside (turn .loop .inv .2) (c .part-at2 .ensures),
-    )
+    filled-more _ 32 (turn .loop .i) _ _ (turn .loop .inv) (omega arith) (c .part-at2 .ensures)
 
 returns : tie.Need-returns Inv-loop μ-loop
 unfolding parts-of
 returns c =
     let turn = c .before in
-    let start = turn .before .before .before in
-    let f : ℕ → Part = (λ (j : ℕ). part-of (start .args .bytes .now) (36 + 25 * j)) in
-    let done : turn .loop .i ≡ 32 = omega arith in
-    sym (take-all (turn .loop .i) (turn .loop .parts) (omega arith)) ∙ turn .loop .inv .2 ∙ ap (table f) done
+    filled-all _ 32 (turn .loop .i) _ (turn .loop .inv) (omega arith)
 
 pub parts-at-spec : {M : Type 1} → statement M
 parts-at-spec =

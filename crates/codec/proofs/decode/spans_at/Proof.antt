@@ -1,18 +1,21 @@
 -- `spans_at` reads one place after the other. The loop's invariant: the first i places are the definition's; the measure is how many are left.
-use Prim.Native.Nat.{ℕ, _+_, _-_, _*_, _%_, _≤_, _<_}
+use Prim.Native.Nat.{ℕ, _+_, _-_, _%_}
 use native.Mathlib.Omega.{arith}
-use mathlib.Core.Path.{_≡_, refl, sym, ap, _∙_}
-use lib.ListN.{length, take, length-set}
-use lib.Seq.{take-all}
+use mathlib.Core.Path.{refl, ap}
+use mathlib.Core.List.{List}
 use Rattle.codec.specs.Words.{table, word-in}
 use Rattle.codec.specs.Decoded.{spans-of}
-use Rattle.codec.specs.Tables.{filled-more}
+use Rattle.codec.specs.Tables.{Filled, filled-more, filled-all}
 use borrow.Author.Needs.{needs}
 use Rattle.codec.proofs.decode.spans_at.Statement.{statement}
 use Rattle.codec.proofs.decode.spans_at.Tie as tie
 
+-- span j of the eight from the word k on
+abbrev span : List ℕ → ℕ → ℕ → ℕ
+span bytes k j = word-in bytes (k + j) % 4294967296
+
 abbrev Inv-loop : tie.InvT-loop
-Inv-loop bytes k spans₀ i₀ spans i = (i ≤ 8) × (length spans ≡ 8) × (take i spans ≡ table (λ (j : ℕ). word-in bytes (k + j) % 4294967296) i)
+Inv-loop bytes k spans₀ i₀ spans i = Filled (span bytes k) 8 i spans
 
 abbrev μ-loop : tie.MeasureT-loop
 μ-loop bytes k spans₀ i₀ spans i = 8 - i
@@ -45,22 +48,13 @@ loop-less c = search needs
 loop-again : tie.Need-loop-again Inv-loop μ-loop
 loop-again c =
     let turn = c .before .before in
-    let start = turn .before .before in
-    let f : ℕ → ℕ = (λ (j : ℕ). word-in (start .args .bytes .now) ((start .args .k) + j) % 4294967296) in
-    let inside : turn .loop .i < length (turn .loop .spans) = omega arith in (
-      omega arith,
-      simp length-set (turn .loop .inv .1),
-      filled-more f (turn .loop .i) (turn .loop .spans) _ inside (turn .loop .inv .2) (ap (λ (x : ℕ). x % 4294967296) (c .word .ensures)),
-    )
+    filled-more _ 8 (turn .loop .i) _ _ (turn .loop .inv) (omega arith) (ap (λ (w : ℕ). w % 4294967296) (c .word .ensures))
 
 returns : tie.Need-returns Inv-loop μ-loop
 unfolding spans-of
 returns c =
     let turn = c .before in
-    let start = turn .before .before in
-    let f : ℕ → ℕ = (λ (j : ℕ). word-in (start .args .bytes .now) ((start .args .k) + j) % 4294967296) in
-    let done : turn .loop .i ≡ 8 = omega arith in
-    sym (take-all (turn .loop .i) (turn .loop .spans) (omega arith)) ∙ turn .loop .inv .2 ∙ ap (table f) done
+    filled-all _ 8 (turn .loop .i) _ (turn .loop .inv) (omega arith)
 
 pub spans-at-spec : {M : Type 1} → statement M
 spans-at-spec =

@@ -48,15 +48,20 @@ mark-coded-requires c κs = search needs
 returns : tie.Need-returns
 unfolding state-of
 returns c =
-    let held = c .before .before .before .before .before .before in
+    let mark-word = c .before in
+    let side = mark-word .before in
+    let side-word = side .before in
+    let output = side-word .before in
+    let signal = output .before in
+    let held = signal .before in
     rw (
       toZ-ofZ w64 (held .signed-at .result) (record { sfits = held .signed-at .ok }),
       c .mark-coded .ensures,
-      c .before .word3 .ensures,
-      c .before .before .side-coded .ensures,
-      c .before .before .before .word2 .ensures,
-      c .before .before .before .before .signal-at2 .ensures,
-      c .before .before .before .before .before .signal-at .ensures,
+      mark-word .word3 .ensures,
+      side .side-coded .ensures,
+      side-word .word2 .ensures,
+      output .signal-at2 .ensures,
+      signal .signal-at .ensures,
       held .signed-at .ensures,
       held .before .word .ensures,
     )

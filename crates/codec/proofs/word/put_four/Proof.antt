@@ -1,5 +1,5 @@
 -- `put_four` puts the four bytes of the definition one behind the other.
-use Rattle.codec.specs.Pieces.{of-byte, bytes-then}
+use Rattle.lines.specs.Pieces.{put-then}
 use Rattle.codec.specs.Words.{four-bytes}
 use borrow.Author.Needs.{needs}
 use Rattle.codec.proofs.word.put_four.Statement.{statement}
@@ -39,8 +39,8 @@ returns c =
     let third = fourth .before .before .before .before .before in
     let second = third .before .before .before .before .before in
     let first = second .before .before .before .before .before in
-    let two = bytes-then (of-byte (first .put-byte .ensures)) (of-byte (second .put-byte2 .ensures)) in
-    let four = bytes-then (bytes-then two (of-byte (third .put-byte3 .ensures))) (of-byte (fourth .put-byte4 .ensures)) in
+    let two = put-then (first .put-byte .ensures) (second .put-byte2 .ensures) in
+    let four = put-then (put-then two (third .put-byte3 .ensures)) (fourth .put-byte4 .ensures) in
     simp (
       first .before .low-byte .ensures,
       second .before .low-byte2 .ensures,

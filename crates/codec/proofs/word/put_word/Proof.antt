@@ -1,6 +1,7 @@
 -- `put_word` puts the lower half and the upper half of the word.
 use native.Mathlib.Omega.{arith}
-use Rattle.codec.specs.Pieces.{bytes-then, one-word}
+use Rattle.lines.specs.Pieces.{put-then}
+use Rattle.codec.specs.Pieces.{one-word}
 use Rattle.codec.specs.Words.{word-bytes}
 use borrow.Author.Needs.{needs}
 use Rattle.codec.proofs.word.put_word.Statement.{statement}
@@ -20,7 +21,7 @@ unfolding word-bytes
 returns c =
     let last = c .before .before in
     let first = last .before .before .before .before in
-    (one-word (bytes-then (first .put-four .ensures) (last .put-four2 .ensures)), omega arith)
+    (one-word (put-then (first .put-four .ensures) (last .put-four2 .ensures)), omega arith)
 
 pub put-word-spec : {M : Type 1} → statement M
 put-word-spec = tie.close (tie.spec put-four-requires put-four-requires-2 same-length returns)

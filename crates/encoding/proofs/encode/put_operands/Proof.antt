@@ -36,19 +36,21 @@ same-length c = search needs
 returns : tie.Need-returns
 unfolding operand-words
 returns c =
-    let sixth = c .before .before in
-    let fifth = sixth .before .before .before .before in
-    let fourth = fifth .before .before .before .before in
-    let third = fourth .before .before .before .before in
-    let second = third .before .before .before .before in
-    let first = second .before .before .before .before in
-    let start = first .before .before .before .before in
-    let two = words-then (first .put-word .ensures .0) (second .put-word2 .ensures .0) in
-    let four = words-then (words-then two (third .put-signed .ensures .0)) (fourth .put-signed2 .ensures .0) in
-    let six = words-then (words-then four (fifth .put-word3 .ensures .0)) (sixth .put-word4 .ensures .0) in
-    let back-a = toZ-ofZ w64 (start .args .a) (start .fits .a) in
-    let back-b = toZ-ofZ w64 (start .args .b) (start .fits .b) in
-    let put = simp (first .before .kind-code .ensures, back-a, back-b) at six in
+    let count = c .before .before in
+    let p = count .before .before .before .before in
+    let b = p .before .before .before .before in
+    let a = b .before .before .before .before in
+    let preference = a .before .before .before .before in
+    let kind = preference .before .before .before .before in
+    let start = kind .before .before .before .before in
+    let two = words-then (kind .put-word .ensures .0) (preference .put-word2 .ensures .0) in
+    let four = words-then (words-then two (a .put-signed .ensures .0)) (b .put-signed2 .ensures .0) in
+    let six = words-then (words-then four (p .put-word3 .ensures .0)) (count .put-word4 .ensures .0) in
+    let put = simp (
+      kind .before .kind-code .ensures,
+      toZ-ofZ w64 (start .args .a) (start .fits .a),
+      toZ-ofZ w64 (start .args .b) (start .fits .b),
+    ) at six in
     let fits : SizedOperands (start .args .preference) (start .args .a) (start .args .b) (start .args .p) (start .args .span-count) =
     record {
       octet = omega arith;

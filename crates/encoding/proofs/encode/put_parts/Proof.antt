@@ -1,5 +1,5 @@
 -- `put_parts` puts one part after the other. The loop's invariant: the words of the first i parts were put, in a buffer as long as it was; the
--- measure is how many are left.
+-- measure is how many are left. How many places the array has is told by its type, in `good`.
 use Prim.Native.Nat.{ℕ, _-_, _*_, _≤_, _<_}
 use native.Mathlib.Omega.{arith}
 use mathlib.Core.Path.{_≡_, refl, ap}
@@ -66,9 +66,10 @@ returns c =
     let start = turn .before .before in
     let f : ℕ → List ℕ = λ (k : ℕ). part-words (part-at (start .args .t3) k) in
     let done : turn .loop .i ≡ 32 = omega arith in
-    let each = turn .loop .inv .3 in (
+    let each = turn .loop .inv .3 in
+    let places = start .good .1 .1 .0 .1 .0 .1 in (
       words-as (turn .loop .inv .2) (ap (rows f) done) (omega arith),
-      record { places = start .good .1 .1 .0 .1 .0 .1; each = λ j h. each j (omega arith) },
+      record { places = places; each = λ j h. each j (omega arith) },
     )
 
 pub put-parts-spec : {M : Type 1} → statement M

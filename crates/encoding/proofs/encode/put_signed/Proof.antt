@@ -25,10 +25,11 @@ same-length c = search needs
 
 returns : tie.Need-returns
 returns c =
-    let start = c .before .before .before .before .before .before in
+    let put = c .before .before in
+    let word = put .before in
+    let start = word .before .before .before in
     let back = toZ-ofZ w64 (start .args .v) (start .fits .v) in
-    let put = simp (c .before .before .before .signed-word .ensures, back) at (c .before .before .put-word .ensures .0) in
-    (put, fits-signed (start .args .v) (start .fits .v))
+    (simp (word .signed-word .ensures, back) at (put .put-word .ensures .0), fits-signed (start .args .v) (start .fits .v))
 
 pub put-signed-spec : {M : Type 1} → statement M
 put-signed-spec = tie.close (tie.spec signed-word-requires put-word-requires same-length returns)

@@ -1,5 +1,5 @@
 -- `put_spans` puts one place after the other. The loop's invariant: the words of the first i places were put, in a buffer as long as it was; the
--- measure is how many are left.
+-- measure is how many are left. How many places the array has is told by its type, in `good`.
 use Prim.Native.Nat.{ℕ, _-_, _≤_, _<_}
 use native.Mathlib.Omega.{arith}
 use mathlib.Core.Path.{_≡_, refl, ap}
@@ -66,9 +66,10 @@ returns c =
     let start = turn .before .before in
     let f : ℕ → ℕ = λ (k : ℕ). getD (start .args .t3) k 0 in
     let done : turn .loop .i ≡ 8 = omega arith in
-    let each = turn .loop .inv .3 in (
+    let each = turn .loop .inv .3 in
+    let places = start .good .1 .1 .0 .1 .0 .1 in (
       words-as (turn .loop .inv .2) (ap (table f) done) done,
-      record { places = start .good .1 .1 .0 .1 .0 .1; each = λ j h. each j (omega arith) },
+      record { places = places; each = λ j h. each j (omega arith) },
     )
 
 pub put-spans-spec : {M : Type 1} → statement M

@@ -2,7 +2,6 @@
 use mir.Syntax.{w64}
 use mir.ValLaws.{toZ-ofZ}
 use Rattle.codec.specs.Pieces.{words-then}
-use mathlib.Core.List.{append-assoc}
 use Rattle.codec.specs.Encoded.{state-words}
 use borrow.Author.Needs.{needs}
 use Rattle.encoding.proofs.encode.put_state.Statement.{statement}
@@ -38,24 +37,24 @@ same-length c = search needs
 returns : tie.Need-returns
 unfolding state-words
 returns c =
-    let sixth = c .before .before in
-    let fifth = sixth .before .before .before .before .before in
-    let fourth = fifth .before .before .before .before .before in
-    let third = fourth .before .before .before .before in
-    let second = third .before .before .before .before in
-    let first = second .before .before .before .before .before in
-    let start = first .before .before .before in
-    let back = toZ-ofZ w64 (start .args .s .held) (record { sfits = second .before .struct-told .given .1 .0 .1 }) in
-    let two = words-then (first .put-word .ensures .0) (second .put-signed .ensures .0) in
+    let mark = c .before .before in
+    let side = mark .before .before .before .before .before in
+    let output = side .before .before .before .before .before in
+    let signal = output .before .before .before .before in
+    let held = signal .before .before .before .before in
+    let count = held .before .before .before .before .before in
+    let start = count .before .before .before in
+    let back = toZ-ofZ w64 (start .args .s .held) (record { sfits = held .before .struct-told .given .1 .0 .1 }) in
+    let two = words-then (count .put-word .ensures .0) (held .put-signed .ensures .0) in
     let two = simp back at two in
-    let last = words-then (fifth .put-word2 .ensures .0) (sixth .put-word3 .ensures .0) in
-    let last = simp (fifth .before .side-code .ensures, sixth .before .mark-code .ensures) at last in (
-      words-then two (words-then (third .put-signal .ensures .0) (words-then (fourth .put-signal2 .ensures .0) last)),
+    let last = words-then (side .put-word2 .ensures .0) (mark .put-word3 .ensures .0) in
+    let last = simp (side .before .side-code .ensures, mark .before .mark-code .ensures) at last in (
+      words-then two (words-then (signal .put-signal .ensures .0) (words-then (output .put-signal2 .ensures .0) last)),
       record {
-        local = first .put-word .ensures .1;
-        held = rw back at (second .put-signed .ensures .1);
-        signal = third .put-signal .ensures .1;
-        output = fourth .put-signal2 .ensures .1;
+        local = count .put-word .ensures .1;
+        held = rw back at (held .put-signed .ensures .1);
+        signal = signal .put-signal .ensures .1;
+        output = output .put-signal2 .ensures .1;
       },
     )
 

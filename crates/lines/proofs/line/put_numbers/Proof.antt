@@ -2,7 +2,7 @@
 use mathlib.Core.List.{append-assoc}
 use borrow.Author.Needs.{needs}
 use Rattle.lines.specs.Put.{numbers-text}
-use Rattle.lines.proofs.Pieces.{put-then}
+use Rattle.lines.specs.Pieces.{put-then}
 use Rattle.lines.proofs.line.put_numbers.Statement.{statement}
 use Rattle.lines.proofs.line.put_numbers.Tie as tie
 

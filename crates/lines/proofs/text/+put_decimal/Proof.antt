@@ -13,7 +13,7 @@ use borrow.Fn.PlainCycle.{Measures, is, falls, and}
 use Rattle.machine.specs.Rehearse.{decimal}
 use Rattle.lines.specs.Put.{Put}
 use Rattle.lines.proofs.Decimal.{one-digit, more-digits, few-digits}
-use Rattle.lines.proofs.Pieces.{put-then, put-as}
+use Rattle.lines.specs.Pieces.{put-then, put-as}
 use Rattle.lines.proofs.text.put_decimal.Reads as put-decimal
 use Rattle.lines.proofs.text.put_decimal.Kinds as put-decimal-kinds
 use Rattle.lines.proofs.text.+put_decimal.Lts-put_decimal as put-decimal-lts

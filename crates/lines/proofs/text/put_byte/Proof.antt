@@ -1,6 +1,6 @@
 -- `put_byte` stores the byte at its place in the line, and returns the place behind it.
 use borrow.Author.Needs.{needs}
-use Rattle.lines.proofs.Pieces.{put-one}
+use Rattle.lines.specs.Pieces.{put-one}
 use Rattle.lines.proofs.text.put_byte.Statement.{statement}
 use Rattle.lines.proofs.text.put_byte.Tie as tie
 

@@ -8,7 +8,7 @@ use lib.ListN.{length, getD, take, length-take}
 use lib.Seq.{take-suc, take-all}
 use borrow.Author.Needs.{needs}
 use Rattle.lines.specs.Put.{Put}
-use Rattle.lines.proofs.Pieces.{put-nothing, put-then, put-as}
+use Rattle.lines.specs.Pieces.{put-nothing, put-then, put-as}
 use Rattle.lines.proofs.text.put_text.Statement.{statement}
 use Rattle.lines.proofs.text.put_text.Tie as tie
 

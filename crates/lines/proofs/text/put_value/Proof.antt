@@ -10,7 +10,7 @@ use mir.ValLaws.{toZ-ofZ}
 use borrow.Author.Needs.{needs}
 use borrow.Author.Tests.{ltb-true}
 use Rattle.machine.specs.Rehearse.{decimal, hyphen, signed-decimal}
-use Rattle.lines.proofs.Pieces.{put-then, put-as}
+use Rattle.lines.specs.Pieces.{put-then, put-as}
 use Rattle.lines.proofs.text.put_value.Statement.{statement}
 use Rattle.lines.proofs.text.put_value.Tie as tie
 

@@ -1,5 +1,4 @@
 -- `put_answer` lends what is left of the buffer: the line that is written there is put behind the first bytes.
-use native.Mathlib.Omega.{arith}
 use Rattle.rehearse.proofs.Lines.{put-part}
 use borrow.Author.Needs.{needs}
 use Rattle.rehearse.proofs.play.put_answer.Statement.{statement}

@@ -23,7 +23,7 @@ put-one at l b h =
     }
 
 -- what is kept behind a position is kept behind a later one
-drop-more : (p q : ℕ) (l₀ l₁ : List ℕ) → p ≤ q → drop p l₁ ≡ drop p l₀ → drop q l₁ ≡ drop q l₀
+pub drop-more : (p q : ℕ) (l₀ l₁ : List ℕ) → p ≤ q → drop p l₁ ≡ drop p l₀ → drop q l₁ ≡ drop q l₀
 drop-more p q l₀ l₁ h e =
     let sum : q ≡ p + (q - p) = omega arith in
     rw (sum, ← drop-drop (q - p) p l₁, ← drop-drop (q - p) p l₀, e) refl
