@@ -46,16 +46,14 @@ returns c =
     let two = words-then (kind .put-word .ensures .0) (preference .put-word2 .ensures .0) in
     let four = words-then (words-then two (a .put-signed .ensures .0)) (b .put-signed2 .ensures .0) in
     let six = words-then (words-then four (p .put-word3 .ensures .0)) (count .put-word4 .ensures .0) in
-    let put = simp (
-      kind .before .kind-code .ensures,
-      toZ-ofZ w64 (start .args .a) (start .fits .a),
-      toZ-ofZ w64 (start .args .b) (start .fits .b),
-    ) at six in
+    let back-a = toZ-ofZ w64 (start .args .a) (start .fits .a) in
+    let back-b = toZ-ofZ w64 (start .args .b) (start .fits .b) in
+    let put = simp (kind .before .kind-code .ensures, back-a, back-b) at six in
     let fits : SizedOperands (start .args .preference) (start .args .a) (start .args .b) (start .args .p) (start .args .span-count) =
     record {
       octet = omega arith;
-      operand-a = rw back-a at (third .put-signed .ensures .1);
-      operand-b = rw back-b at (fourth .put-signed2 .ensures .1);
+      operand-a = rw back-a at (a .put-signed .ensures .1);
+      operand-b = rw back-b at (b .put-signed2 .ensures .1);
       operand-p = omega arith;
       counted = omega arith;
     } in
