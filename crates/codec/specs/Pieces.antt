@@ -1,14 +1,15 @@
--- Laws of words put into a buffer: no words, one word, words behind words, and words at the front. Assumes nothing.
-use Prim.Native.Nat.{ℕ, _+_, _*_}
+-- Laws of words put into a buffer: no words, one word, words behind words, the elements of an array one by one, and words at the front. Assumes nothing.
+use Prim.Native.Nat.{ℕ, _+_, _*_, _≤_, _<_}
 use native.Mathlib.Omega.{arith}
-use mathlib.Core.Path.{_≡_, refl, sym, _∙_}
+use mathlib.Core.Path.{_≡_, refl, sym, ap, _∙_}
 use mathlib.Core.List.{List, [], _∷_, _++_, append-assoc, append-nil}
-use lib.ListN.{take, drop, length-append, take-append-drop}
+use lib.ListN.{length, take, drop, length-append, take-append-drop}
 use Rattle.lines.specs.Put.{Put}
 use Rattle.lines.specs.Pieces.{drop-more}
-use Rattle.codec.specs.Words.{word-bytes, bytes-of}
+use Rattle.codec.specs.Words.{rows, word-bytes, bytes-of}
 use Rattle.codec.specs.Widths.{word-wide, bytes-append}
 use Rattle.codec.specs.Put.{WordsPut}
+use Rattle.codec.specs.Tables.{rows-more, below-more}
 
 -- no words
 pub no-words : (at : ℕ) (l : List ℕ) → WordsPut 0 [] at l l at
@@ -37,6 +38,28 @@ words-then {us = us} {vs = vs} {p = p} {q = q} {l₀ = l₀} {l₁ = l₁} first
 pub words-as : {a b : ℕ} {us vs : List ℕ} {at p : ℕ} {l₀ l₁ : List ℕ} → WordsPut a us at l₀ l₁ p → us ≡ vs → a ≡ b → WordsPut b vs at l₀ l₁ p
 words-as put e h =
     record { position = omega arith; wide = rw (← e) (omega arith); front = rw (← e) (put .front); behind = put .behind }
+
+-- The first i of n elements were put into a buffer that keeps its length, each as `width` words, and P holds of each: what a loop over them keeps.
+abbrev pub PutFirst : (ℕ → List ℕ) → (ℕ → Type 0) → ℕ → ℕ → ℕ → ℕ → List ℕ → List ℕ → ℕ → Type 0
+PutFirst f P width n i at before after next =
+    (i ≤ n) × (length after ≡ length before) × WordsPut (width * i) (rows f i) at before after next × ((j : ℕ) → j < i → P j)
+
+-- one element more, and all of them
+pub put-more : (f : ℕ → List ℕ) (P : ℕ → Type 0) (width n i : ℕ) {at p q : ℕ} {l₀ l₁ l₂ : List ℕ} → PutFirst f P width n i at l₀ l₁ p → i < n →
+    WordsPut width (f i) p l₁ l₂ q → length l₂ ≡ length l₁ → P i → PutFirst f P width n (i + 1) at l₀ l₂ q
+put-more f P width n i first low put same here = (
+  omega arith,
+  same ∙ first .1,
+  words-as (words-then (first .2) put) (rows-more f i) (omega arith),
+  below-more P i (first .3) here,
+)
+
+pub put-all : (f : ℕ → List ℕ) (P : ℕ → Type 0) (width n i : ℕ) {at p : ℕ} {l₀ l₁ : List ℕ} → PutFirst f P width n i at l₀ l₁ p → n ≤ i →
+    WordsPut (width * n) (rows f n) at l₀ l₁ p × ((j : ℕ) → j < n → P j)
+put-all f P width n i first past =
+    let done : i ≡ n = omega (arith, first .0) in
+    let each = first .3 in
+    (words-as (first .2) (ap (rows f) done) (ap (λ (k : ℕ). width * k) done), λ j low. each j (omega arith))
 
 -- what stands in a buffer at whose front words were put
 pub at-front : {a : ℕ} {us : List ℕ} {p : ℕ} {l₀ l₁ : List ℕ} → WordsPut a us 0 l₀ l₁ p → l₁ ≡ bytes-of us ++ drop (8 * a) l₀

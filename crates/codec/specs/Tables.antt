@@ -1,4 +1,4 @@
--- Laws of tables and rows: one more element, how long they are, and what stands where; and an array that is filled from the front with a table's
+-- Laws of tables and rows: how long they are, what stands where, and one list more; and an array that is filled from the front with a table's
 -- elements. Assumes nothing.
 use Prim.Native.Nat.{ℕ, zero, suc, _+_, _*_, _<_, _≤_}
 use native.Mathlib.Numerals.{add-one}
@@ -15,11 +15,6 @@ use Rattle.laws.specs.Bools.{either}
 use Rattle.codec.specs.Words.{table, rows}
 
 module _ {ℓ} {A : Type ℓ} where
-  -- one element more
-  pub table-more : (f : ℕ → A) (i : ℕ) → table f i ++ (f i ∷ []) ≡ table f (i + 1)
-  unfolding table
-  table-more f i = rw add-one refl
-
   -- as many as the table's number
   pub length-table : (f : ℕ → A) (n : ℕ) → length (table f n) ≡ n
   unfolding table
@@ -72,11 +67,18 @@ module _ {ℓ} {A : Type ℓ} where
       let wide = length-table f n in
       ext-getD d (table f n) l (wide ∙ sym e) (λ i p. table-at f n i d (omega arith))
 
--- one list more, and how many elements lists of k each have
+-- one list more
 pub rows-more : (f : ℕ → List ℕ) (i : ℕ) → rows f i ++ f i ≡ rows f (i + 1)
 unfolding rows
 rows-more f i = rw add-one refl
 
+-- lists of one element each make a table
+pub rows-ones : (f : ℕ → ℕ) (n : ℕ) → rows (λ (i : ℕ). f i ∷ []) n ≡ table f n
+unfolding rows table
+rows-ones f zero = refl
+rows-ones f (suc n) = ap (λ (l : List ℕ). l ++ (f n ∷ [])) (rows-ones f n)
+
+-- how many elements lists of k each have
 pub length-rows : (k : ℕ) (f : ℕ → List ℕ) (n : ℕ) → ((i : ℕ) → length (f i) ≡ k) → length (rows f n) ≡ n * k
 unfolding rows
 length-rows k f zero wide = omega arith

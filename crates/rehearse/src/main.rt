@@ -8,7 +8,7 @@ use machine::model::Model;
 
 mod play;
 
-// The line of a refused load, and whether it was written.
+// The line of a refused load, for which 64 bytes are room enough, and whether it was written.
 fn print_refused(number: u64, position: usize) -> bool {
     let mut line = [0u8; 64];
     let w = write_refused_at(number, position, &mut line);

@@ -1,25 +1,28 @@
 -- `put_parts` puts one part after the other. The loop's invariant: the words of the first i parts were put, in a buffer as long as it was; the
 -- measure is how many are left. How many places the array has is told by its type, in `good`.
-use Prim.Native.Nat.{ℕ, _-_, _*_, _≤_, _<_}
+use Prim.Native.Nat.{ℕ, _-_}
 use native.Mathlib.Omega.{arith}
-use mathlib.Core.Path.{_≡_, refl, ap}
+use mathlib.Core.Path.{refl}
 use mathlib.Core.List.{List}
-use lib.ListN.{length}
+use Rattle.machine.specs.declared.part.Part.{Part}
 use Rattle.machine.specs.Model.{part-at}
 use Rattle.codec.specs.Words.{rows}
 use Rattle.codec.specs.Encoded.{part-words, parts-words}
-use Rattle.codec.specs.Put.{WordsPut}
 use Rattle.codec.specs.Sized.{SizedPart}
-use Rattle.codec.specs.Pieces.{no-words, words-then, words-as}
-use Rattle.codec.specs.Tables.{rows-more, below-more}
+use Rattle.codec.specs.Pieces.{PutFirst, no-words, put-more, put-all}
 use borrow.Author.Needs.{needs}
 use Rattle.encoding.proofs.encode.put_parts.Statement.{statement}
 use Rattle.encoding.proofs.encode.put_parts.Tie as tie
 
+-- the words of a part, and what holds of it
+abbrev words : List Part → ℕ → List ℕ
+words parts k = part-words (part-at parts k)
+
+abbrev Fits : List Part → ℕ → Type 0
+Fits parts k = SizedPart (part-at parts k)
+
 abbrev Inv-loop : tie.InvT-loop
-Inv-loop out₀ at parts next₀ i₀ out next i =
-    (i ≤ 32) × (length out ≡ length out₀) × WordsPut (25 * i) (rows (λ (k : ℕ). part-words (part-at parts k)) i) at out₀ out next ×
-    ((j : ℕ) → j < i → SizedPart (part-at parts j))
+Inv-loop out₀ at parts next₀ i₀ out next i = PutFirst (words parts) (Fits parts) 25 32 i at out₀ out next
 
 abbrev μ-loop : tie.MeasureT-loop
 μ-loop out₀ at parts next₀ i₀ out next i = 32 - i
@@ -48,13 +51,8 @@ loop-again c =
     let put = c .before .before in
     let turn = put .before .before .before .before in
     let start = turn .before .before in
-    let f : ℕ → List ℕ = λ (k : ℕ). part-words (part-at (start .args .t3) k) in
-    let more = words-then (turn .loop .inv .2) (put .put-part .ensures .0) in (
-      omega arith,
-      omega arith,
-      words-as more (rows-more f (turn .loop .i)) (omega arith),
-      below-more (λ (j : ℕ). SizedPart (part-at (start .args .t3) j)) (turn .loop .i) (turn .loop .inv .3) (put .put-part .ensures .1),
-    )
+    put-more (words (start .args .t3)) (Fits (start .args .t3)) 25 32 (turn .loop .i) (turn .loop .inv) (omega arith) (put .put-part .ensures .0)
+    (omega arith) (put .put-part .ensures .1)
 
 same-length : tie.Need-same-length Inv-loop μ-loop
 same-length c = search needs
@@ -64,13 +62,10 @@ unfolding parts-words
 returns c =
     let turn = c .before in
     let start = turn .before .before in
-    let f : ℕ → List ℕ = λ (k : ℕ). part-words (part-at (start .args .t3) k) in
-    let done : turn .loop .i ≡ 32 = omega arith in
-    let each = turn .loop .inv .3 in
-    let places = start .good .1 .1 .0 .1 .0 .1 in (
-      words-as (turn .loop .inv .2) (ap (rows f) done) (omega arith),
-      record { places = places; each = λ j h. each j (omega arith) },
-    )
+    let parts = start .args .t3 in
+    let (put, each) = put-all (words parts) (Fits parts) 25 32 (turn .loop .i) (turn .loop .inv) (omega arith) in
+    let places = start .good .1 .1 .0 .1 .0 .1 in
+    (put, record { places = places; each = each })
 
 pub put-parts-spec : {M : Type 1} → statement M
 put-parts-spec =

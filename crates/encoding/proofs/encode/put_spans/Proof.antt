@@ -1,28 +1,33 @@
 -- `put_spans` puts one place after the other. The loop's invariant: the words of the first i places were put, in a buffer as long as it was; the
 -- measure is how many are left. How many places the array has is told by its type, in `good`.
-use Prim.Native.Nat.{ℕ, _-_, _≤_, _<_}
+use Prim.Native.Nat.{ℕ, _-_, _<_}
 use native.Mathlib.Omega.{arith}
-use mathlib.Core.Path.{_≡_, refl, ap}
-use lib.ListN.{length, getD}
-use Rattle.codec.specs.Words.{table}
+use mathlib.Core.Path.{refl}
+use mathlib.Core.List.{List, [], _∷_}
+use lib.ListN.{getD}
+use Rattle.codec.specs.Words.{rows}
 use Rattle.codec.specs.Encoded.{spans-words}
-use Rattle.codec.specs.Put.{WordsPut}
-use Rattle.codec.specs.Pieces.{no-words, words-then, words-as}
-use Rattle.codec.specs.Tables.{table-more, below-more}
+use Rattle.codec.specs.Pieces.{PutFirst, no-words, words-as, put-more, put-all}
+use Rattle.codec.specs.Tables.{rows-ones}
 use borrow.Author.Needs.{needs}
 use Rattle.encoding.proofs.encode.put_spans.Statement.{statement}
 use Rattle.encoding.proofs.encode.put_spans.Tie as tie
 
+-- the word of a place, and what holds of it
+abbrev word : List ℕ → ℕ → List ℕ
+word spans k = getD spans k 0 ∷ []
+
+abbrev Fits : List ℕ → ℕ → Type 0
+Fits spans k = getD spans k 0 < 4294967296
+
 abbrev Inv-loop : tie.InvT-loop
-Inv-loop out₀ at spans next₀ i₀ out next i =
-    (i ≤ 8) × (length out ≡ length out₀) × WordsPut i (table (λ (k : ℕ). getD spans k 0) i) at out₀ out next ×
-    ((j : ℕ) → j < i → getD spans j 0 < 4294967296)
+Inv-loop out₀ at spans next₀ i₀ out next i = PutFirst (word spans) (Fits spans) 1 8 i at out₀ out next
 
 abbrev μ-loop : tie.MeasureT-loop
 μ-loop out₀ at spans next₀ i₀ out next i = 8 - i
 
 loop-holds : tie.Need-loop-holds Inv-loop μ-loop
-unfolding table
+unfolding rows
 loop-holds c = (omega arith, refl, no-words _ _, λ j h. absurd (omega arith))
 
 mul-span-word : tie.Need-mul-span-word Inv-loop μ-loop
@@ -48,13 +53,9 @@ loop-again c =
     let put = c .before .before in
     let turn = put .before .before .before .before in
     let start = turn .before .before in
-    let f : ℕ → ℕ = λ (k : ℕ). getD (start .args .t3) k 0 in
-    let word = simp (put .before .span-word .ensures .0) at (put .put-word .ensures .0) in (
-      omega arith,
-      omega arith,
-      words-as (words-then (turn .loop .inv .2) word) (table-more f (turn .loop .i)) refl,
-      below-more (λ (j : ℕ). f j < 4294967296) (turn .loop .i) (turn .loop .inv .3) (put .before .span-word .ensures .1),
-    )
+    let put-word = simp (put .before .span-word .ensures .0) at (put .put-word .ensures .0) in
+    put-more (word (start .args .t3)) (Fits (start .args .t3)) 1 8 (turn .loop .i) (turn .loop .inv) (omega arith) put-word (omega arith)
+    (put .before .span-word .ensures .1)
 
 same-length : tie.Need-same-length Inv-loop μ-loop
 same-length c = search needs
@@ -64,13 +65,10 @@ unfolding spans-words
 returns c =
     let turn = c .before in
     let start = turn .before .before in
-    let f : ℕ → ℕ = λ (k : ℕ). getD (start .args .t3) k 0 in
-    let done : turn .loop .i ≡ 8 = omega arith in
-    let each = turn .loop .inv .3 in
-    let places = start .good .1 .1 .0 .1 .0 .1 in (
-      words-as (turn .loop .inv .2) (ap (table f) done) done,
-      record { places = places; each = λ j h. each j (omega arith) },
-    )
+    let spans = start .args .t3 in
+    let (put, each) = put-all (word spans) (Fits spans) 1 8 (turn .loop .i) (turn .loop .inv) (omega arith) in
+    let places = start .good .1 .1 .0 .1 .0 .1 in
+    (words-as put (rows-ones (λ (k : ℕ). getD spans k 0) 8) refl, record { places = places; each = each })
 
 pub put-spans-spec : {M : Type 1} → statement M
 put-spans-spec =
