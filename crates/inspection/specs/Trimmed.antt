@@ -5,7 +5,6 @@ use mathlib.Core.Path.{_≡_, ap, sym, _∙_}
 use mathlib.Core.Bool.{Bool, _&&_}
 use mathlib.Core.List.{List, map, map-map}
 use lib.ListN.{length, length-map, getD, take, drop}
-use lib.Seq.{getD-take, length-take-le}
 use Rattle.machine.specs.declared.part.Component.{Component}
 use Rattle.machine.specs.declared.part.Part.{Part}
 use Rattle.machine.specs.declared.model.Model.{Model}
@@ -15,6 +14,7 @@ use Rattle.machine.specs.Time.{larger, master-magnitude}
 use Rattle.machine.specs.Table.{table-of}
 use Rattle.laws.specs.Lists.{getD-map-in}
 use Rattle.laws.specs.Loops.{every-on}
+use Rattle.laws.specs.Partway.{mapped-at, mapped-length}
 use Rattle.soundness.specs.Magnitude.{magnitude-on}
 
 -- the preferences of the parts in use
@@ -25,7 +25,7 @@ module _ (m : Model) (few : m .count ≤ length (m .parts)) where
   -- as many parts as the model says
   pub parts-count : length (trimmed m .parts) ≡ m .count
   unfolding trimmed
-  parts-count = length-map (take (m .count) (m .parts)) trimmed-part ∙ length-take-le (m .count) (m .parts) few
+  parts-count = mapped-length trimmed-part (m .count) (m .parts) few
 
   pub components-count : length (table-of (trimmed m) .parts) ≡ m .count
   unfolding table-of
@@ -38,10 +38,7 @@ module _ (m : Model) (few : m .count ≤ length (m .parts)) where
   -- each part is the model's own, trimmed
   part-trimmed : (i : ℕ) → i < m .count → part-at (trimmed m .parts) i ≡ trimmed-part (part-at (m .parts) i)
   unfolding trimmed
-  part-trimmed i h =
-      let within : i < length (take (m .count) (m .parts)) = omega (arith, length-take-le (m .count) (m .parts) few) in
-      getD-map-in trimmed-part (take (m .count) (m .parts)) i blank-part blank-part within ∙
-      ap trimmed-part (getD-take (m .count) (m .parts) i blank-part h)
+  part-trimmed i h = mapped-at trimmed-part (m .count) (m .parts) i blank-part blank-part h few
 
   -- and its preference the part's
   preference-at : (i : ℕ) → i < m .count → getD (preferences m) i 0 ≡ part-at (m .parts) i .component .preference

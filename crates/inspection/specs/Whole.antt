@@ -1,10 +1,10 @@
 -- Soundness by one test of each part: what the code asks of a model, put together, is the machine's definition. Assumes nothing.
 use Prim.Native.Nat.{ℕ, _*_, _≤_, _<_}
 use native.Mathlib.Omega.{arith}
-use mathlib.Core.Path.{_≡_, refl, ap, sym, _∙_}
+use mathlib.Core.Path.{_≡_, ap, sym, _∙_}
 use mathlib.Core.Bool.{Bool, true, false, _&&_, and-eq-true-iff}
-use mathlib.Core.List.{List, [], _∷_, map}
-use lib.ListN.{length, length-map, length-take, take}
+use mathlib.Core.List.{map}
+use lib.ListN.{length}
 use lib.Dec.{eqb, leb}
 use borrow.Author.Tests.{eqb-true, eq-eqb, le-leb}
 use Rattle.machine.specs.declared.part.Component.{Component}
@@ -15,29 +15,13 @@ use Rattle.machine.specs.Time.{tick, in-time, last-tick, magnitude-known, ratio
 use Rattle.machine.specs.Model.{most-parts, blank-part, part-at, trimmed-part, trimmed}
 use Rattle.machine.specs.Table.{table-of, magnitude-of, component-ratio, ratios, periods-fit, part-order, ordered}
 use Rattle.machine.specs.Sound.{component-fits, table-fits, state-fits, sound}
-use Rattle.laws.specs.Lists.{every-at, every-intro}
+use Rattle.laws.specs.Bools.{both-ways, refuted}
+use Rattle.laws.specs.Lists.{every-at, every-intro, every-map, same-map}
+use Rattle.laws.specs.Partway.{mapped-places}
 use Rattle.soundness.specs.Facts.{table-facts, sound-facts}
 use Rattle.soundness.specs.Magnitude.{known-there, known-back}
 use Rattle.inspection.specs.Parts.{state-holds, part-fits}
 use Rattle.inspection.specs.Trimmed.{parts-count, components-count}
-
--- two tests each of which shows the other are one
-both-ways : (a b : Bool) → (a ≡ true → b ≡ true) → (b ≡ true → a ≡ true) → a ≡ b
-both-ways true b there back = sym (there refl)
-both-ways false true there back = back refl
-both-ways false false there back = refl
-
--- a test of a mapped list
-every-map : {A B : Type 0} (f : B → Bool) (g : A → B) (l : List A) → every f (map g l) ≡ every (λ a. f (g a)) l
-unfolding every
-every-map f g [] = refl
-every-map f g (x ∷ xs) = ap (λ (b : Bool). f (g x) && b) (every-map f g xs)
-
--- lists of numbers made of the same elements are the same where each two numbers are
-same-map : {A B : Type 0} (f : A → ℕ) (g : B → ℕ) (k : A → B) (l : List A) → same (map f l) (map g (map k l)) ≡ every (λ a. eqb (f a) (g (k a))) l
-unfolding same every
-same-map f g k [] = refl
-same-map f g k (x ∷ xs) = ap (λ (b : Bool). eqb (f x) (g (k x)) && b) (same-map f g k xs)
 
 -- a state by the part's own ratio, and by the table's where the two are the same
 state-by : (t r : ℕ) (p : Part) → p .ratio ≡ r → state-fits t p ≡ state-holds t r (p .state)
@@ -207,10 +191,6 @@ sound-trimmed m some few full =
     sound-tests (trimmed m) (sym (parts-count m room)) (rw n some) (rw n few) ∙ ap (λ (k : ℕ). tests k (trimmed m)) n
 
 -- a model that says it has no part is not sound, nor one that says it has more than there are places
-refuted : (b : Bool) → (b ≡ true → ⊥) → b ≡ false
-refuted true h = absurd (h refl)
-refuted false h = refl
-
 pub unsound-none : (m : Model) → m .count < 1 → length (m .parts) ≡ 32 → sound (trimmed m) ≡ false
 unsound-none m none full =
     refuted (sound (trimmed m))
@@ -224,5 +204,4 @@ unfolding trimmed
 unsound-many m many full =
     refuted (sound (trimmed m))
     (λ h.
-    let counted = sound-facts (trimmed m) h .counted in
-    omega (arith, many, full, counted, length-map (take (m .count) (m .parts)) trimmed-part, length-take (m .count) (m .parts)))
+    omega (arith, many, full, mapped-places trimmed-part (m .count) (m .parts) (sound-facts (trimmed m) h .counted)))

@@ -2,7 +2,7 @@
 use Prim.Native.Nat.{ℕ, zero, suc}
 use mathlib.Core.Path.{_≡_, refl, sym, ap, ap₂, _∙_}
 use mathlib.Core.Bool.{Bool, true, and-eq-true-iff}
-use mathlib.Core.List.{List, [], _∷_, _++_, map}
+use mathlib.Core.List.{List, [], _∷_, _++_, map, List·Memᴰ, List·Memᴰ·head, List·Memᴰ·tail}
 use lib.ListN.{length, getD, set, length-map, List·getD-map}
 use Rattle.machine.specs.Lists.{every, All}
 
@@ -12,6 +12,11 @@ module _ {ℓ} {A : Type ℓ} (P : A → Type 0) where
   all-default [] d i h p = p
   all-default (x ∷ xs) d zero h p = h .0
   all-default (x ∷ xs) d (suc i) h p = all-default xs d i (h .1) p
+
+  -- what holds of each member of a list holds of all its elements
+  pub members-all : (l : List A) → ((a : A) → List·Memᴰ a l → P a) → All P l
+  members-all [] h = tt
+  members-all (x ∷ xs) h = (h x (List·Memᴰ·head refl), members-all xs (λ a m. h a (List·Memᴰ·tail m)))
 
   -- where the test f shows P, all elements of a list that passes it have P
   pub every-all : (f : A → Bool) (l : List A) → ((a : A) → f a ≡ true → P a) → every f l ≡ true → All P l

@@ -10,6 +10,17 @@ pub either : (b : Bool) → (b ≡ true) ⊎ (b ≡ false)
 either true = inl refl
 either false = inr refl
 
+-- a test that cannot hold fails
+pub refuted : (b : Bool) → (b ≡ true → ⊥) → b ≡ false
+refuted true h = absurd (h refl)
+refuted false h = refl
+
+-- two tests each of which shows the other are one
+pub both-ways : (a b : Bool) → (a ≡ true → b ≡ true) → (b ≡ true → a ≡ true) → a ≡ b
+both-ways true b there back = sym (there refl)
+both-ways false true there back = back refl
+both-ways false false there back = refl
+
 -- both tests hold, one by one, and together
 pub and-left : (a b : Bool) → a && b ≡ true → a ≡ true
 and-left true b h = refl

@@ -1,18 +1,19 @@
 -- Laws of lists: `every`, `any`, `member` and `same` as statements, elements of mapped lists, what holds of all elements, and where an element
 -- stands. Assumes nothing.
-use Prim.Native.Nat.{ℕ, zero, suc, _*_, _≤_, _<_}
+use Prim.Native.Nat.{ℕ, zero, suc, _*_, _≤_, _<_, min}
 use native.Mathlib.Omega.{arith}
 use native.Mathlib.Nat.{mul-suc}
 use mathlib.Core.Path.{_≡_, refl, ap, ap₂, sym, subst, _∙_}
-use mathlib.Core.Bool.{Bool, true, false, false≢true}
+use mathlib.Core.Bool.{Bool, true, false, _&&_, false≢true}
 use mathlib.Core.Logic.{_⊎_, inl, inr, ⊎-elim}
 use mathlib.Core.List.{List, [], _∷_, _++_, append-nil, map, flatMap, List·Memᴰ, List·Memᴰ·head, List·Memᴰ·tail, List·Memᴰ·not-nil, List·Memᴰ·cases-cons, List·Memᴰ·eq-of-singleton, List·Memᴰ·append-cases}
-use lib.ListN.{length, getD, take, length-append}
-use lib.Seq.{append-snoc}
+use lib.ListN.{length, getD, set, take, length-append}
+use lib.Seq.{append-snoc, take-all}
 use lib.Dec.{eqb}
 use borrow.Author.Tests.{eqb-true, eq-eqb}
 use Rattle.machine.specs.Lists.{every, any, member, same, All}
 use Rattle.laws.specs.Bools.{either, and-left, and-right, and-intro, or-cases, or-left, or-right}
+use Rattle.laws.specs.Numbers.{min-one}
 
 module _ {ℓ} {A : Type ℓ} where
   -- what `every` says at each index, and back
@@ -64,17 +65,28 @@ getD-map-in f [] i d e p = absurd (omega arith)
 getD-map-in f (x ∷ xs) zero d e p = refl
 getD-map-in f (x ∷ xs) (suc i) d e p = getD-map-in f xs i d e (omega arith)
 
--- a mapped list depends on its elements' images alone
-pub map-cong {ℓ ℓ′} : {A : Type ℓ} {B : Type ℓ′} (f g : A → B) (l : List A) (d : A) →
-    ((i : ℕ) → i < length l → f (getD l i d) ≡ g (getD l i d)) → map f l ≡ map g l
-map-cong f g [] d h = refl
-map-cong f g (x ∷ xs) d h = ap₂ _∷_ (h 0 (omega arith)) (map-cong f g xs d (λ i p. h (suc i) (omega arith)))
-
 -- the first elements of a mapped list
 pub take-map {ℓ ℓ′} : {A : Type ℓ} {B : Type ℓ′} (f : A → B) (n : ℕ) (l : List A) → take n (map f l) ≡ map f (take n l)
 take-map f zero l = refl
 take-map f (suc n) [] = refl
 take-map f (suc n) (x ∷ xs) = ap (λ t. f x ∷ t) (take-map f n xs)
+
+-- an element replaced in a mapped list
+pub map-set {ℓ ℓ′} : {A : Type ℓ} {B : Type ℓ′} (f : A → B) (l : List A) (i : ℕ) (a : A) → map f (set l i a) ≡ set (map f l) i (f a)
+map-set f [] i a = refl
+map-set f (x ∷ xs) zero a = refl
+map-set f (x ∷ xs) (suc i) a = ap (λ t. f x ∷ t) (map-set f xs i a)
+
+-- a test of a mapped list
+pub every-map {ℓ ℓ′} : {A : Type ℓ} {B : Type ℓ′} (f : B → Bool) (g : A → B) (l : List A) → every f (map g l) ≡ every (λ a. f (g a)) l
+unfolding every
+every-map f g [] = refl
+every-map f g (x ∷ xs) = ap (λ (b : Bool). f (g x) && b) (every-map f g xs)
+
+-- the first n elements of at most k, by the smaller of the two numbers
+pub take-most {ℓ} : {A : Type ℓ} (n k : ℕ) (l : List A) → length l ≤ k → take (min n k) l ≡ take n l
+take-most n k l h =
+    ⊎-elim (λ e. rw e refl) (λ e. rw e (take-all k l h ∙ sym (take-all n l (omega arith)))) (min-one n k)
 
 -- lists of numbers that are the same are equal, and back
 pub same-equal : (xs ys : List ℕ) → same xs ys ≡ true → xs ≡ ys
@@ -92,6 +104,13 @@ same-refl (x ∷ xs) = and-intro (eqb x x) (same xs xs) (eq-eqb x x refl) (same-
 
 pub equal-same : (xs ys : List ℕ) → xs ≡ ys → same xs ys ≡ true
 equal-same xs ys e = rw e (same-refl ys)
+
+-- lists of numbers made of the elements of l, in the second by way of k, are the same where the two numbers of each element are equal
+pub same-map {ℓ ℓ′} : {A : Type ℓ} {B : Type ℓ′} (f : A → ℕ) (g : B → ℕ) (k : A → B) (l : List A) →
+    same (map f l) (map g (map k l)) ≡ every (λ a. eqb (f a) (g (k a))) l
+unfolding same every
+same-map f g k [] = refl
+same-map f g k (x ∷ xs) = ap (λ (b : Bool). eqb (f x) (g (k x)) && b) (same-map f g k xs)
 
 -- `member` as membership, and back
 pub member-in : (n : ℕ) (xs : List ℕ) → member n xs ≡ true → List·Memᴰ n xs

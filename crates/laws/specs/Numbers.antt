@@ -1,7 +1,7 @@
 -- Laws of numbers that are not in the library: of two numbers, and of division. Assumes nothing.
-use Prim.Native.Nat.{ℕ, zero, suc, _/_, _≤_, _<_, min, max}
+use Prim.Native.Nat.{ℕ, zero, suc, _+_, _*_, _/_, _≤_, _<_, min, max}
 use native.Mathlib.Omega.{arith}
-use native.Mathlib.Nat.{le-div-iff-mul-le, div-mul-le-self, div-zero, le-trans}
+use native.Mathlib.Nat.{le-div-iff-mul-le, div-lt-iff-lt-mul, lt-div-mul-add, div-mul-le-self, div-zero, le-mul-of-pos-right, le-trans}
 use mathlib.Core.Path.{_≡_}
 use mathlib.Core.Bool.{true, false, not, _&&_}
 use mathlib.Core.Logic.{_⊎_, inl, inr, ⊎-elim, ⊎-map}
@@ -38,11 +38,20 @@ and-leb a b p = by-test (either (leb a p)) (either (leb b p))
     by-test (inl t) (inr u) = rw (t, u, lt-leb (max a b) p (omega (arith, leb-false b p u)))
     by-test (inr t) other = rw (t, lt-leb (max a b) p (omega (arith, leb-false a p t)))
 
--- a larger number divided is no smaller
-div-mono : (r a b : ℕ) → 0 < r → a ≤ b → a / r ≤ b / r
-div-mono r a b pos h = le-div-iff-mul-le pos .1 (le-trans (div-mul-le-self a r) h)
-
--- whatever the divisor: divided by 0 both give 0
+-- a larger number divided is no smaller, whatever the divisor: divided by 0 both give 0
 pub div-grows : (r a b : ℕ) → a ≤ b → a / r ≤ b / r
 div-grows zero a b h = rw (div-zero a, div-zero b) (omega arith)
-div-grows (suc r) a b h = div-mono (suc r) a b (omega arith) h
+div-grows (suc r) a b h =
+    let some : 0 < suc r = omega arith in
+    le-div-iff-mul-le some .1 (le-trans (div-mul-le-self a (suc r)) h)
+
+-- a number larger by h, divided, is larger by at most h
+pub div-more : (r a h : ℕ) → (a + h) / r ≤ a / r + h
+div-more zero a h = rw (div-zero (a + h)) (omega arith)
+div-more (suc r) a h =
+    let some : 0 < suc r = omega arith in
+    let below : a < a / suc r * suc r + suc r = lt-div-mul-add some in
+    let grown : h ≤ h * suc r = le-mul-of-pos-right h some in
+    let more : a + h < (a / suc r + h + 1) * suc r = omega arith in
+    let least : (a + h) / suc r < a / suc r + h + 1 = div-lt-iff-lt-mul some .1 more in
+    omega arith

@@ -1,12 +1,32 @@
--- A list whose first elements are changed and whose others are not yet, which is what a loop over an array holds partway. Assumes nothing.
+-- The first elements of a list, mapped; and a list whose first elements are changed and whose others are not yet, which is what a loop over an array
+-- holds partway. Assumes nothing.
 use Prim.Native.Nat.{ℕ, zero, suc, _+_, _≤_, _<_}
 use native.Mathlib.Omega.{arith}
 use native.Mathlib.Numerals.{add-one}
-use mathlib.Core.Path.{_≡_, refl, ap, ap₂, sym}
+use mathlib.Core.Path.{_≡_, refl, ap, ap₂, sym, _∙_}
 use mathlib.Core.List.{List, [], _∷_, _++_, map}
-use lib.ListN.{length, getD, set, take, drop}
+use lib.ListN.{length, getD, set, take, drop, length-map, length-take}
+use lib.Seq.{getD-take, length-take-le, take-at}
+use Rattle.laws.specs.Lists.{getD-map-in}
 
 module _ {ℓ ℓ′} {A : Type ℓ} {B : Type ℓ′} (f : A → B) where
+  -- the first n elements, mapped, are n where the list has as many, and back
+  pub mapped-length : (n : ℕ) (l : List A) → n ≤ length l → length (map f (take n l)) ≡ n
+  mapped-length n l h = length-map (take n l) f ∙ length-take-le n l h
+
+  pub mapped-places : (n : ℕ) (l : List A) → n ≡ length (map f (take n l)) → n ≤ length l
+  mapped-places n l e = omega (arith, length-map (take n l) f, length-take n l)
+
+  -- each is that of its place in the list
+  pub mapped-at : (n : ℕ) (l : List A) (i : ℕ) (d : A) (e : B) → i < n → n ≤ length l → getD (map f (take n l)) i e ≡ f (getD l i d)
+  mapped-at n l i d e below few =
+      let within : i < length (take n l) = omega (arith, length-take-le n l few) in
+      getD-map-in f (take n l) i d e within ∙ ap f (getD-take n l i d below)
+
+  -- they are the front of a list in which they are stored
+  pub mapped-front : (n : ℕ) (l : List A) (r : List B) → n ≤ length l → take n (map f (take n l) ++ r) ≡ map f (take n l)
+  mapped-front n l r h = take-at (map f (take n l)) r n (mapped-length n l h)
+
   -- a list r in which the first i elements of l are stored, changed by f: the next one stored
   mapped-suc : (l : List A) (r : List B) (i : ℕ) (d : A) → i < length l → length l ≡ length r →
       set (map f (take i l) ++ drop i r) i (f (getD l i d)) ≡ map f (take (suc i) l) ++ drop (suc i) r
@@ -45,17 +65,6 @@ module _ {ℓ} {A : Type ℓ} (f : A → A) where
   partway-later (suc i) [] k d h = refl
   partway-later (suc i) (x ∷ xs) zero d h = absurd (omega arith)
   partway-later (suc i) (x ∷ xs) (suc k) d h = partway-later i xs k d (omega arith)
-
-  -- the elements that are changed, and those that are not
-  pub partway-front : (i : ℕ) (l : List A) → take i (partway i l) ≡ map f (take i l)
-  partway-front zero l = refl
-  partway-front (suc i) [] = refl
-  partway-front (suc i) (x ∷ xs) = ap (λ l. f x ∷ l) (partway-front i xs)
-
-  pub partway-back : (i : ℕ) (l : List A) → drop i (partway i l) ≡ drop i l
-  partway-back zero l = refl
-  partway-back (suc i) [] = refl
-  partway-back (suc i) (x ∷ xs) = partway-back i xs
 
   -- what f keeps of each element
   pub partway-kept {κ} : {B : Type κ} (g : A → B) (i : ℕ) (l : List A) → ((a : A) → g (f a) ≡ g a) → map g (partway i l) ≡ map g l

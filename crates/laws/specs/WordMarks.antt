@@ -21,7 +21,7 @@ marks-of zero w = []
 marks-of (suc n) w = digit-mark (w % 2) ∷ marks-of n (w / 2)
 
 -- as many marks as digits
-pub length-marks : (n w : ℕ) → length (marks-of n w) ≡ n
+length-marks : (n w : ℕ) → length (marks-of n w) ≡ n
 unfolding marks-of
 length-marks zero w = refl
 length-marks (suc n) w = ap suc (length-marks n (w / 2))

@@ -1,21 +1,16 @@
 -- Laws of the line of a committed advance: its outputs one by one, and its text as the pieces in which the code puts it. Assumes nothing.
-use Prim.Native.Nat.{ℕ, zero, suc, _+_, _<_, min}
+use Prim.Native.Nat.{ℕ, zero, suc, _+_, _<_}
 use native.Mathlib.Numerals.{add-one}
 use native.Mathlib.Omega.{arith}
-use mathlib.Core.Path.{_≡_, refl, sym, _∙_}
-use mathlib.Core.Bool.{true, false}
-use mathlib.Core.Logic.{_⊎_, inl, inr}
+use mathlib.Core.Path.{_≡_, refl}
 use mathlib.Core.List.{List, [], _∷_, _++_, map, append-assoc, append-nil}
 use lib.ListN.{length, getD, take}
-use lib.Seq.{take-all}
-use lib.Dec.{leb}
-use borrow.Author.Tests.{eq-eqb, ne-eqb, leb-true, leb-false}
+use borrow.Author.Tests.{eq-eqb, ne-eqb}
 use Rattle.machine.specs.declared.part.Part.{Part}
 use Rattle.machine.specs.declared.model.Answer.{Answer}
 use Rattle.machine.specs.Time.{tick}
 use Rattle.machine.specs.Model.{trimmed, trimmed-answer, trimmed-part}
 use Rattle.machine.specs.Rehearse.{answer-line, blank, committed-line, line-feed, outputs-text, refused-line, signal-text}
-use Rattle.laws.specs.Bools.{either}
 use Rattle.lines.specs.Put.{numbers-text}
 
 -- the outputs of one part more
@@ -35,18 +30,6 @@ outputs-trimmed : (ps : List Part) → outputs-text (map trimmed-part ps) ≡ ou
 unfolding outputs-text trimmed-part
 outputs-trimmed [] = refl
 outputs-trimmed (p ∷ ps) = simp (outputs-trimmed ps)
-
--- the first n of k elements are the first of as many as there are
-pub take-most {ℓ} : {A : Type ℓ} (n k : ℕ) (l : List A) → length l ≡ k → take (min n k) l ≡ take n l
-take-most n k l h = cases (either (leb n k))
-  where
-    cases : (leb n k ≡ true) ⊎ (leb n k ≡ false) → take (min n k) l ≡ take n l
-    cases (inl e) =
-        let least : min n k ≡ n = omega (arith, leb-true n k e) in
-        rw least refl
-    cases (inr e) =
-        let least : min n k ≡ k = omega (arith, leb-false n k e) in
-        rw least (take-all k l (omega arith) ∙ sym (take-all n l (omega (arith, leb-false n k e))))
 
 -- the line of an answer: of a refused advance, and of a committed one
 pub refused-answer : (r : Answer) → (r .number ≡ 0 → ⊥) → answer-line (trimmed-answer r) ≡ refused-line (r .number)

@@ -6,8 +6,8 @@ use native.Mathlib.Numerals.{add-one}
 use mathlib.Core.Path.{_≡_, refl, sym, ap, _∙_}
 use mathlib.Core.Bool.{Bool, true, _&&_}
 use mathlib.Core.List.{List, [], _∷_, _++_, map, map-map}
-use lib.ListN.{length, take, drop, length-map, drop-of-length-le}
-use lib.Seq.{drop-cons, getD-take, length-take-le, take-at}
+use lib.ListN.{length, take, drop, drop-of-length-le}
+use lib.Seq.{drop-cons}
 use lib.Dec.{leb}
 use Rattle.machine.specs.declared.part.Component.{Component}
 use Rattle.machine.specs.declared.part.Part.{Part}
@@ -16,7 +16,7 @@ use Rattle.machine.specs.Time.{last-tick, larger, master-magnitude, ratio-of}
 use Rattle.machine.specs.Model.{blank-component, trimmed-component, trimmed-part}
 use Rattle.machine.specs.Table.{Table, component-at, magnitude-of, component-ratio, periods-fit}
 use Rattle.machine.specs.Fresh.{first-state, first-part, first-parts}
-use Rattle.laws.specs.Lists.{getD-map-in}
+use Rattle.laws.specs.Partway.{mapped-at, mapped-front, mapped-length}
 
 -- the components in the first `count` places, without their unused places for spans
 unfoldable pub components : ℕ → List Component → List Component
@@ -47,15 +47,12 @@ module _ (count : ℕ) (parts : List Component) (few : count ≤ length parts) w
   -- as many components as places
   pub components-count : length (components count parts) ≡ count
   unfolding components
-  components-count = length-map (take count parts) trimmed-component ∙ length-take-le count parts few
+  components-count = mapped-length trimmed-component count parts few
 
   -- each is that of its place
   component-in : (i : ℕ) → i < count → component-at (components count parts) i ≡ trimmed-component (component-at parts i)
   unfolding components
-  component-in i h =
-      let within : i < length (take count parts) = omega (arith, length-take-le count parts few) in
-      getD-map-in trimmed-component (take count parts) i blank-component blank-component within ∙
-      ap trimmed-component (getD-take count parts i blank-component h)
+  component-in i h = mapped-at trimmed-component count parts i blank-component blank-component h few
 
   -- a loop's turn: the components from i on are that of place i and those behind it
   components-on :
@@ -103,6 +100,5 @@ module _ (count : ℕ) (parts : List Component) (few : count ≤ length parts) w
   unfolding components trimmed-part first-by trimmed-component first-state
   first-stored magnitude rest =
       let front = take count parts in
-      let long : length (map (first-by magnitude) front) ≡ count = length-map front (first-by magnitude) ∙ length-take-le count parts few in
-      ap (map trimmed-part) (take-at (map (first-by magnitude) front) rest count long) ∙ map-map trimmed-part (first-by magnitude) front ∙
+      ap (map trimmed-part) (mapped-front (first-by magnitude) count parts rest few) ∙ map-map trimmed-part (first-by magnitude) front ∙
       sym (map-map (first-by magnitude) trimmed-component front)

@@ -216,8 +216,8 @@ unfoldable pub accepted : ℕ → Table → Loaded
 accepted at t = record { number = 0; position = at + 1; model = fresh t }
 
 -- the commands, each with all its operands there, at position `at`: Begin
-unfoldable pub begin-read : List ℕ → ℕ → Read
-begin-read bs at = unless-refused (begin-refusal (byte-at bs (at + 1))) at (at + 2) (begun-with (byte-at bs (at + 1)))
+unfoldable pub begin-command : List ℕ → ℕ → Read
+begin-command bs at = unless-refused (begin-refusal (byte-at bs (at + 1))) at (at + 2) (begun-with (byte-at bs (at + 1)))
 
 -- Part
 unfoldable pub part-command : List ℕ → ℕ → Reading → Read
@@ -252,7 +252,7 @@ end-command at rd =
 -- a command that is known, in place and whole
 unfoldable pub whole-command : List ℕ → ℕ → Reading → ℕ → Read
 whole-command bs at rd b =
-    cond (eqb b begin-byte) (begin-read bs at)
+    cond (eqb b begin-byte) (begin-command bs at)
     (cond (eqb b part-byte) (part-command bs at rd)
     (cond (eqb b span-byte) (span-command bs at rd)
     (cond (eqb b wire-byte) (wire-command bs at rd) (end-command at rd))))

@@ -14,7 +14,6 @@ use lib.Seq.{drop-cons, getD-set-other, getD-take, length-take-le, split-at, tak
 use lib.Dec.{leb, eqb}
 use borrow.Author.Tests.{eqb-true, eqb-false, le-leb, leb-true, leb-false}
 use Rattle.machine.specs.declared.part.Component.{Component}
-use Rattle.machine.specs.declared.part.Source.the-variants.{Unwired}
 use Rattle.machine.specs.Lists.{same}
 use Rattle.machine.specs.Model.{blank-component}
 use Rattle.machine.specs.Table.{component-at, ready, lowest-ready, placed, part-order, ordered}
@@ -23,16 +22,12 @@ use Rattle.laws.specs.Lists.{equal-same, getD-map-in, same-equal}
 use Rattle.laws.specs.Marks.{cleared, cleared-added, left, left-replicate, left-set, marked-before, none-left}
 use Rattle.ordering.specs.Order.{Found, Lowest, Placing, lowest-first, lowest-found}
 use Rattle.placing.specs.declared.Direct.{Direct}
-use Rattle.placing.specs.Direct.{both-placed, direct-of}
+use Rattle.placing.specs.Direct.{both-placed, direct-of, no-sources}
 use Rattle.placing.specs.Order.{ready-direct}
 
 -- the marks of n parts once the parts in the first i places of an order are placed
 unfoldable pub marks-at : ℕ → List ℕ → ℕ → List Bool
 marks-at n ks i = cleared (replicate n true) (take i ks)
-
--- what stands behind the last part
-abbrev pub no-sources : Direct
-no-sources = record { port0 = Unwired; port1 = Unwired }
 
 -- the place i of an order of n parts is in turn, ds being the direct sources of the parts
 pub record InTurn (n : ℕ) (ds : List Direct) (ks : List ℕ) (i : ℕ) : Type 0 where
@@ -169,7 +164,7 @@ module _ (cs : List Component) (ds : List Direct) (of-parts : take (length cs) d
         (lowest-at i (omega arith), rw (← marks-next (length cs) ks i (omega arith)) (placing-from m (suc i) (omega arith)))
 
     -- where every place is in turn, the order is the part order
-    pub turns-order : part-order cs ≡ take (length cs) ks
+    turns-order : part-order cs ≡ take (length cs) ks
     unfolding part-order marks-at cleared
     turns-order =
         let all : length (take (length cs) ks) ≡ length cs = length-take-le (length cs) ks long in
@@ -194,7 +189,7 @@ module _ (cs : List Component) (ds : List Direct) (of-parts : take (length cs) d
         (is-order ∙ split-at whole i 0 within ∙ rw (take-take i (length cs) ks (omega arith), getD-take (length cs) ks i 0 h))
 
     -- the places of the part order are in turn
-    pub order-turns : (i : ℕ) → i < length cs → InTurn (length cs) ds ks i
+    order-turns : (i : ℕ) → i < length cs → InTurn (length cs) ds ks i
     order-turns i h =
         let low = lowest-of i h in
         record {

@@ -25,7 +25,7 @@ ghost use mathlib.Core.Path.{_≡_};
 ghost use mathlib.Core.List.{List};
 ghost use lib.ListN.{length};
 ghost use Rattle.machine.specs.Table.{component-at};
-ghost use Rattle.machine.specs.Load.{begin-read, begin-refusal, begun-with, part-command, span-command, span-refusal, unless-refused, wire-command, wire-refusal, with-part};
+ghost use Rattle.machine.specs.Load.{begin-command, begin-refusal, begun-with, part-command, span-command, span-refusal, unless-refused, wire-command, wire-refusal, with-part};
 ghost use Rattle.reading.specs.Made.{component-of};
 ghost use Rattle.reading.specs.Progress.{reading-of};
 ghost use Rattle.operands.specs.Refusals.{part-number};
@@ -57,7 +57,7 @@ fn begin_step(progress: Progress, e: u8, next: usize) -> Step
 // The Begin at a position.
 pub fn begin(s: &[u8], at: usize, progress: Progress) -> Step
     requires { ⌜ (at < length (now s)) × (progress .count ≤ 32) ⌝ }
-    ensures { λ r. ⌜ ((rows : List (List ℕ)) → step-of rows at r ≡ uncut (now (s .entry)) at 2 (begin-read (now (s .entry)) at)) ⌝ }
+    ensures { λ r. ⌜ ((rows : List (List ℕ)) → step-of rows at r ≡ uncut (now (s .entry)) at 2 (begin-command (now (s .entry)) at)) ⌝ }
     ensures few { λ r. ⌜ r .progress .count ≤ 32 ⌝ }
 {
     let ByteRead::Got(e, c) = byte(s, Cursor { at: at + 1 }) else {

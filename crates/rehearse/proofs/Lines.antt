@@ -1,11 +1,11 @@
 -- Laws of playing: a line written into the part of a buffer that is left is put behind what the buffer holds, and the lines from a position on begin with
 -- the line of the command there. Assumes nothing.
-use Prim.Native.Nat.{ℕ, zero, suc, _+_, _-_, _≤_, _<_}
+use Prim.Native.Nat.{ℕ, suc, _+_, _-_, _≤_, _<_}
 use native.Mathlib.Omega.{arith}
 use mathlib.Core.Path.{_≡_, refl, sym, ap, _∙_}
 use mathlib.Core.Bool.{true, false, true≢false}
-use mathlib.Core.List.{List, [], _∷_, _++_, append-assoc, append-nil}
-use lib.ListN.{length, take, drop, length-append, length-take, length-drop}
+use mathlib.Core.List.{List, [], _++_, append-assoc, append-nil}
+use lib.ListN.{length, take, drop, length-append, length-take, length-drop, drop-of-length-le}
 use lib.Seq.{take-all, take-at, drop-at, drop-drop}
 use lib.Dec.{ltb}
 use borrow.Author.Tests.{le-leb, ltb-true}
@@ -26,16 +26,6 @@ use Rattle.lines.specs.Written.{WrittenAs}
 use Rattle.rehearse.specs.declared.play.Played.{Played}
 use Rattle.rehearse.specs.Playing.{lines-at, to-come, PlayedOne}
 
--- nothing lies behind a list's end
-drop-end : (k : ℕ) (l : List ℕ) → length l ≤ k → drop k l ≡ []
-drop-end k [] h = drop-nil k
-  where
-    drop-nil : (k : ℕ) → drop {A = ℕ} k [] ≡ []
-    drop-nil zero = refl
-    drop-nil (suc k) = refl
-drop-end zero (x ∷ l) h = absurd (omega arith)
-drop-end (suc k) (x ∷ l) h = drop-end k l (omega arith)
-
 -- what a written text's answer and buffer are, where the text fits
 fits-length : {text before after : List ℕ} {w : Written} → WrittenAs text before after w → w .length ≡ length text
 fits-length written = rw (written .answer) refl
@@ -51,7 +41,7 @@ put-behind {text = text} {xs = xs} {ys = ys} {w = w} used k room rest written sh
     let size : w .length ≡ length text = fits-length written in
     let fits : length text ≤ length (drop used xs) = simp length-drop (omega arith) in
     let put : ys ≡ text ++ drop (length text) (drop used xs) = fits-buffer written fits in
-    let none : drop k (drop used xs) ≡ [] = drop-end k (drop used xs) (simp length-drop (omega arith)) in
+    let none : drop k (drop used xs) ≡ [] = drop-of-length-le (drop used xs) {i = k} (simp length-drop (omega arith)) in
     let front : length (take used xs ++ text) ≡ used + length text = simp (length-append, length-take) (omega arith) in
     let whole : take used xs ++ (ys ++ drop k (drop used xs)) ≡ (take used xs ++ text) ++ drop (used + length text) xs =
     simp (put, none, append-nil, append-assoc, drop-drop) in

@@ -14,7 +14,7 @@ use Rattle.machine.specs.Time.{magnitude-known}
 use Rattle.machine.specs.Kind.{ports, is-positive, operands-fit}
 use Rattle.machine.specs.Model.{most-parts, most-spans, blank-component}
 use Rattle.machine.specs.Table.{Table}
-use Rattle.machine.specs.Load.{begin-byte, part-byte, span-byte, wire-byte, end-byte, known-command, command-width, preference-known, is-drive, Reading, nothing-read, in-place, onward, ended, begin-refusal, begun-with, part-read, part-refusal, with-part, last-part, last-span, with-span, span-refusal, with-component, source-of, wired, with-wire, wire-refusal, end-refusal, accepted, begin-read, part-command, span-command, wire-command, end-command, whole-command}
+use Rattle.machine.specs.Load.{begin-byte, part-byte, span-byte, wire-byte, end-byte, known-command, command-width, preference-known, is-drive, Reading, nothing-read, in-place, onward, ended, begin-refusal, begun-with, part-read, part-refusal, with-part, last-part, last-span, with-span, span-refusal, with-component, source-of, wired, with-wire, wire-refusal, end-refusal, accepted, begin-command, part-command, span-command, wire-command, end-command, whole-command}
 use Rattle.laws.specs.Last.{length-added, last-of-added, set-last-of-added}
 use Rattle.soundness.specs.Facts.{operand-values, operand-small}
 use Rattle.soundness.specs.Written.{word-bytes, signed-word, part-bytes}
@@ -44,7 +44,7 @@ module _ (bs : List ℕ) where
   pub reads-begin :
       (at e : ℕ) (rest : List ℕ) → drop at bs ≡ begin-byte ∷ e ∷ rest → magnitude-known e ≡ true →
       read-all bs at nothing-read ≡ read-all bs (at + 2) (so-far false e [])
-  unfolding in-place known-command command-width whole-command begin-read begin-refusal begun-with
+  unfolding in-place known-command command-width whole-command begin-command begin-refusal begun-with
   reads-begin at e rest h known =
       after-turn bs at nothing-read (onward (at + 2) (so-far false e []))
       (turn-there bs at begin-byte (e ∷ rest) nothing-read h refl refl (omega arith) ∙ rw (byte-there bs at 1 (begin-byte ∷ e ∷ rest) h, known))

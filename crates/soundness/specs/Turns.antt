@@ -10,7 +10,7 @@ use lib.Dec.{eqb, leb, ltb}
 use borrow.Author.Tests.{eqb-true, eqb-false}
 use Rattle.machine.specs.declared.part.Component.{Component}
 use Rattle.machine.specs.Table.{component-at}
-use Rattle.machine.specs.Load.{begin-byte, part-byte, span-byte, wire-byte, known-command, command-width, byte-at, word-at, Reading, in-place, Read, onward, ended, refused, begin-refusal, begun-with, part-read, part-refusal, with-part, last-part, with-span, span-refusal, with-component, with-wire, wire-refusal, end-refusal, accepted, begin-read, part-command, span-command, wire-command, end-command, whole-command, command-read, read-turn}
+use Rattle.machine.specs.Load.{begin-byte, part-byte, span-byte, wire-byte, known-command, command-width, byte-at, word-at, Reading, in-place, Read, onward, ended, refused, begin-refusal, begun-with, part-read, part-refusal, with-part, last-part, with-span, span-refusal, with-component, with-wire, wire-refusal, end-refusal, accepted, begin-command, part-command, span-command, wire-command, end-command, whole-command, command-read, read-turn}
 use Rattle.laws.specs.Bools.{and-right, cond-cases}
 
 -- the component that a span is added to: the last one read
@@ -55,7 +55,7 @@ module _
 
     -- P holds of a command that is known, in place and whole
     whole-cases : (b : ℕ) → in-place rd b ≡ true → P (whole-command bs at rd b)
-    unfolding whole-command begin-read part-command span-command wire-command end-command in-place
+    unfolding whole-command begin-command part-command span-command wire-command end-command in-place
     whole-cases b placed =
         cond-cases P (eqb b begin-byte) _ _ (λ e. stopped (begin-refusal (byte-at bs (at + 1))) (after-begin bs at) begin)
         (λ e. cond-cases P (eqb b part-byte) _ _

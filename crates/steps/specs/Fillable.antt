@@ -3,7 +3,7 @@ use Prim.Native.Nat.{ℕ, _*_, _≤_, _<_}
 use native.Mathlib.Omega.{arith}
 use mathlib.Core.Path.{_≡_, sym, subst, _∙_}
 use mathlib.Core.List.{List, map}
-use lib.ListN.{length, take, length-map, length-take}
+use lib.ListN.{length}
 use mir.Syntax.{w64}
 use mir.Val.{Fits}
 use Rattle.machine.specs.declared.time.Point.{Point}
@@ -16,6 +16,7 @@ use Rattle.machine.specs.Kind.{period}
 use Rattle.machine.specs.Model.{most-parts, blank-part, part-at, with-parts, reading, trimmed, trimmed-part, trimmed-component}
 use Rattle.laws.specs.Alls.{all-same-map, length-same-map}
 use Rattle.laws.specs.Lists.{all-at}
+use Rattle.laws.specs.Partway.{mapped-places}
 use Rattle.soundness.specs.Ranges.{InRange}
 use Rattle.steps.specs.Reading.{SourceBelow, WiredBelow, source-index, index-below, part-trimmed, reading-trimmed}
 use Rattle.steps.specs.Trimmed.{Changed}
@@ -58,10 +59,6 @@ changed-wired m qs r c kept wired = subst Wired (sym (c .is)) (kept-wired (trimm
 pub place-fits : (i : ℕ) → i < most-parts → Fits w64 (i * 144)
 place-fits i below = omega arith
 
--- there are places for all that are in use
-pub places-in-use : {A B : Type 0} (f : A → B) (n : ℕ) (l : List A) → n ≡ length (map f (take n l)) → n ≤ length l
-places-in-use f n l e = omega (arith, length-map (take n l) f, length-take n l)
-
 -- what a wired model, once trimmed, says of the places in use of the model itself
 module _ (m : Model) (wired : Wired (trimmed m)) where
   -- each is one of the array
@@ -72,7 +69,7 @@ module _ (m : Model) (wired : Wired (trimmed m)) where
   -- the array has them all
   pub wired-places : m .count ≤ length (m .parts)
   unfolding trimmed
-  wired-places = places-in-use trimmed-part (m .count) (m .parts) (wired .counted)
+  wired-places = mapped-places trimmed-part (m .count) (m .parts) (wired .counted)
 
   -- the part there, trimmed, is that of the trimmed model
   pub part-in-use : (i : ℕ) → i < m .count → trimmed-part (part-at (m .parts) i) ≡ part-at (trimmed m .parts) i

@@ -15,8 +15,9 @@ use Rattle.machine.specs.declared.model.Model.{Model}
 use Rattle.machine.specs.Kind.{output-as, output}
 use Rattle.machine.specs.Model.{part-at, reading0, reading1, trimmed, trimmed-part, trimmed-component}
 use Rattle.machine.specs.Step.{with-output, shown, filled}
+use Rattle.laws.specs.Partway.{mapped-places}
 use Rattle.steps.specs.Reading.{SourceBelow, WiredBelow, reading-trimmed}
-use Rattle.steps.specs.Fillable.{Wired, places-in-use, reading-in-use}
+use Rattle.steps.specs.Fillable.{Wired, reading-in-use}
 
 -- the output reads nothing that trimming cuts away
 output-as-trimmed :
@@ -70,7 +71,7 @@ shown-trimmed old next now p wired same counted below =
     rw (
       ← reading-in-use next wired (p .component .port0) (below .port0),
       ← reading-in-use next wired (p .component .port1) (below .port1),
-      reading-trimmed (old .count) (old .parts) (p .component .port0) before (places-in-use trimmed-part (old .count) (old .parts) counted),
+      reading-trimmed (old .count) (old .parts) (p .component .port0) before (mapped-places trimmed-part (old .count) (old .parts) counted),
     )
     (ap (with-output (trimmed-part p))
     (sym (output-as-trimmed (p .component .kind) p now (reading0 (next .parts) p) (reading1 (next .parts) p) (reading0 (old .parts) p))))

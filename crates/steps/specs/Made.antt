@@ -2,7 +2,7 @@
 use Prim.Native.Nat.{ℕ, _≤_, _<_}
 use mathlib.Core.Path.{_≡_, refl, sym, ap, subst, _∙_}
 use mathlib.Core.Bool.{true}
-use mathlib.Core.List.{List, [], _∷_, map, List·Memᴰ, List·Memᴰ·head, List·Memᴰ·tail}
+use mathlib.Core.List.{List, map}
 use lib.ListN.{length}
 use Rattle.machine.specs.declared.time.Point.{Point}
 use Rattle.machine.specs.declared.part.Component.{Component}
@@ -15,7 +15,7 @@ use Rattle.machine.specs.Model.{with-parts, reading0, trimmed, spare-spans, Sam
 use Rattle.machine.specs.Table.{table-of, part-order}
 use Rattle.machine.specs.Step.{moved, all-moved, filled, all-settled, step-made}
 use Rattle.machine.specs.Sound.{sound}
-use Rattle.laws.specs.Alls.{map-kept, all-map}
+use Rattle.laws.specs.Alls.{map-kept, all-map, members-all}
 use Rattle.soundness.specs.Facts.{table-facts, sound-facts}
 use Rattle.soundness.specs.Ranges.{all-moved-in-range}
 use Rattle.soundness.specs.Kept.{filled-kept}
@@ -24,11 +24,6 @@ use Rattle.ordering.specs.Order.{order-below, order-length}
 use Rattle.steps.specs.Trimmed.{Changed, changed-count, unused-through}
 use Rattle.steps.specs.Fillable.{Wired, Fillable, kept-wired, changed-wired}
 use Rattle.steps.specs.SoundParts.{sound-wired, sound-periods, sound-many}
-
--- what holds of every number in a list holds of all its elements
-members-all : (P : ℕ → Type 0) (l : List ℕ) → ((k : ℕ) → List·Memᴰ k l → P k) → All P l
-members-all P [] h = tt
-members-all P (k ∷ ks) h = (h k (List·Memᴰ·head refl), members-all P ks (λ j m. h j (List·Memᴰ·tail m)))
 
 -- the numbers of a part order are those of the components
 pub order-numbers : (cs : List Component) → All (λ (k : ℕ). k < length cs) (part-order cs)

@@ -1,7 +1,6 @@
 -- Moving is a change in place, and what it asks of each part holds of those of a sound model. Assumes nothing.
-use Prim.Native.Nat.{ℕ, zero, suc, _+_, _*_, _/_, _≤_, _<_}
+use Prim.Native.Nat.{ℕ, _+_, _/_, _≤_, _<_}
 use native.Mathlib.Omega.{arith}
-use native.Mathlib.Nat.{div-zero, div-lt-iff-lt-mul, lt-div-mul-add, le-mul-of-pos-right}
 use mathlib.Core.Path.{_≡_, refl}
 use mathlib.Core.Bool.{true}
 use lib.ListN.{length}
@@ -13,7 +12,7 @@ use Rattle.machine.specs.Kind.{period}
 use Rattle.machine.specs.Model.{blank-part, part-at, reading0, trimmed-part, trimmed-component}
 use Rattle.machine.specs.Step.{gain-of, moved, moved-held}
 use Rattle.machine.specs.Sound.{sound}
-use Rattle.laws.specs.Numbers.{div-grows}
+use Rattle.laws.specs.Numbers.{div-grows, div-more}
 use Rattle.laws.specs.Lists.{all-at}
 use Rattle.soundness.specs.Facts.{StateFits, sound-facts}
 use Rattle.soundness.specs.Ranges.{InRange, reading-signal}
@@ -26,17 +25,6 @@ use Rattle.steps.specs.SoundParts.{sound-periods}
 pub moving : (t h : ℕ) → InPlace (moved t h)
 unfolding trimmed-part trimmed-component moved moved-held gain-of gained
 moving t h = record { component = λ x p. refl; output = λ x p. refl; unread = λ x p. refl }
-
--- h ticks more are at most h local ticks more
-div-more : (r t h : ℕ) → (t + h) / r ≤ t / r + h
-div-more zero t h = rw (div-zero (t + h)) (omega arith)
-div-more (suc r) t h =
-    let pos : 0 < suc r = omega arith in
-    let below : t < t / suc r * suc r + suc r = lt-div-mul-add pos in
-    let grown : h ≤ h * suc r = le-mul-of-pos-right h pos in
-    let more : t + h < (t / suc r + h + 1) * suc r = omega arith in
-    let least : (t + h) / suc r < t / suc r + h + 1 = div-lt-iff-lt-mul pos .1 more in
-    omega arith
 
 -- what moving a part asks
 pub record Movable (t h : ℕ) (p : Part) : Type 0 where

@@ -1,11 +1,9 @@
 -- What a port reads, of the part that it is wired to alone, so that no function is handed a model for it; and that it is the same once the places
 -- in no use are cut away. Assumes nothing.
 use Prim.Native.Nat.{ℕ, _≤_, _<_}
-use native.Mathlib.Omega.{arith}
 use mathlib.Core.Path.{_≡_, refl, ap, _∙_}
 use mathlib.Core.List.{List, map}
 use lib.ListN.{length, take}
-use lib.Seq.{getD-take, length-take-le}
 use Rattle.machine.specs.declared.signal.Signal.{Signal}
 use Rattle.machine.specs.declared.signal.Signal.the-variants.{Absent}
 use Rattle.machine.specs.declared.part.Source.{Source}
@@ -13,7 +11,7 @@ use Rattle.machine.specs.declared.part.Source.the-variants.{Unwired, From}
 use Rattle.machine.specs.declared.part.Component.{Component}
 use Rattle.machine.specs.declared.part.Part.{Part}
 use Rattle.machine.specs.Model.{blank-part, part-at, reading, reading0, reading1, trimmed-part}
-use Rattle.laws.specs.Lists.{getD-map-in}
+use Rattle.laws.specs.Partway.{mapped-at}
 
 -- the number of the part that a port is wired to, 0 for an unwired port
 unfoldable pub source-index : Source → ℕ
@@ -49,9 +47,7 @@ index-below n (From k) some below = below
 
 -- the part k of the places in use, trimmed
 pub part-trimmed : (n : ℕ) (ps : List Part) (k : ℕ) → k < n → n ≤ length ps → part-at (map trimmed-part (take n ps)) k ≡ trimmed-part (part-at ps k)
-part-trimmed n ps k h l =
-    getD-map-in trimmed-part (take n ps) k blank-part blank-part (omega (arith, length-take-le n ps l)) ∙
-    ap trimmed-part (getD-take n ps k blank-part h)
+part-trimmed n ps k h l = mapped-at trimmed-part n ps k blank-part blank-part h l
 
 -- a port reads the same of the places in use
 pub reading-trimmed : (n : ℕ) (ps : List Part) (s : Source) → SourceBelow n s → n ≤ length ps → reading (map trimmed-part (take n ps)) s ≡ reading ps s

@@ -1,8 +1,8 @@
 -- Models once the places in no use are cut away, and what changing one place in use does to them: moving, filling and settling change one place after
 -- the other, so that what they come to is told of the trimmed parts alone. Assumes nothing.
-use Prim.Native.Nat.{ℕ, zero, suc, _<_}
+use Prim.Native.Nat.{ℕ, _<_}
 use mathlib.Core.Path.{_≡_, refl, ap, _∙_}
-use mathlib.Core.List.{List, [], _∷_, map}
+use mathlib.Core.List.{List, map}
 use lib.ListN.{set, take, drop}
 use lib.Seq.{map-set-same, take-set-lt, drop-set-lt}
 use Rattle.machine.specs.declared.part.Component.{Component}
@@ -10,6 +10,7 @@ use Rattle.machine.specs.declared.part.Part.{Part}
 use Rattle.machine.specs.declared.model.Model.{Model}
 use Rattle.machine.specs.Model.{blank-part, part-at, with-parts, trimmed-part, trimmed, spare-spans, SameUnused}
 use Rattle.laws.specs.Alls.{same-at}
+use Rattle.laws.specs.Lists.{map-set}
 
 -- the model r is m with the parts ps, in the places in use; the others are as in m
 pub record Changed (m : Model) (ps : List Part) (r : Model) : Type 0 where
@@ -34,12 +35,6 @@ unused-through m b r e u v =
       parts = (rw e at (v .parts)) ∙ u .parts;
       spans = λ i h. v .spans i (rw e h) ∙ u .spans i h;
     }
-
--- an element changed in a mapped list
-map-set : {A B : Type 0} (f : A → B) (l : List A) (i : ℕ) (a : A) → map f (set l i a) ≡ set (map f l) i (f a)
-map-set f [] i a = refl
-map-set f (x ∷ xs) zero a = refl
-map-set f (x ∷ xs) (suc i) a = ap (λ l. f x ∷ l) (map-set f xs i a)
 
 -- the part v put into the place k in use, with the component that is there: the places in no use stay as they were ..
 set-unused :

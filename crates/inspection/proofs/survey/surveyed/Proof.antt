@@ -4,16 +4,14 @@
 use Prim.Native.Nat.{ℕ, _+_, _-_, _≤_, _<_}
 use native.Mathlib.Omega.{arith}
 use mathlib.Core.Path.{_≡_, _∙_, refl, sym, ap}
-use mathlib.Core.List.{List, _++_, map}
+use mathlib.Core.List.{_++_, map}
 use lib.ListN.{length, length-map, take, drop}
-use lib.Seq.{length-take-le, take-at}
 use Rattle.machine.specs.declared.part.Part.{Part}
 use Rattle.machine.specs.Model.{blank-part, trimmed}
 use Rattle.machine.specs.Time.{master-magnitude}
 use Rattle.machine.specs.Table.{magnitude-of, table-of}
-use Rattle.placing.specs.declared.Direct.{Direct}
 use Rattle.placing.specs.Direct.{direct-of}
-use Rattle.laws.specs.Partway.{mapped-more}
+use Rattle.laws.specs.Partway.{mapped-front, mapped-more}
 use Rattle.soundness.specs.Magnitude.{magnitude-end}
 use Rattle.inspection.specs.Trimmed.{preferences, preferences-count, preferences-on}
 use Rattle.inspection.proofs.survey.surveyed.Statement.{statement}
@@ -27,10 +25,6 @@ Inv-loop m magnitude₀ direct₀ i₀ magnitude direct i =
 
 abbrev μ-loop : tie.MeasureT-loop
 μ-loop m magnitude₀ direct₀ i₀ magnitude direct i = m .count - i
-
--- the front of a list whose first n elements are those of l, mapped
-front : (f : Part → Direct) (l : List Part) (r : List Direct) (n : ℕ) → n ≤ length l → take n (map f (take n l) ++ r) ≡ map f (take n l)
-front f l r n h = take-at (map f (take n l)) r n (length-map (take n l) f ∙ length-take-le n l h)
 
 loop-holds : tie.Need-loop-holds Inv-loop μ-loop
 loop-holds c = (omega arith, (refl, refl))
@@ -94,7 +88,7 @@ returns c =
     let past : length (preferences m) ≤ loop .i = rw (preferences-count m few) (c .loop-test .left) in
     let done : loop .i ≡ m .count = omega (arith, c .loop-test .left, loop .inv .0) in (
       sym (loop .inv .1 .0 ∙ magnitude-end (loop .magnitude) (preferences m) (loop .i) past),
-      rw (loop .inv .1 .1, done) (front (λ (p : Part). direct-of (p .component)) (m .parts) _ (m .count) few),
+      rw (loop .inv .1 .1, done) (mapped-front (λ (p : Part). direct-of (p .component)) (m .count) (m .parts) _ few),
     )
 
 pub surveyed-spec : {M : Type 1} → statement M

@@ -11,9 +11,10 @@ use Rattle.machine.specs.declared.model.Answer.{Answer}
 use Rattle.machine.specs.Time.{tick}
 use Rattle.machine.specs.Model.{blank-part, trimmed-answer}
 use Rattle.machine.specs.Rehearse.{answer-line, line-feed, outputs-text}
+use Rattle.laws.specs.Lists.{take-most}
 use Rattle.lines.specs.Put.{Put, numbers-text}
 use Rattle.lines.specs.Pieces.{put-nothing, put-then, put-as}
-use Rattle.lines.proofs.Outputs.{outputs-more, take-most, refused-answer, committed-answer}
+use Rattle.lines.proofs.Outputs.{outputs-more, refused-answer, committed-answer}
 use Rattle.lines.proofs.Bounds.{bounded}
 use Rattle.lines.proofs.line.write_answer.Statement.{statement}
 use Rattle.lines.proofs.line.write_answer.Tie as tie
@@ -39,7 +40,7 @@ line-built : (r : Answer) {a b d i p q end : ℕ} {l₀ l₁ l₂ l₃ : List �
     Put d (line-feed ∷ []) q l₂ l₃ end →
     take end l₃ ≡ answer-line (trimmed-answer r)
 line-built r committed room count numbers outputs feed =
-    rw (← committed-answer r committed, ← take-most (r .model .count) 32 (r .model .parts) room, ← count)
+    rw (← committed-answer r committed, ← take-most (r .model .count) 32 (r .model .parts) (omega arith), ← count)
     (put-then (put-then numbers outputs) feed .line)
 
 write-refused-requires : tie.Need-write-refused-requires Inv-loop μ-loop

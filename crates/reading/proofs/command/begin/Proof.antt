@@ -5,7 +5,7 @@ use mathlib.Core.Path.{_≡_, _∙_}
 use mathlib.Core.List.{List}
 use lib.ListN.{length}
 use borrow.Author.Tests.{le-leb, lt-leb}
-use Rattle.machine.specs.Load.{byte-at, begin-read, begin-refusal, begun-with, unless-refused}
+use Rattle.machine.specs.Load.{byte-at, begin-command, begin-refusal, begun-with, unless-refused}
 use Rattle.reading.specs.Steps.{step-of, uncut}
 use borrow.Author.Needs.{needs}
 use Rattle.reading.proofs.command.begin.Statement.{statement}
@@ -13,8 +13,8 @@ use Rattle.reading.proofs.command.begin.Tie as tie
 
 -- a Begin that is whole is the definition's
 begin-as : (bs : List ℕ) (at e next : ℕ) → at + 2 ≤ length bs → e ≡ byte-at bs (at + 1) → next ≡ at + 2 →
-    unless-refused (begin-refusal e) at next (begun-with e) ≡ uncut bs at 2 (begin-read bs at)
-unfolding uncut begin-read
+    unless-refused (begin-refusal e) at next (begun-with e) ≡ uncut bs at 2 (begin-command bs at)
+unfolding uncut begin-command
 begin-as bs at e next whole same there = rw (same, there, le-leb (at + 2) (length bs) whole)
 
 add-t7 : tie.Need-add-t7

@@ -3,7 +3,7 @@ use Prim.Native.Nat.{ℕ}
 use native.Mathlib.Omega.{arith}
 use mathlib.Core.Path.{_≡_}
 use mathlib.Core.List.{List}
-use Rattle.machine.specs.Load.{begin-read, command-width, part-command, span-command, whole-command, wire-command}
+use Rattle.machine.specs.Load.{begin-command, command-width, part-command, span-command, whole-command, wire-command}
 use Rattle.reading.specs.declared.command.Step.{Step}
 use Rattle.reading.specs.declared.progress.Progress.{Progress}
 use Rattle.reading.specs.Progress.{reading-of}
@@ -22,7 +22,7 @@ module _ (bs : List ℕ) (at : ℕ) (progress : Progress) (rows : List (List ℕ
   unfolding rows-behind sized-command command-width whole-command uncut
   span-as e h = rw e h
 
-  begin-as : b ≡ 1 → step-of rows at step ≡ uncut bs at 2 (begin-read bs at) →
+  begin-as : b ≡ 1 → step-of rows at step ≡ uncut bs at 2 (begin-command bs at) →
       step-of (rows-behind b progress rows v) at step ≡ sized-command bs at (reading-of progress rows) b
   unfolding rows-behind sized-command command-width whole-command uncut
   begin-as e h = rw e h
