@@ -1,7 +1,8 @@
--- What the answers of the operand readers mean, by their cases: the values of document 01's loading where enough bytes are there, cut otherwise.
--- Assumes nothing.
+-- What the answers of the operand readers mean, by their cases: the values of document 01's loading where enough bytes are there, cut otherwise; and a law
+-- of operands in a row. Assumes nothing.
 use Prim.Native.Nat.{ℕ, _+_, _≤_, _<_}
-use mathlib.Core.Path.{_≡_}
+use native.Mathlib.Omega.{arith}
+use mathlib.Core.Path.{_≡_, ap, _∙_}
 use mathlib.Core.List.{List}
 use lib.ListN.{length}
 use Rattle.machine.specs.Load.{byte-at, word-at}
@@ -21,6 +22,13 @@ use Rattle.operands.specs.declared.operands.WireRead.the-variants as wir
 pub record Behind (bs : List ℕ) (at width : ℕ) (c : Cursor) : Type 0 where
   pub whole : at + width ≤ length bs
   pub next : c .at ≡ at + width
+
+-- an operand that is read where others end stands so many bytes behind the first, and the cursor behind it
+pub read-behind :
+    (f : List ℕ → ℕ → ℕ) (bs : List ℕ) (at before width : ℕ) (here next : Cursor) (v : ℕ) → Behind bs at before here →
+    Behind bs (here .at) width next × (v ≡ f bs (here .at)) → Behind bs at (before + width) next × (v ≡ f bs (at + before))
+read-behind f bs at before width here next v ended read =
+    (record { whole = omega arith; next = omega arith }, read .1 ∙ ap (f bs) (ended .next))
 
 -- the byte at a position
 abbrev pub ByteMeant : List ℕ → ℕ → ByteRead → Type 0

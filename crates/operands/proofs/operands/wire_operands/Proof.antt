@@ -2,11 +2,11 @@
 -- is cut, the stream ends before the last.
 use Prim.Native.Nat.{ℕ, _+_}
 use native.Mathlib.Omega.{arith}
-use mathlib.Core.Path.{_≡_, _∙_, ap}
+use mathlib.Core.Path.{_≡_}
 use mathlib.Core.List.{List}
 use borrow.Author.Needs.{needs}
 use Rattle.machine.specs.Load.{byte-at}
-use Rattle.operands.specs.Operands.{Behind}
+use Rattle.operands.specs.Operands.{Behind, read-behind}
 use Rattle.operands.proofs.operands.wire_operands.Statement.{statement}
 use Rattle.operands.proofs.operands.wire_operands.Tie as tie
 
@@ -32,18 +32,12 @@ source-read c = rw (c .source .given .1) at (c .before .before .byte .ensures)
 receiver-read : (c : tie.After-receiver) →
     let start = at-source c in
     Behind (bytes start) (from start) 2 (c .receiver .given .0 .1 .0) × (c .receiver .given .0 .0 ≡ byte-at (bytes start) (from start + 1))
-receiver-read c =
-    let before = source-read (at-source c) .0 in
-    let read = rw (c .receiver .given .1) at (c .before .before .byte2 .ensures) in
-    (record { whole = omega arith; next = omega arith }, read .1 ∙ ap (byte-at _) (omega arith))
+receiver-read c = read-behind byte-at _ _ 1 1 _ _ _ (source-read (at-source c) .0) (rw (c .receiver .given .1) at (c .before .before .byte2 .ensures))
 
 port-read : (c : tie.After-port) →
     let start = at-source (at-receiver c) in
     Behind (bytes start) (from start) 3 (c .port .given .0 .1 .0) × (c .port .given .0 .0 ≡ byte-at (bytes start) (from start + 2))
-port-read c =
-    let before = receiver-read (at-receiver c) .0 in
-    let read = rw (c .port .given .1) at (c .before .before .byte3 .ensures) in
-    (record { whole = omega arith; next = omega arith }, read .1 ∙ ap (byte-at _) (omega arith))
+port-read c = read-behind byte-at _ _ 2 1 _ _ _ (receiver-read (at-receiver c) .0) (rw (c .port .given .1) at (c .before .before .byte3 .ensures))
 
 byte-requires : tie.Need-byte-requires
 byte-requires c κs = search needs
