@@ -12,7 +12,7 @@ use Rattle.machine.specs.declared.model.Score.the-variants.{Wanted, Refused}
 use Rattle.machine.specs.Load.{known-command, command-width, byte-at, word-at}
 use Rattle.machine.specs.Score.{score-command, score-at}
 use Rattle.operands.specs.declared.cursor.Cursor.{Cursor}
-use Rattle.operands.specs.Operands.{Behind}
+use Rattle.operands.specs.Operands.{Behind, read-behind}
 use Rattle.score.proofs.command.score_at.Statement.{statement}
 use Rattle.score.proofs.command.score_at.Tie as tie
 
@@ -38,10 +38,10 @@ module _ (bs : List ℕ) (at b : ℕ) (behind : Cursor) (read : Behind bs at 1 b
   unfolding score-at score-command known-command command-width
   cut six short = rw (lt-ltb at (length bs) inside, ← read .1, six, lt-leb (at + 5) (length bs) short)
 
-  whole : (v next : ℕ) → b ≡ 6 → at + 5 ≤ length bs → v ≡ word-at bs (at + 1) → next ≡ at + 5 → Wanted v next ≡ score-at bs at
+  whole : (v : ℕ) (next : Cursor) → b ≡ 6 → Behind bs at 5 next × (v ≡ word-at bs (at + 1)) → Wanted v (next .at) ≡ score-at bs at
   unfolding score-at score-command known-command command-width
-  whole v next six long operand there =
-      rw (lt-ltb at (length bs) inside, ← read .1, six, le-leb (at + 5) (length bs) long, operand, there)
+  whole v next six word =
+      rw (lt-ltb at (length bs) inside, ← read .1, six, le-leb (at + 5) (length bs) (word .0 .whole), word .1, word .0 .next)
 
 -- the start, and what `byte` promises, seen from where the byte is found
 abbrev start-of : tie.After-b → tie.Start
@@ -94,11 +94,8 @@ returns-3 c =
     let operand = c .before in
     let command = operand .before .before .before in
     let found = command .before .before in
-    let args = start-of found .args in
-    let behind = byte-read found .0 in
     let word = rw (operand .wanted .given .1) at (operand .before .before .word .ensures) in
-    whole (args .s .now) (args .at) _ _ (byte-read found) _ _ (command .match2 .keys1) (omega arith)
-    (word .1 ∙ ap (word-at (args .s .now)) (omega arith)) (omega arith)
+    whole _ _ _ _ (byte-read found) _ _ (command .match2 .keys1) (read-behind word-at _ _ 1 4 _ _ _ (byte-read found .0) word)
 
 returns-4 : tie.Need-returns-4
 returns-4 c =
