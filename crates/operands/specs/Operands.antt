@@ -23,10 +23,14 @@ pub record Behind (bs : List ℕ) (at width : ℕ) (c : Cursor) : Type 0 where
   pub whole : at + width ≤ length bs
   pub next : c .at ≡ at + width
 
--- an operand that is read where others end stands so many bytes behind the first, and the cursor behind it
+-- v is what f reads from a position so many bytes behind the first, and the cursor stands behind the operand's own bytes
+abbrev pub ReadAt : (f : List ℕ → ℕ → ℕ) (bs : List ℕ) (at before width : ℕ) → ℕ → Cursor → Type 0
+ReadAt f bs at before width v c = Behind bs at (before + width) c × (v ≡ f bs (at + before))
+
+-- which is so of an operand that is read where those before it end
 pub read-behind :
     (f : List ℕ → ℕ → ℕ) (bs : List ℕ) (at before width : ℕ) (here next : Cursor) (v : ℕ) → Behind bs at before here →
-    Behind bs (here .at) width next × (v ≡ f bs (here .at)) → Behind bs at (before + width) next × (v ≡ f bs (at + before))
+    Behind bs (here .at) width next × (v ≡ f bs (here .at)) → ReadAt f bs at before width v next
 read-behind f bs at before width here next v ended read =
     (record { whole = omega arith; next = omega arith }, read .1 ∙ ap (f bs) (ended .next))
 

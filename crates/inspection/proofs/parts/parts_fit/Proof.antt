@@ -34,19 +34,22 @@ place test = omega (arith, test .loop-test .taken, start-of test .pre .0)
 few : (c : tie.Start Inv-loop μ-loop) → c .args .t1 .count ≤ length (c .args .t1 .parts)
 few c = omega (arith, c .pre .0, simp length-map at (c .good .0))
 
+-- what is asked of each part
+abbrev asked : tie.Start Inv-loop μ-loop → Part → Bool
+asked start = part-fits (start .args .t1 .count) (start .args .magnitude) (tick (start .args .t1 .point))
+
 -- a turn's question of the part i, and the rest after it
 turn : (c : tie.After-part-fits Inv-loop μ-loop) →
     let test = c .before .before in
-    let start = start-of test in
-    let m = start .args .t1 in
-    let f = part-fits (m .count) (start .args .magnitude) (tick (m .point)) in
+    let m = start-of test .args .t1 in
+    let f = asked (start-of test) in
     every f (trimmed m .parts) ≡ (c .part-fits .result && every f (drop (test .before .loop .i + 1) (trimmed m .parts)))
 turn c =
     let test = c .before .before in
     let start = start-of test in
     let m = start .args .t1 in
     let i = test .before .loop .i in
-    let f : Part → Bool = part-fits (m .count) (start .args .magnitude) (tick (m .point)) in
+    let f = asked start in
     test .before .loop .inv ∙ parts-on m (few start) f i (test .loop-test .taken) ∙
     ap (λ (b : Bool). b && every f (drop (i + 1) (trimmed m .parts))) (sym (c .part-fits .ensures))
 
@@ -78,9 +81,8 @@ returns-2 : tie.Need-returns-2 Inv-loop μ-loop
 returns-2 c =
     let start = c .before .before .before .before in
     let m = start .args .t1 in
-    let f : Part → Bool = part-fits (m .count) (start .args .magnitude) (tick (m .point)) in
     let past : length (trimmed m .parts) ≤ c .before .loop .i = rw (parts-count m (few start)) (c .loop-test .left) in
-    sym (c .before .loop .inv ∙ every-end f (trimmed m .parts) (c .before .loop .i) past)
+    sym (c .before .loop .inv ∙ every-end (asked start) (trimmed m .parts) (c .before .loop .i) past)
 
 pub parts-fit-spec : {M : Type 1} → statement M
 parts-fit-spec =

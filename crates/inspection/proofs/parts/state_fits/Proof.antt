@@ -15,7 +15,7 @@ use Rattle.inspection.specs.Parts.{state-holds}
 use Rattle.inspection.proofs.parts.state_fits.Statement.{statement}
 use Rattle.inspection.proofs.parts.state_fits.Tie as tie
 
--- the start, and the state that is tested, seen from the tests
+-- the start, the test of the local count where it holds, and the state that is tested, seen from later places
 abbrev start-of : tie.Else1 → tie.Start
 start-of counted = counted .before .before .before .before .before
 
@@ -31,12 +31,13 @@ held c =
     let fits : SFits w64 (tested c .held) = record { sfits = omega arith } in
     sym (simp (toZ-ofZ w64 (tested c .held) fits) at (c .is-value .ensures))
 
--- where the local count and the held number are as they must be, the definition is the last two tests
+-- the local count is as it must be
 count-holds : (c : tie.Else1) →
     let args = start-of c .args in
     eqb (args .state .local .0) (local-count (args .t .0) (args .ratio) .0) ≡ true
 count-holds c = rw (← c .before .before .before .local2 .ensures) (eq-eqb _ _ (c .if1 .left))
 
+-- where the held number is too, the definition is the last two tests
 signals-left : (c : tie.Else2) →
     let args = start-of (counted-of (c .before)) .args in
     state-holds (args .t .0) (args .ratio) (args .state) ≡ (is-signal (args .state .signal) && is-signal (args .state .output))

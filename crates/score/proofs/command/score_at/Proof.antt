@@ -2,7 +2,7 @@
 -- is read or cut. A law for each of the definition's four answers inside the stream, by the byte b that was read, then the needs.
 use Prim.Native.Nat.{ℕ, _+_, _≤_, _<_}
 use native.Mathlib.Omega.{arith}
-use mathlib.Core.Path.{_≡_, ap, _∙_}
+use mathlib.Core.Path.{_≡_}
 use mathlib.Core.Bool.{false}
 use mathlib.Core.List.{List}
 use lib.ListN.{length}
@@ -12,10 +12,11 @@ use Rattle.machine.specs.declared.model.Score.the-variants.{Wanted, Refused}
 use Rattle.machine.specs.Load.{known-command, command-width, byte-at, word-at}
 use Rattle.machine.specs.Score.{score-command, score-at}
 use Rattle.operands.specs.declared.cursor.Cursor.{Cursor}
-use Rattle.operands.specs.Operands.{Behind, read-behind}
+use Rattle.operands.specs.Operands.{Behind, ReadAt, read-behind}
 use Rattle.score.proofs.command.score_at.Statement.{statement}
 use Rattle.score.proofs.command.score_at.Tie as tie
 
+-- where the byte b is read at a position, the stream goes on there
 module _ (bs : List ℕ) (at b : ℕ) (behind : Cursor) (read : Behind bs at 1 behind × (b ≡ byte-at bs at)) where
   inside : at < length bs
   inside = omega (arith, read .0 .whole)
@@ -38,7 +39,7 @@ module _ (bs : List ℕ) (at b : ℕ) (behind : Cursor) (read : Behind bs at 1 b
   unfolding score-at score-command known-command command-width
   cut six short = rw (lt-ltb at (length bs) inside, ← read .1, six, lt-leb (at + 5) (length bs) short)
 
-  whole : (v : ℕ) (next : Cursor) → b ≡ 6 → Behind bs at 5 next × (v ≡ word-at bs (at + 1)) → Wanted v (next .at) ≡ score-at bs at
+  whole : (v : ℕ) (next : Cursor) → b ≡ 6 → ReadAt word-at bs at 1 4 v next → Wanted v (next .at) ≡ score-at bs at
   unfolding score-at score-command known-command command-width
   whole v next six word =
       rw (lt-ltb at (length bs) inside, ← read .1, six, le-leb (at + 5) (length bs) (word .0 .whole), word .1, word .0 .next)
