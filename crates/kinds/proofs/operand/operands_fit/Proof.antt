@@ -17,7 +17,7 @@ of-bits : (names : Bool) (v : ℤ) {named r : Bool} → SFits w64 v → named �
     r ≡ cond named (is-value (toZ w64 (ofZ w64 v))) (is-zero (toZ w64 (ofZ w64 v))) → cond names (is-value v) (is-zero v) ≡ r
 of-bits names v fits n e = sym (rw (toZ-ofZ w64 v fits, n) at e)
 
--- of a: what it is, and that it holds
+-- of a; and what that is where the test of a holds
 a-fits : (c : tie.After-operand-fits) →
     let args = c .before .before .args in
     cond (names-a (args .k)) (is-value (args .a)) (is-zero (args .a)) ≡ c .operand-fits .result
@@ -34,6 +34,7 @@ a-holds c = a-fits (c .before) ∙ not-false (c .before .operand-fits .result) (
 abbrev first-of : tie.After-operand-fits2 → tie.Else1
 first-of c = c .before .before
 
+-- of b
 b-fits : (c : tie.After-operand-fits2) →
     let args = first-of c .before .before .before .args in
     cond (names-b (args .k)) (is-value (args .b)) (is-zero (args .b)) ≡ c .operand-fits2 .result
