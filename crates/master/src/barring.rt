@@ -41,5 +41,5 @@ pub(crate) fn barred_number(sound: bool, t: u64, w: u64) -> u64
     let unsound = refusal(!sound, 24);
     let range = refusal(!may_be_wanted(w), 20);
     let time = refusal(!stays_in_time(t, w), 23);
-    first_of(first_of(unsound, range), time)
+    first_of(unsound, first_of(range, time))
 }

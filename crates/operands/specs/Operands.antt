@@ -1,7 +1,8 @@
--- What the answers of the operand readers mean, by their cases: the values of document 01's loading where enough bytes are there, cut otherwise.
--- Assumes nothing.
+-- What the answers of the operand readers mean, by their cases: the values of document 01's loading where enough bytes are there, cut otherwise; and a law
+-- of operands in a row. Assumes nothing.
 use Prim.Native.Nat.{ℕ, _+_, _≤_, _<_}
-use mathlib.Core.Path.{_≡_}
+use native.Mathlib.Omega.{arith}
+use mathlib.Core.Path.{_≡_, ap, _∙_}
 use mathlib.Core.List.{List}
 use lib.ListN.{length}
 use Rattle.machine.specs.Load.{byte-at, word-at}
@@ -21,6 +22,17 @@ use Rattle.operands.specs.declared.operands.WireRead.the-variants as wir
 pub record Behind (bs : List ℕ) (at width : ℕ) (c : Cursor) : Type 0 where
   pub whole : at + width ≤ length bs
   pub next : c .at ≡ at + width
+
+-- v is what f reads from a position so many bytes behind the first, and the cursor stands behind the operand's own bytes
+abbrev pub ReadAt : (f : List ℕ → ℕ → ℕ) (bs : List ℕ) (at before width : ℕ) → ℕ → Cursor → Type 0
+ReadAt f bs at before width v c = Behind bs at (before + width) c × (v ≡ f bs (at + before))
+
+-- which is so of an operand that is read where those before it end
+pub read-behind :
+    (f : List ℕ → ℕ → ℕ) (bs : List ℕ) (at before width : ℕ) (here next : Cursor) (v : ℕ) → Behind bs at before here →
+    Behind bs (here .at) width next × (v ≡ f bs (here .at)) → ReadAt f bs at before width v next
+read-behind f bs at before width here next v ended read =
+    (record { whole = omega arith; next = omega arith }, read .1 ∙ ap (f bs) (ended .next))
 
 -- the byte at a position
 abbrev pub ByteMeant : List ℕ → ℕ → ByteRead → Type 0

@@ -36,6 +36,13 @@ sourced c =
     let few : c .args .count ≤ 32 = c .pre in
     omega arith
 
+-- the turn, and the ready time that it asks for, seen from later places
+abbrev turn-of : tie.After-ready-after Inv-loop μ-loop → tie.In-loop Inv-loop μ-loop
+turn-of asked = asked .before .before .before .before .before
+
+abbrev asked-of : tie.After-walk-back Inv-loop μ-loop → tie.After-ready-after Inv-loop μ-loop
+asked-of walked = walked .before .before .before .before
+
 -- where place i is not in turn, the order is refused
 refused-here : (c : tie.In-loop Inv-loop μ-loop) →
     let args = c .before .before .args in
@@ -84,19 +91,19 @@ ready-after-requires c κs = search needs
 
 returns-3 : tie.Need-returns-3 Inv-loop μ-loop
 returns-3 c =
-    let turn = c .before .before .before .before .before .before in
+    let turn = turn-of (c .before) in
     let late = rw (c .before .ready-after .ensures) at (c .if3 .taken) in
     refused-here turn (before-source _ _ _ _ _ _ (turn .before .loop .inv) late)
 
 walk-back-requires : tie.Need-walk-back-requires Inv-loop μ-loop
 walk-back-requires c κs =
-    let turn = c .before .before .before .before .before .before .before .before in
+    let turn = turn-of (c .before .before .before) in
     (omega arith, turn .before .loop .inv .linked)
 
 returns-4 : tie.Need-returns-4 Inv-loop μ-loop
 returns-4 c =
-    let asked = c .before .before .before .before .before in
-    let turn = asked .before .before .before .before .before in
+    let asked = asked-of (c .before) in
+    let turn = turn-of asked in
     let walked = rw (asked .ready-after .ensures) at (c .before .walk-back .ensures) in
     let behind = rw (asked .ready-after .ensures) at (c .if4 .taken) in
     refused-here turn (after-higher _ _ _ _ _ _ (turn .before .loop .inv) (c .before .walk-back .result) walked behind)
@@ -124,8 +131,8 @@ loop-less c = omega arith
 
 loop-again : tie.Need-loop-again Inv-loop μ-loop
 loop-again c =
-    let asked = c .before .before .before .before .before in
-    let turn = asked .before .before .before .before .before in
+    let asked = asked-of (c .before) in
+    let turn = turn-of asked in
     let start = turn .before .before in
     let ready = rw (asked .ready-after .ensures) at (c .before .before .before .before .if3 .left) in
     let back = rw (asked .ready-after .ensures) at (c .if4 .left) in

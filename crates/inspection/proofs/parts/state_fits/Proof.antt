@@ -1,26 +1,50 @@
 -- `state_fits` makes the definition's four tests in its order; where one fails, the definition is false whatever the others say.
 use native.Mathlib.Omega.{arith}
 use mathlib.Core.Path.{_≡_, sym}
+use mathlib.Core.Bool.{true, _&&_}
+use lib.Dec.{eqb}
 use mir.Syntax.{w64}
 use mir.Val.{SFits}
 use mir.ValLaws.{toZ-ofZ}
 use borrow.Author.Needs.{needs}
 use borrow.Author.Tests.{eq-eqb, ne-eqb, not-true, not-false}
 use Rattle.machine.specs.declared.part.State.{State}
-use Rattle.machine.specs.Signal.{is-value}
+use Rattle.machine.specs.Signal.{is-signal, is-value}
+use Rattle.machine.specs.Time.{local-count}
 use Rattle.inspection.specs.Parts.{state-holds}
 use Rattle.inspection.proofs.parts.state_fits.Statement.{statement}
 use Rattle.inspection.proofs.parts.state_fits.Tie as tie
 
--- the state that is tested
+-- the start, the test of the local count where it holds, and the state that is tested, seen from later places
+abbrev start-of : tie.Else1 → tie.Start
+start-of counted = counted .before .before .before .before .before
+
+abbrev counted-of : tie.After-is-value → tie.Else1
+counted-of value = value .before .before
+
 abbrev tested : tie.After-is-value → State
-tested c = c .before .before .before .before .before .before .before .args .state
+tested value = start-of (counted-of value) .args .state
 
 -- what `is_value` answered of its held number, which was passed as its bits
 held : (c : tie.After-is-value) → is-value (tested c .held) ≡ c .is-value .result
 held c =
     let fits : SFits w64 (tested c .held) = record { sfits = omega arith } in
     sym (simp (toZ-ofZ w64 (tested c .held) fits) at (c .is-value .ensures))
+
+-- the local count is as it must be
+count-holds : (c : tie.Else1) →
+    let args = start-of c .args in
+    eqb (args .state .local .0) (local-count (args .t .0) (args .ratio) .0) ≡ true
+count-holds c = rw (← c .before .before .before .local2 .ensures) (eq-eqb _ _ (c .if1 .left))
+
+-- where the held number is too, the definition is the last two tests
+signals-left : (c : tie.Else2) →
+    let args = start-of (counted-of (c .before)) .args in
+    state-holds (args .t .0) (args .ratio) (args .state) ≡ (is-signal (args .state .signal) && is-signal (args .state .output))
+unfolding state-holds
+signals-left c =
+    let value = c .before in
+    simp (count-holds (counted-of value), held value, not-false (value .is-value .result) (c .if2 .left))
 
 local-requires : tie.Need-local-requires
 local-requires c κs = search needs
@@ -36,46 +60,24 @@ returns-2 : tie.Need-returns-2
 unfolding state-holds
 returns-2 c =
     let value = c .before in
-    let counted = value .before .before in
-    simp (
-      sym (counted .before .before .before .local2 .ensures),
-      eq-eqb _ _ (counted .if1 .left),
-      held value,
-      not-true (value .is-value .result) (c .if2 .taken),
-    )
+    simp (count-holds (counted-of value), held value, not-true (value .is-value .result) (c .if2 .taken))
 
 is-signal-requires : tie.Need-is-signal-requires
 is-signal-requires c κs = search needs
 
 returns-3 : tie.Need-returns-3
-unfolding state-holds
 returns-3 c =
     let signal = c .before in
-    let value = signal .before .before in
-    let counted = value .before .before in
-    simp (
-      sym (counted .before .before .before .local2 .ensures),
-      eq-eqb _ _ (counted .if1 .left),
-      held value,
-      not-false (value .is-value .result) (signal .before .if2 .left),
-      sym (signal .is-signal .ensures),
-      not-true (signal .is-signal .result) (c .if3 .taken),
-    )
+    simp (signals-left (signal .before), sym (signal .is-signal .ensures), not-true (signal .is-signal .result) (c .if3 .taken))
 
 is-signal-requires-2 : tie.Need-is-signal-requires-2
 is-signal-requires-2 c κs = search needs
 
 returns-4 : tie.Need-returns-4
-unfolding state-holds
 returns-4 c =
     let signal = c .before .before in
-    let value = signal .before .before in
-    let counted = value .before .before in
     simp (
-      sym (counted .before .before .before .local2 .ensures),
-      eq-eqb _ _ (counted .if1 .left),
-      held value,
-      not-false (value .is-value .result) (signal .before .if2 .left),
+      signals-left (signal .before),
       sym (signal .is-signal .ensures),
       not-false (signal .is-signal .result) (c .before .if3 .left),
       sym (c .is-signal2 .ensures),

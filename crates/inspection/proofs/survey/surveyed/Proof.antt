@@ -3,13 +3,14 @@
 -- measure is what is left of the count.
 use Prim.Native.Nat.{ℕ, _+_, _-_, _≤_, _<_}
 use native.Mathlib.Omega.{arith}
-use mathlib.Core.Path.{_≡_, _∙_, refl, sym, ap}
-use mathlib.Core.List.{_++_, map}
-use lib.ListN.{length, length-map, take, drop}
+use mathlib.Core.Path.{_≡_, _∙_, refl, sym, ap, ap₂}
+use mathlib.Core.List.{List, _++_, map}
+use lib.ListN.{length, length-map, set, take, drop}
 use Rattle.machine.specs.declared.part.Part.{Part}
 use Rattle.machine.specs.Model.{blank-part, trimmed}
 use Rattle.machine.specs.Time.{master-magnitude}
 use Rattle.machine.specs.Table.{magnitude-of, table-of}
+use Rattle.placing.specs.declared.Direct.{Direct}
 use Rattle.placing.specs.Direct.{direct-of}
 use Rattle.laws.specs.Partway.{mapped-front, mapped-more}
 use Rattle.soundness.specs.Magnitude.{magnitude-end}
@@ -26,14 +27,21 @@ Inv-loop m magnitude₀ direct₀ i₀ magnitude direct i =
 abbrev μ-loop : tie.MeasureT-loop
 μ-loop m magnitude₀ direct₀ i₀ magnitude direct i = m .count - i
 
+-- the turn, seen from its end; and the part's place is one of the 32
+abbrev test-of : tie.After-direct-sources Inv-loop μ-loop → tie.In-loop Inv-loop μ-loop
+test-of c = c .before .before .before .before
+
+place : (test : tie.In-loop Inv-loop μ-loop) → test .before .loop .i < 32
+place test = omega (arith, test .loop-test .taken, test .before .before .pre)
+
 loop-holds : tie.Need-loop-holds Inv-loop μ-loop
 loop-holds c = (omega arith, (refl, refl))
 
 mul-p : tie.Need-mul-p Inv-loop μ-loop
-mul-p c = omega (arith, c .loop-test .taken, c .before .before .pre)
+mul-p c = omega (arith, place c)
 
 element-copy-out-p : tie.Need-element-copy-out-p Inv-loop μ-loop
-element-copy-out-p c = omega (arith, c .loop-test .taken, c .before .before .pre)
+element-copy-out-p c = place c
 
 larger-of-requires : tie.Need-larger-of-requires Inv-loop μ-loop
 larger-of-requires c κs = tt
@@ -42,26 +50,20 @@ direct-sources-requires : tie.Need-direct-sources-requires Inv-loop μ-loop
 direct-sources-requires c κs = tt
 
 mul-direct : tie.Need-mul-direct Inv-loop μ-loop
-mul-direct c =
-    let test = c .before .before .before .before in
-    omega (arith, test .loop-test .taken, test .before .before .pre)
+mul-direct c = omega (arith, place (test-of c))
 
 array-set-from-direct : tie.Need-array-set-from-direct Inv-loop μ-loop
-array-set-from-direct c =
-    let test = c .before .before .before .before in
-    omega (arith, test .loop-test .taken, test .before .before .pre)
+array-set-from-direct c = place (test-of c)
 
 add-i : tie.Need-add-i Inv-loop μ-loop
-add-i c =
-    let test = c .before .before .before .before in
-    omega (arith, test .loop-test .taken, test .before .before .pre)
+add-i c = omega (arith, place (test-of c))
 
 loop-less : tie.Need-loop-less Inv-loop μ-loop
-loop-less c = omega (arith, c .before .before .before .before .loop-test .taken)
+loop-less c = omega (arith, test-of c .loop-test .taken)
 
 loop-again : tie.Need-loop-again Inv-loop μ-loop
 loop-again c =
-    let test = c .before .before .before .before in
+    let test = test-of c in
     let start = test .before .before in
     let loop = test .before .loop in
     let m = start .args .t1 in
@@ -73,8 +75,8 @@ loop-again c =
       (
         loop .inv .1 .0 ∙ preferences-on m few (loop .magnitude) i (test .loop-test .taken) ∙
             ap (λ (e : ℕ). master-magnitude e (drop (i + 1) (preferences m))) (sym (c .before .larger-of .ensures)),
-        rw (loop .inv .1 .1, c .direct-sources .ensures)
-            (mapped-more (λ (p : Part). direct-of (p .component)) (m .parts) _ i blank-part here full),
+        ap₂ (λ (l : List Direct) (d : Direct). set l i d) (loop .inv .1 .1) (c .direct-sources .ensures) ∙
+            mapped-more (λ (p : Part). direct-of (p .component)) (m .parts) _ i blank-part here full,
       ),
     )
 

@@ -14,12 +14,22 @@ use Rattle.machine.specs.Sound.{component-fits, source-fits, spans-fit}
 use Rattle.kinds.proofs.component.component_fits.Statement.{statement}
 use Rattle.kinds.proofs.component.component_fits.Tie as tie
 
+-- the start, and the first two tests where they hold, seen from later ones
+abbrev first-of : tie.After-operands-fit → tie.Else1
+first-of asked = asked .before .before .before
+
+abbrev start-of : tie.After-operands-fit → tie.Start
+start-of asked = first-of asked .before .before
+
+abbrev second-of : tie.Else3 → tie.Else2
+second-of c = c .before .before
+
 -- what `operands_fit` answered of the component's operands, of which a and b were passed as their bits
 operands : (c : tie.After-operands-fit) →
-    let part = c .before .before .before .before .before .args .c in
+    let part = start-of c .args .c in
     operands-fit (part .kind) (part .a) (part .b) (part .p) ≡ c .operands-fit .result
 operands c =
-    let part = c .before .before .before .before .before .args .c in
+    let part = start-of c .args .c in
     let fits-a : SFits w64 (part .a) = record { sfits = omega arith } in
     let fits-b : SFits w64 (part .b) = record { sfits = omega arith } in
     sym (simp (toZ-ofZ w64 (part .a) fits-a, toZ-ofZ w64 (part .b) fits-b) at (c .operands-fit .ensures))
@@ -31,25 +41,24 @@ preference-holds c =
     sym (asked .ensures) ∙ not-false (asked .result) (c .if1 .left)
 
 operands-hold : (c : tie.Else2) →
-    let part = c .before .before .before .before .before .before .args .c in
+    let part = start-of (c .before) .args .c in
     operands-fit (part .kind) (part .a) (part .b) (part .p) ≡ true
 operands-hold c = operands (c .before) ∙ not-false (c .before .operands-fit .result) (c .if2 .left)
 
-spans-hold : (c : tie.Else3) → spans-fit (trimmed-component (c .before .before .before .before .before .before .before .before .args .c)) ≡ true
+spans-hold : (c : tie.Else3) → spans-fit (trimmed-component (start-of (second-of c .before) .args .c)) ≡ true
 spans-hold c =
     let asked = c .before .spans-fit in
     sym (asked .ensures) ∙ not-false (asked .result) (c .if3 .left)
 
 -- where all three hold, the definition is the last two tests
 sources-left : (c : tie.Else3) →
-    let args = c .before .before .before .before .before .before .before .before .args in
+    let args = start-of (second-of c .before) .args in
     component-fits (args .parts) (trimmed-component (args .c)) ≡
     (source-fits (args .parts) (ports (args .c .kind)) 0 (args .c .port0) && source-fits (args .parts) (ports (args .c .kind)) 1 (args .c .port1))
 unfolding component-fits trimmed-component
 sources-left c =
-    let second = c .before .before in
-    let first = second .before .before .before .before in
-    simp (preference-holds first, operands-hold second, spans-hold c)
+    let second = second-of c in
+    simp (preference-holds (first-of (second .before)), operands-hold second, spans-hold c)
 
 preference-known-requires : tie.Need-preference-known-requires
 preference-known-requires c κs = search needs
@@ -67,8 +76,7 @@ returns-2 : tie.Need-returns-2
 unfolding component-fits trimmed-component
 returns-2 c =
     let asked = c .before in
-    let first = asked .before .before .before in
-    simp (preference-holds first, operands asked, not-true (asked .operands-fit .result) (c .if2 .taken))
+    simp (preference-holds (first-of asked), operands asked, not-true (asked .operands-fit .result) (c .if2 .taken))
 
 spans-fit-requires : tie.Need-spans-fit-requires
 spans-fit-requires c κs = search needs
@@ -78,9 +86,8 @@ unfolding component-fits trimmed-component
 returns-3 c =
     let asked = c .before in
     let second = asked .before in
-    let first = second .before .before .before .before in
     simp (
-      preference-holds first,
+      preference-holds (first-of (second .before)),
       operands-hold second,
       sym (asked .spans-fit .ensures),
       not-true (asked .spans-fit .result) (c .if3 .taken),

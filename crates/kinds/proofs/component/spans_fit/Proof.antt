@@ -43,12 +43,13 @@ spans-rise-requires c κs = search needs
 returns-2 : tie.Need-returns-2
 unfolding spans-fit trimmed-component
 returns-2 c =
-    let room = c .before .before .before .before .span-room in
-    let start = c .before .before .before .before .before in
+    let asked = c .before .before .before .before in
+    let room = asked .span-room in
+    let start = asked .before in
     let part = start .args .c in
     let count = part .«span_count» in
     let eight = simp length-map at (start .good .0) in
-    let places : count ≤ length (part .spans) = omega (arith, room-within (is-drive (part .kind))) in
+    let places : count ≤ length (part .spans) = omega (arith, eight, room-within (is-drive (part .kind)), room .ensures, c .before .before .if1 .left) in
     simp (
       length-take-le count (part .spans) places,
       eq-eqb count count refl,

@@ -1,6 +1,6 @@
 -- `operands_fit` asks of a, then b, then p what the definition asks; where one does not fit, the definition is false whatever the others say.
-use mathlib.Core.Path.{_≡_, sym}
-use mathlib.Core.Bool.{Bool, cond}
+use mathlib.Core.Path.{_≡_, _∙_, sym}
+use mathlib.Core.Bool.{Bool, true, cond}
 use lib.IntN.{ℤ}
 use mir.Syntax.{w64}
 use mir.Val.{SFits, ofZ, toZ}
@@ -17,7 +17,7 @@ of-bits : (names : Bool) (v : ℤ) {named r : Bool} → SFits w64 v → named �
     r ≡ cond named (is-value (toZ w64 (ofZ w64 v))) (is-zero (toZ w64 (ofZ w64 v))) → cond names (is-value v) (is-zero v) ≡ r
 of-bits names v fits n e = sym (rw (toZ-ofZ w64 v fits, n) at e)
 
--- of a, and of b
+-- of a; and what that is where the test of a holds
 a-fits : (c : tie.After-operand-fits) →
     let args = c .before .before .args in
     cond (names-a (args .k)) (is-value (args .a)) (is-zero (args .a)) ≡ c .operand-fits .result
@@ -25,11 +25,21 @@ a-fits c =
     let start = c .before .before in
     of-bits (names-a (start .args .k)) (start .args .a) (start .fits .a) (c .before .names-a .ensures) (c .operand-fits .ensures)
 
+a-holds : (c : tie.Else1) →
+    let args = c .before .before .before .args in
+    cond (names-a (args .k)) (is-value (args .a)) (is-zero (args .a)) ≡ true
+a-holds c = a-fits (c .before) ∙ not-false (c .before .operand-fits .result) (c .if1 .left)
+
+-- the test of a where it holds, seen from that of b
+abbrev first-of : tie.After-operand-fits2 → tie.Else1
+first-of c = c .before .before
+
+-- of b
 b-fits : (c : tie.After-operand-fits2) →
-    let args = c .before .before .before .before .before .args in
+    let args = first-of c .before .before .before .args in
     cond (names-b (args .k)) (is-value (args .b)) (is-zero (args .b)) ≡ c .operand-fits2 .result
 b-fits c =
-    let start = c .before .before .before .before .before in
+    let start = first-of c .before .before .before in
     of-bits (names-b (start .args .k)) (start .args .b) (start .fits .b) (c .before .names-b .ensures) (c .operand-fits2 .ensures)
 
 names-a-requires : tie.Need-names-a-requires
@@ -52,13 +62,7 @@ returns-2 : tie.Need-returns-2
 unfolding operands-fit
 returns-2 c =
     let second = c .before in
-    let first = second .before .before .before in
-    rw (
-      a-fits first,
-      not-false (first .operand-fits .result) (second .before .before .if1 .left),
-      b-fits second,
-      not-true (second .operand-fits2 .result) (c .if2 .taken),
-    )
+    rw (a-holds (first-of second), b-fits second, not-true (second .operand-fits2 .result) (c .if2 .taken))
 
 names-p-requires : tie.Need-names-p-requires
 names-p-requires c κs = search needs
@@ -70,10 +74,8 @@ returns-3 : tie.Need-returns-3
 unfolding operands-fit
 returns-3 c =
     let second = c .before .before .before in
-    let first = second .before .before .before in
     rw (
-      a-fits first,
-      not-false (first .operand-fits .result) (second .before .before .if1 .left),
+      a-holds (first-of second),
       b-fits second,
       not-false (second .operand-fits2 .result) (c .before .before .if2 .left),
       ← c .before .names-p .ensures,

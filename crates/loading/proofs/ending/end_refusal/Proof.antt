@@ -25,15 +25,16 @@ first-of-requires-2 c κs = search needs
 returns : tie.Need-returns
 unfolding end-number
 returns c =
-    let args = c .before .before .before .before .before .args in
+    let period = c .before .before .before in
+    let args = period .before .before .args in
     let fit = args .fit in
     let closed = ltb (args .placed) (args .count) in
     rw (
       c .first-of2 .ensures,
       c .before .first-of .ensures,
       c .before .before .refusal3 .ensures,
-      c .before .before .before .refusal2 .ensures,
-      c .before .before .before .before .refusal .ensures,
+      period .refusal2 .ensures,
+      period .before .refusal .ensures,
       first-refusal (not fit) 9 (cond closed 11 0),
       cond-not fit 10 (cond closed 11 0),
       first-refusal (eqb (args .count) 0) 8 (cond fit (cond closed 11 0) 10),

@@ -1,23 +1,14 @@
 -- `barred_number` is the definition: the first of its three refusals.
-use Prim.Native.Nat.{ℕ, _+_}
-use mathlib.Core.Path.{_≡_, refl}
-use mathlib.Core.Bool.{Bool, true, false, cond, not, _&&_}
-use lib.Dec.{eqb, leb}
+use Prim.Native.Nat.{_+_}
+use mathlib.Core.Bool.{cond, not, _&&_}
+use lib.Dec.{leb}
 use borrow.Author.Needs.{needs}
 use Rattle.machine.specs.Time.{last-tick}
 use Rattle.machine.specs.Advance.{longest-wanted}
+use Rattle.operands.specs.Tests.{cond-not, first-refusal}
 use Rattle.master.specs.Barring.{barred-by}
 use Rattle.master.proofs.barring.barred_number.Statement.{statement}
 use Rattle.master.proofs.barring.barred_number.Tie as tie
-
--- the first of the three refusals is the definition's
-in-order : (is-sound wanted timed : Bool) →
-    let first = cond {A = ℕ} (eqb (cond (not is-sound) 24 0) 0) (cond (not wanted) 20 0) (cond (not is-sound) 24 0) in
-    _≡_ {A = ℕ} (cond (eqb first 0) (cond (not timed) 23 0) first) (cond is-sound (cond wanted (cond timed 0 23) 20) 24)
-in-order true true true = refl
-in-order true true false = refl
-in-order true false timed = refl
-in-order false wanted timed = refl
 
 refusal-requires : tie.Need-refusal-requires
 refusal-requires c κs = search needs
@@ -43,19 +34,25 @@ first-of-requires-2 c κs = search needs
 returns : tie.Need-returns
 unfolding barred-by
 returns c =
-    let tested = c .before .before .before .before in
-    let start = tested .before .before .before in
-    let t = start .args .t in
-    let w = start .args .w in
+    let range = c .before .before .before .before in
+    let unsound = range .before .before in
+    let args = unsound .before .args in
+    let wanted = leb 1 (args .w) && leb (args .w) longest-wanted in
+    let timed = leb (args .t + args .w) last-tick in
     rw (
       c .first-of2 .ensures,
       c .before .first-of .ensures,
       c .before .before .refusal3 .ensures,
       c .before .before .before .stays-in-time .ensures,
-      tested .refusal2 .ensures,
-      tested .before .may-be-wanted .ensures,
-      tested .before .before .refusal .ensures,
-    ) (in-order (start .args .sound) (leb 1 w && leb w longest-wanted) (leb (t + w) last-tick))
+      range .refusal2 .ensures,
+      range .before .may-be-wanted .ensures,
+      unsound .refusal .ensures,
+      first-refusal (not wanted) 19 (cond (not timed) 23 0),
+      cond-not timed 23 0,
+      cond-not wanted 20 (cond timed 0 23),
+      first-refusal (not (args .sound)) 23 (cond wanted (cond timed 0 23) 20),
+      cond-not (args .sound) 24 (cond wanted (cond timed 0 23) 20),
+    )
 
 pub barred-number-spec : {M : Type 1} → statement M
 barred-number-spec =

@@ -1,21 +1,24 @@
 -- `part_operands` reads five operands in a row. Each stands where those before it end, by their widths, and the bytes up to there are in the stream. Where one
 -- is cut, the stream ends before the last.
-use Prim.Native.Nat.{ℕ, _+_}
+use Prim.Native.Nat.{ℕ}
 use native.Mathlib.Omega.{arith}
-use mathlib.Core.Path.{_≡_, _∙_, ap}
+use mathlib.Core.Path.{_≡_}
 use mathlib.Core.List.{List}
 use borrow.Author.Needs.{needs}
 use Rattle.machine.specs.Load.{byte-at, word-at}
-use Rattle.operands.specs.Operands.{Behind}
+use Rattle.operands.specs.Operands.{Behind, ReadAt, read-behind}
 use Rattle.operands.proofs.operands.part_operands.Statement.{statement}
 use Rattle.operands.proofs.operands.part_operands.Tie as tie
 
 -- the stream, and where the operands begin
+abbrev start-of : tie.After-kind → tie.Start
+start-of c = c .before .before .before .before
+
 abbrev bytes : tie.After-kind → List ℕ
-bytes c = c .before .before .before .before .args .s .now
+bytes c = start-of c .args .s .now
 
 abbrev from : tie.After-kind → ℕ
-from c = c .before .before .before .before .args .c .at
+from c = start-of c .args .c .at
 
 -- the place of each operand, from that of the one behind it
 abbrev at-kind : tie.After-preference → tie.After-kind
@@ -37,35 +40,23 @@ kind-read c = rw (c .kind .given .1) at (c .before .before .byte .ensures)
 
 preference-read : (c : tie.After-preference) →
     let start = at-kind c in
-    Behind (bytes start) (from start) 2 (c .preference .given .0 .1 .0) × (c .preference .given .0 .0 ≡ byte-at (bytes start) (from start + 1))
-preference-read c =
-    let before = kind-read (at-kind c) .0 in
-    let read = rw (c .preference .given .1) at (c .before .before .byte2 .ensures) in
-    (record { whole = omega arith; next = omega arith }, read .1 ∙ ap (byte-at _) (omega arith))
+    ReadAt byte-at (bytes start) (from start) 1 1 (c .preference .given .0 .0) (c .preference .given .0 .1 .0)
+preference-read c = read-behind byte-at _ _ 1 1 _ _ _ (kind-read (at-kind c) .0) (rw (c .preference .given .1) at (c .before .before .byte2 .ensures))
 
 a-read : (c : tie.After-a) →
     let start = at-kind (at-preference c) in
-    Behind (bytes start) (from start) 6 (c .a .given .0 .1 .0) × (c .a .given .0 .0 ≡ word-at (bytes start) (from start + 2))
-a-read c =
-    let before = preference-read (at-preference c) .0 in
-    let read = rw (c .a .given .1) at (c .before .before .word .ensures) in
-    (record { whole = omega arith; next = omega arith }, read .1 ∙ ap (word-at _) (omega arith))
+    ReadAt word-at (bytes start) (from start) 2 4 (c .a .given .0 .0) (c .a .given .0 .1 .0)
+a-read c = read-behind word-at _ _ 2 4 _ _ _ (preference-read (at-preference c) .0) (rw (c .a .given .1) at (c .before .before .word .ensures))
 
 b-read : (c : tie.After-b) →
     let start = at-kind (at-preference (at-a c)) in
-    Behind (bytes start) (from start) 10 (c .b .given .0 .1 .0) × (c .b .given .0 .0 ≡ word-at (bytes start) (from start + 6))
-b-read c =
-    let before = a-read (at-a c) .0 in
-    let read = rw (c .b .given .1) at (c .before .before .word2 .ensures) in
-    (record { whole = omega arith; next = omega arith }, read .1 ∙ ap (word-at _) (omega arith))
+    ReadAt word-at (bytes start) (from start) 6 4 (c .b .given .0 .0) (c .b .given .0 .1 .0)
+b-read c = read-behind word-at _ _ 6 4 _ _ _ (a-read (at-a c) .0) (rw (c .b .given .1) at (c .before .before .word2 .ensures))
 
 p-read : (c : tie.After-p) →
     let start = at-kind (at-preference (at-a (at-b c))) in
-    Behind (bytes start) (from start) 14 (c .p .given .0 .1 .0) × (c .p .given .0 .0 ≡ word-at (bytes start) (from start + 10))
-p-read c =
-    let before = b-read (at-b c) .0 in
-    let read = rw (c .p .given .1) at (c .before .before .word3 .ensures) in
-    (record { whole = omega arith; next = omega arith }, read .1 ∙ ap (word-at _) (omega arith))
+    ReadAt word-at (bytes start) (from start) 10 4 (c .p .given .0 .0) (c .p .given .0 .1 .0)
+p-read c = read-behind word-at _ _ 10 4 _ _ _ (b-read (at-b c) .0) (rw (c .p .given .1) at (c .before .before .word3 .ensures))
 
 byte-requires : tie.Need-byte-requires
 byte-requires c κs = search needs

@@ -25,15 +25,16 @@ first-of-requires c κs = search needs
 returns : tie.Need-returns
 unfolding command-number
 returns c =
-    let args = c .before .before .before .before .before .args in
+    let unknown = c .before .before .before in
+    let args = unknown .before .before .args in
     let known = known-command (args .b) in
     let here = placed (args .begun) (args .spannable) (args .b) in
     rw (
       c .first-of .ensures,
       c .before .refusal2 .ensures,
       c .before .before .in-place .ensures,
-      c .before .before .before .refusal .ensures,
-      c .before .before .before .before .known-command .ensures,
+      unknown .refusal .ensures,
+      unknown .before .known-command .ensures,
       first-refusal (not known) 1 (cond (not here) 3 0),
       cond-not known 2 (cond (not here) 3 0),
       cond-not here 3 0,

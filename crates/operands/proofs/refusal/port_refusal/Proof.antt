@@ -30,15 +30,17 @@ first-of-requires c κs = search needs
 returns : tie.Need-returns
 unfolding port-number
 returns c =
-    let args = c .before .before .before .before .before .before .args in
+    let unknown = c .before .before .before in
+    let source = unknown .before .before in
+    let args = source .before .args in
     let taken = wired (cond (eqb (args .port) 0) (args .port0) (args .port1)) in
     rw (
       c .first-of .ensures,
       c .before .refusal2 .ensures,
       c .before .before .is-wired .ensures,
-      c .before .before .before .refusal .ensures,
-      c .before .before .before .before .ports-of .ensures,
-      c .before .before .before .before .before .source-of .ensures,
+      unknown .refusal .ensures,
+      unknown .before .ports-of .ensures,
+      source .source-of .ensures,
       first-refusal (leb (ports (args .kind)) (args .port)) 6 (cond taken 8 0),
       above (args .port) (ports (args .kind)),
       cond-not (leb (ports (args .kind)) (args .port)) (cond taken 8 0) 7,

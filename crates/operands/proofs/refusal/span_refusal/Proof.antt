@@ -29,16 +29,18 @@ first-of-requires-2 c κs = search needs
 returns : tie.Need-returns
 unfolding span-number
 returns c =
-    let args = c .before .before .before .before .before .before .args in
+    let range = c .before .before .before in
+    let places = range .before .before in
+    let args = places .before .args in
     let positive = is-positive (args .v) in
     let low = leb (args .v) (args .last) in
     rw (
       c .first-of2 .ensures,
       c .before .first-of .ensures,
       c .before .before .refusal3 .ensures,
-      c .before .before .before .refusal2 .ensures,
-      c .before .before .before .before .is-positive .ensures,
-      c .before .before .before .before .before .refusal .ensures,
+      range .refusal2 .ensures,
+      range .before .is-positive .ensures,
+      places .refusal .ensures,
       first-refusal (not positive) 4 (cond low 12 0),
       cond-not positive 5 (cond low 12 0),
       first-refusal (leb 8 (args .count)) 5 (cond positive (cond low 12 0) 5),

@@ -12,7 +12,9 @@ local-requires : tie.Need-local-requires
 local-requires c κs = search needs
 
 sub-result : tie.Need-sub-result
-sub-result c = rw (c .before .before .local .ensures) (c .before .before .before .before .before .pre .local)
+sub-result c =
+    let led = c .before .before in
+    rw (led .local .ensures) (led .before .before .before .pre .local)
 
 returns : tie.Need-returns
 unfolding gain-of gained

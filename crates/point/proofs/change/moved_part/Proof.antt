@@ -34,7 +34,8 @@ held-after-requires c κs =
 
 add-count : tie.Need-add-count
 add-count c =
-    let gain = c .before .before .before .before .before in
+    let held = c .before in
+    let gain = held .before .before .before .before in
     let start = gain .before in
     count-fits (start .args .t .0) (start .args .h) _ (start .args .p) (start .pre .1 .0) (gain .gain-of .ensures)
 

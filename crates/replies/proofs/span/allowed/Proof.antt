@@ -75,8 +75,9 @@ loop-less c = omega arith
 loop-again : tie.Need-loop-again Inv-loop μ-loop
 unfolding member
 loop-again c =
-    let loop = c .before .before .before .loop in
-    let args = c .before .before .before .before .before .args in
+    let turn = c .before .before in
+    let loop = turn .before .loop in
+    let args = turn .before .before .before .args in
     let inside : loop .i < length (args .t1) = omega arith in (
       omega arith,
       any-further (eqb (args .d)) (args .t1) (loop .i) 0 inside (loop .inv .1) (sym (c .before .is-span .ensures) ∙ c .if2 .left),

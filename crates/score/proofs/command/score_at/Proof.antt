@@ -2,7 +2,7 @@
 -- is read or cut. A law for each of the definition's four answers inside the stream, by the byte b that was read, then the needs.
 use Prim.Native.Nat.{ℕ, _+_, _≤_, _<_}
 use native.Mathlib.Omega.{arith}
-use mathlib.Core.Path.{_≡_, ap, _∙_}
+use mathlib.Core.Path.{_≡_}
 use mathlib.Core.Bool.{false}
 use mathlib.Core.List.{List}
 use lib.ListN.{length}
@@ -11,14 +11,20 @@ use borrow.Author.Tests.{lt-ltb, le-ltb, le-leb, lt-leb, ne-eqb}
 use Rattle.machine.specs.declared.model.Score.the-variants.{Wanted, Refused}
 use Rattle.machine.specs.Load.{known-command, command-width, byte-at, word-at}
 use Rattle.machine.specs.Score.{score-command, score-at}
+use Rattle.operands.specs.declared.cursor.Cursor.{Cursor}
+use Rattle.operands.specs.Operands.{Behind, ReadAt, read-behind}
 use Rattle.score.proofs.command.score_at.Statement.{statement}
 use Rattle.score.proofs.command.score_at.Tie as tie
 
-module _ (bs : List ℕ) (at b : ℕ) (inside : at < length bs) (read : b ≡ byte-at bs at) where
+-- where the byte b is read at a position, the stream goes on there
+module _ (bs : List ℕ) (at b : ℕ) (behind : Cursor) (read : Behind bs at 1 behind × (b ≡ byte-at bs at)) where
+  inside : at < length bs
+  inside = omega (arith, read .0 .whole)
+
   -- a byte that is no command
   unknown : known-command b ≡ false → Refused 2 at ≡ score-at bs at
   unfolding score-at score-command
-  unknown h = rw (lt-ltb at (length bs) inside, ← read, h)
+  unknown h = rw (lt-ltb at (length bs) inside, ← read .1, h)
 
   -- a command that is not a wanted step
   out-of-place : 1 ≤ b → b < 6 → Refused 3 at ≡ score-at bs at
@@ -26,17 +32,26 @@ module _ (bs : List ℕ) (at b : ℕ) (inside : at < length bs) (read : b ≡ by
   out-of-place low high =
       let below : b ≤ 6 = omega arith in
       let other : b ≡ 6 → ⊥ = λ e. omega arith in
-      rw (lt-ltb at (length bs) inside, ← read, le-leb 1 b low, le-leb b 6 below, ne-eqb b 6 other)
+      rw (lt-ltb at (length bs) inside, ← read .1, le-leb 1 b low, le-leb b 6 below, ne-eqb b 6 other)
 
   -- a wanted step that the stream's end cuts, and one that is whole
   cut : b ≡ 6 → length bs < at + 5 → Refused 1 at ≡ score-at bs at
   unfolding score-at score-command known-command command-width
-  cut six short = rw (lt-ltb at (length bs) inside, ← read, six, lt-leb (at + 5) (length bs) short)
+  cut six short = rw (lt-ltb at (length bs) inside, ← read .1, six, lt-leb (at + 5) (length bs) short)
 
-  whole : (v next : ℕ) → b ≡ 6 → at + 5 ≤ length bs → v ≡ word-at bs (at + 1) → next ≡ at + 5 → Wanted v next ≡ score-at bs at
+  whole : (v : ℕ) (next : Cursor) → b ≡ 6 → ReadAt word-at bs at 1 4 v next → Wanted v (next .at) ≡ score-at bs at
   unfolding score-at score-command known-command command-width
-  whole v next six long operand there =
-      rw (lt-ltb at (length bs) inside, ← read, six, le-leb (at + 5) (length bs) long, operand, there)
+  whole v next six word =
+      rw (lt-ltb at (length bs) inside, ← read .1, six, le-leb (at + 5) (length bs) (word .0 .whole), word .1, word .0 .next)
+
+-- the start, and what `byte` promises, seen from where the byte is found
+abbrev start-of : tie.After-b → tie.Start
+start-of found = found .before .before .before .before
+
+byte-read : (found : tie.After-b) →
+    let args = start-of found .args in
+    Behind (args .s .now) (args .at) 1 (found .b .given .0 .1 .0) × (found .b .given .0 .0 ≡ byte-at (args .s .now) (args .at))
+byte-read found = rw (found .b .given .1) at (found .before .before .byte .ensures)
 
 byte-requires : tie.Need-byte-requires
 byte-requires c κs = search needs
@@ -51,7 +66,8 @@ returns : tie.Need-returns
 unfolding score-at
 returns c =
     let none = rw (c .enum-told .given .1) at (c .before .before .byte .ensures) in
-    let past : length (c .before .before .before .before .args .s .now) ≤ c .before .before .before .before .args .at = omega arith in
+    let args = c .before .before .before .before .args in
+    let past : length (args .s .now) ≤ args .at = omega arith in
     rw (le-ltb _ _ past)
 
 word-requires : tie.Need-word-requires
@@ -67,9 +83,9 @@ returns-2 : tie.Need-returns-2
 returns-2 c =
     let command = c .before .before .before in
     let found = command .before .before in
-    let byte = rw (found .b .given .1) at (found .before .before .byte .ensures) in
+    let behind = byte-read found .0 in
     let short = rw (c .enum-told2 .given .1) at (c .before .before .word .ensures) in
-    cut _ _ _ (omega arith) (byte .1) (command .match2 .keys1) (omega arith)
+    cut _ _ _ _ (byte-read found) (command .match2 .keys1) (omega arith)
 
 cast-t11 : tie.Need-cast-t11
 cast-t11 c = search needs
@@ -79,32 +95,26 @@ returns-3 c =
     let operand = c .before in
     let command = operand .before .before .before in
     let found = command .before .before in
-    let args = found .before .before .before .before .args in
-    let byte = rw (found .b .given .1) at (found .before .before .byte .ensures) in
     let word = rw (operand .wanted .given .1) at (operand .before .before .word .ensures) in
-    whole (args .s .now) (args .at) _ (omega arith) (byte .1) _ _ (command .match2 .keys1) (omega arith)
-    (word .1 ∙ ap (word-at (args .s .now)) (omega arith)) (omega arith)
+    whole _ _ _ _ (byte-read found) _ _ (command .match2 .keys1) (read-behind word-at _ _ 1 4 _ _ _ (byte-read found .0) word)
 
 returns-4 : tie.Need-returns-4
 returns-4 c =
     let found = c .before .before .before .before in
-    let byte = rw (found .b .given .1) at (found .before .before .byte .ensures) in
-    out-of-place _ _ _ (omega arith) (byte .1) (c .before .if1 .left) (c .if2 .taken)
+    out-of-place _ _ _ _ (byte-read found) (c .before .if1 .left) (c .if2 .taken)
 
 returns-5 : tie.Need-returns-5
 unfolding known-command
 returns-5 c =
     let found = c .before .before .before in
-    let byte = rw (found .b .given .1) at (found .before .before .byte .ensures) in
-    unknown _ _ _ (omega arith) (byte .1) (simp (lt-leb _ _ (c .if1 .taken)))
+    unknown _ _ _ _ (byte-read found) (simp (lt-leb _ _ (c .if1 .taken)))
 
 returns-6 : tie.Need-returns-6
 unfolding known-command
 returns-6 c =
     let found = c .before .before .before .before in
-    let byte = rw (found .b .given .1) at (found .before .before .byte .ensures) in
     let above : 6 < found .b .given .0 .0 = omega (arith, c .before .before .match2 .rest .1) in
-    unknown _ _ _ (omega arith) (byte .1) (simp (le-leb _ _ (c .before .if1 .left), lt-leb _ _ above))
+    unknown _ _ _ _ (byte-read found) (simp (le-leb _ _ (c .before .if1 .left), lt-leb _ _ above))
 
 pub score-at-spec : {M : Type 1} → statement M
 score-at-spec =

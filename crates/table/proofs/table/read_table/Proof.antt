@@ -24,6 +24,16 @@ Inv-loop s at₀ progress₀ rows₀ at progress rows = (progress .count ≤ 32)
 abbrev μ-loop : tie.MeasureT-loop
 μ-loop s at₀ progress₀ rows₀ at progress rows = length s - at
 
+-- the turn, and the test that it is not refused, seen from the test that it is End's and from the end of a loop's turn
+abbrev turn-of : tie.After-struct-known2 Inv-loop μ-loop → tie.After-turn-at Inv-loop μ-loop
+turn-of known = known .before .before .before
+
+abbrev none-of : (known : tie.After-struct-known2 Inv-loop μ-loop) → turn-of known .turn-at .result .number ≡ 0
+none-of known = known .before .if1 .left
+
+abbrev test-of : tie.After-then Inv-loop μ-loop → tie.Else2 Inv-loop μ-loop
+test-of c = c .before .before
+
 -- what the turn leads to that was found behind the progress and its rows
 module _ (c : tie.After-turn-at Inv-loop μ-loop) where
   abbrev bytes : List ℕ
@@ -85,36 +95,36 @@ returns c =
     )
 
 ended-read-requires : tie.Need-ended-read-requires Inv-loop μ-loop
-ended-read-requires c κs = let turn = c .before .before .before .before in turn .before .loop .inv .0
+ended-read-requires c κs = turn-of (c .before) .before .loop .inv .0
 
 returns-2 : tie.Need-returns-2 Inv-loop μ-loop
 returns-2 c =
-    let turn = c .before .before .before .before .before in
-    let none = c .before .before .before .if1 .left in
+    let known = c .before .before in
+    let turn = turn-of known in
     let read = c .ended-read .ensures in (
-      ended-loads turn none (c .before .if2 .taken) ∙ sym (ended-concluded (at turn) _ (c .ended-read .result) read),
+      ended-loads turn (none-of known) (c .before .if2 .taken) ∙ sym (ended-concluded (at turn) _ (c .ended-read .result) read),
       λ zero. kept-ended (at turn) (reading-of (progress turn) (rows turn)) (c .ended-read .result) (turn .before .loop .inv .1 .kept) read,
     )
 
 rows-behind-requires : tie.Need-rows-behind-requires Inv-loop μ-loop
 rows-behind-requires c κs =
-    let turn = c .before .before .before .before in
-    (turn .before .loop .inv .0, turn .turn-at .ensures .room (c .before .before .if1 .left))
+    let turn = turn-of (c .before) in
+    (turn .before .loop .inv .0, turn .turn-at .ensures .room (none-of (c .before)))
 
 loop-less : tie.Need-loop-less Inv-loop μ-loop
 loop-less c =
-    let turn = c .before .before .before .before .before .before in
-    let none = c .before .before .before .before .if1 .left in
-    let here = turn .turn-at .ensures .here none in
-    let further = goes-further turn none (c .before .before .if2 .left) .1 in
+    let other = test-of c in
+    let turn = turn-of (other .before) in
+    let here = turn .turn-at .ensures .here (none-of (other .before)) in
+    let further = goes-further turn (none-of (other .before)) (other .if2 .left) .1 in
     omega arith
 
 loop-again : tie.Need-loop-again Inv-loop μ-loop
 loop-again c =
-    let turn = c .before .before .before .before .before .before in
-    let none = c .before .before .before .before .if1 .left in (
+    let other = test-of c in
+    let turn = turn-of (other .before) in (
       turn .turn-at .ensures .few,
-      rw (c .before .rows-behind .ensures) (goes-further turn none (c .before .before .if2 .left) .0),
+      rw (c .before .rows-behind .ensures) (goes-further turn (none-of (other .before)) (other .if2 .left) .0),
     )
 
 pub read-table-spec : {M : Type 1} → statement M

@@ -14,26 +14,26 @@ use borrow.Author.Needs.{needs}
 use Rattle.table.proofs.turn.command.Statement.{statement}
 use Rattle.table.proofs.turn.command.Tie as tie
 
--- a step that is the definition's command of its width is the definition's by the command's byte: a Span, a Begin, a Part and a Wire
 module _ (bs : List ℕ) (at : ℕ) (progress : Progress) (rows : List (List ℕ)) (b v : ℕ) (step : Step) where
+  -- the step is the definition's by the command's byte
+  abbrev Read-as : Type 0
+  Read-as = step-of (rows-behind b progress rows v) at step ≡ sized-command bs at (reading-of progress rows) b
+
+  -- which it is where it is the definition's command of its width: a Span, a Begin, a Part and a Wire
   span-as : b ≡ 3 →
-      step-of (row-with rows (last-place progress) (span-count progress) v) at step ≡ uncut bs at 5 (span-command bs at (reading-of progress rows)) →
-      step-of (rows-behind b progress rows v) at step ≡ sized-command bs at (reading-of progress rows) b
+      step-of (row-with rows (last-place progress) (span-count progress) v) at step ≡ uncut bs at 5 (span-command bs at (reading-of progress rows)) → Read-as
   unfolding rows-behind sized-command command-width whole-command uncut
   span-as e h = rw e h
 
-  begin-as : b ≡ 1 → step-of rows at step ≡ uncut bs at 2 (begin-command bs at) →
-      step-of (rows-behind b progress rows v) at step ≡ sized-command bs at (reading-of progress rows) b
+  begin-as : b ≡ 1 → step-of rows at step ≡ uncut bs at 2 (begin-command bs at) → Read-as
   unfolding rows-behind sized-command command-width whole-command uncut
   begin-as e h = rw e h
 
-  part-as : b ≡ 2 → step-of rows at step ≡ uncut bs at 15 (part-command bs at (reading-of progress rows)) →
-      step-of (rows-behind b progress rows v) at step ≡ sized-command bs at (reading-of progress rows) b
+  part-as : b ≡ 2 → step-of rows at step ≡ uncut bs at 15 (part-command bs at (reading-of progress rows)) → Read-as
   unfolding rows-behind sized-command command-width whole-command uncut
   part-as e h = rw e h
 
-  wire-as : b ≡ 4 → step-of rows at step ≡ uncut bs at 4 (wire-command bs at (reading-of progress rows)) →
-      step-of (rows-behind b progress rows v) at step ≡ sized-command bs at (reading-of progress rows) b
+  wire-as : b ≡ 4 → step-of rows at step ≡ uncut bs at 4 (wire-command bs at (reading-of progress rows)) → Read-as
   unfolding rows-behind sized-command command-width whole-command uncut
   wire-as e h = rw e h
 

@@ -49,14 +49,15 @@ command-requires c κs =
 
 returns-2 : tie.Need-returns-2
 returns-2 c =
-    let start = c .before .before .before .before .before .before in
-    let found = c .before .before .before .command in
-    record { is = refused-as _ _ _ _ _ _ _ _ _ (found .ensures .0) (c .if2 .taken); byte = refl; few = start .pre .1 }
+    let read = c .before .before .before in
+    let start = read .before .before .before in
+    record { is = refused-as _ _ _ _ _ _ _ _ _ (read .command .ensures .0) (c .if2 .taken); byte = refl; few = start .pre .1 }
 
 returns-3 : tie.Need-returns-3
 returns-3 c =
-    let found = c .before .before .before .before .command in
-    let other = c .before .before .before .before .before .if1 .left in
+    let read = c .before .before .before .before in
+    let found = read .command in
+    let other = read .before .if1 .left in
     record { is = onward-as _ _ _ _ _ _ _ (found .ensures .0) (c .before .if2 .left) other; byte = refl; few = found .ensures .1 }
 
 pub placed-spec : {M : Type 1} → statement M

@@ -11,6 +11,13 @@ use Rattle.table.specs.Judged.{command-byte, judged-placed, judged-refus
 use Rattle.table.proofs.turn.turn_at.Statement.{statement}
 use Rattle.table.proofs.turn.turn_at.Tie as tie
 
+-- the start, and the test against the stream's end, seen from the refusal of the command's byte
+abbrev start-of : tie.After-command-refusal → tie.Start
+start-of refuses = refuses .before .before .before .before
+
+abbrev test-of : tie.After-command-refusal → tie.Else1
+test-of refuses = refuses .before .before
+
 -- there are places for as many parts as the progress counts
 few : (c : tie.Start) → c .args .progress .count ≤ length (c .args .progress .parts)
 few c = let many : length (c .args .progress .parts) ≡ 32 = omega (arith, simp length-map at (c .good .1 .1 .0)) in omega arith
@@ -35,13 +42,14 @@ command-refusal-requires c κs = search needs
 returns-2 : tie.Need-returns-2
 unfolding byte-at
 returns-2 c =
-    let start = c .before .before .before .before .before in
+    let refuses = c .before in
+    let start = start-of refuses in
     let args = start .args in
-    let here = c .before .before .before .if1 .left in
+    let here = test-of refuses .if1 .left in
     let some = c .if2 .taken in
     record {
       is =
-          judged-refused _ (args .at) (args .progress) (args .rows) _ _ here refl (c .before .command-refusal .ensures) some ∙
+          judged-refused _ (args .at) (args .progress) (args .rows) _ _ here refl (refuses .command-refusal .ensures) some ∙
           sym (turn-refused (args .at) (args .progress) (args .rows) _ some);
       here = λ none. here;
       room = λ none byte. absurd (some none);
@@ -50,19 +58,21 @@ returns-2 c =
 
 placed-requires : tie.Need-placed-requires
 placed-requires c κs =
-    let start = c .before .before .before .before .before in
+    let refuses = c .before in
+    let start = start-of refuses in
     let args = start .args in
-    let none = sym (c .before .command-refusal .ensures) ∙ c .if2 .left in
+    let none = sym (refuses .command-refusal .ensures) ∙ c .if2 .left in
     let (some, most) = command-byte (args .progress .begun) (args .progress .spannable) _ none in
-    (c .before .before .before .if1 .left, start .pre .0, some, most, span-asked (args .progress) (args .rows) _ (few start) (start .pre .1) none)
+    (test-of refuses .if1 .left, start .pre .0, some, most, span-asked (args .progress) (args .rows) _ (few start) (start .pre .1) none)
 
 returns-3 : tie.Need-returns-3
 unfolding byte-at
 returns-3 c =
-    let start = c .before .before .before .before .before .before in
+    let refuses = c .before .before in
+    let start = start-of refuses in
     let args = start .args in
-    let here = c .before .before .before .before .if1 .left in
-    let none = sym (c .before .before .command-refusal .ensures) ∙ c .before .if2 .left in
+    let here = test-of refuses .if1 .left in
+    let none = sym (refuses .command-refusal .ensures) ∙ c .before .if2 .left in
     let found = c .placed .ensures in
     record {
       is = judged-placed _ (args .at) (args .progress) (args .rows) _ here refl none ∙ found .is;
