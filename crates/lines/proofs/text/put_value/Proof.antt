@@ -38,11 +38,12 @@ same-length c = search needs
 returns : tie.Need-returns
 returns c =
     let call = c .before .before in
-    let hyphened = call .before .before .before .before .before in
+    let measured = call .before in
+    let hyphened = measured .before .before .before .before in
     let test = hyphened .before .before in
     let start = test .before .before in
     let back = toZ-ofZ w64 (start .args .v) (start .fits .v) in
-    rw (of-negative (start .args .v) (rw back at (test .if1 .taken)), ← (rw back at (call .before .magnitude .ensures)))
+    rw (of-negative (start .args .v) (rw back at (test .if1 .taken)), ← (rw back at (measured .magnitude .ensures)))
     (put-then (hyphened .put-byte .ensures) (call .put-decimal .ensures))
 
 magnitude-requires-2 : tie.Need-magnitude-requires-2
