@@ -20,12 +20,26 @@ pub struct Accepted {
 
 pub type Loaded = Result<Accepted, Refusal>;
 
+// The bytes of the commands.
 const BEGIN: u8 = 1;
 const PART: u8 = 2;
 const SPAN: u8 = 3;
 const WIRE: u8 = 4;
 const END: u8 = 5;
 const WANTED: u8 = 6;
+
+// The numbers of the refusals.
+const CUT: u8 = 1;
+const UNKNOWN_COMMAND: u8 = 2;
+const OUT_OF_PLACE: u8 = 3;
+const OUT_OF_RANGE: u8 = 5;
+const TOO_MANY: u8 = 6;
+const UNKNOWN_PART_OR_PORT: u8 = 7;
+const ALREADY_WIRED: u8 = 8;
+const NO_PARTS: u8 = 9;
+const PERIOD_TOO_LONG: u8 = 10;
+const LOOP: u8 = 11;
+const SPAN_NOT_ABOVE: u8 = 12;
 
 /// A command's operands, all there.
 enum Command {
@@ -94,88 +108,119 @@ fn part(kind: u8, preference: u8, a: i32, b: i32, p: u32) -> Option<Part> {
     .then(|| Part::new(kind, preference))
 }
 
+/// What is read of a table.
+#[derive(Default)]
+struct Reading {
+    default_magnitude: Option<u8>,
+    parts: Vec<Part>,
+    span_may_follow: bool,
+}
+
+impl Reading {
+    /// The command at the front of these bytes and the bytes behind it, if it is known, in its place and whole.
+    fn command<'a>(&self, bytes: &'a [u8]) -> Result<(Command, &'a [u8]), u8> {
+        let Some((&code, operands)) = bytes.split_first() else {
+            return Err(CUT);
+        };
+        if !(BEGIN..=WANTED).contains(&code) {
+            return Err(UNKNOWN_COMMAND);
+        }
+        let in_place = match code {
+            BEGIN => self.default_magnitude.is_none(),
+            WANTED => false,
+            SPAN => self.span_may_follow,
+            _ => self.default_magnitude.is_some(),
+        };
+        if !in_place {
+            return Err(OUT_OF_PLACE);
+        }
+        let Some(read) = Command::read(code, operands) else {
+            return Err(CUT);
+        };
+        Ok(read)
+    }
+
+    /// Takes a command into the table; End changes nothing of it.
+    fn take(&mut self, command: Command) -> Result<(), u8> {
+        self.span_may_follow = false;
+        match command {
+            Command::Begin(e) => self.take_begin(e),
+            Command::Part { kind, preference, a, b, p } => self.take_part(kind, preference, a, b, p),
+            Command::Span(span) => self.take_span(span),
+            Command::Wire { source, reader, port } => self.take_wire(source, reader, port),
+            Command::End => Ok(()),
+        }
+    }
+
+    fn take_begin(&mut self, e: u8) -> Result<(), u8> {
+        if e > LARGEST_MAGNITUDE {
+            return Err(OUT_OF_RANGE);
+        }
+        self.default_magnitude = Some(e);
+        Ok(())
+    }
+
+    fn take_part(&mut self, kind: u8, preference: u8, a: i32, b: i32, p: u32) -> Result<(), u8> {
+        if self.parts.len() == MOST_PARTS {
+            return Err(TOO_MANY);
+        }
+        let Some(part) = part(kind, preference, a, b, p) else {
+            return Err(OUT_OF_RANGE);
+        };
+        self.span_may_follow = matches!(part.kind, Kind::Drive { .. });
+        self.parts.push(part);
+        Ok(())
+    }
+
+    fn take_span(&mut self, span: u32) -> Result<(), u8> {
+        let Some(Part { kind: Kind::Drive { spans, .. }, .. }) = self.parts.last_mut() else {
+            return Err(OUT_OF_PLACE);
+        };
+        if spans.len() == MOST_SPANS {
+            return Err(TOO_MANY);
+        }
+        if !is_count(span) {
+            return Err(OUT_OF_RANGE);
+        }
+        if spans.last().is_some_and(|&before| span <= before) {
+            return Err(SPAN_NOT_ABOVE);
+        }
+        spans.push(span);
+        self.span_may_follow = true;
+        Ok(())
+    }
+
+    fn take_wire(&mut self, source: u8, reader: u8, port: u8) -> Result<(), u8> {
+        let port = usize::from(port);
+        let count = self.parts.len();
+        let Some(reader) = self.parts.get_mut(usize::from(reader)) else {
+            return Err(UNKNOWN_PART_OR_PORT);
+        };
+        if usize::from(source) >= count || port >= reader.kind.ports() {
+            return Err(UNKNOWN_PART_OR_PORT);
+        }
+        if reader.inputs[port].is_some() {
+            return Err(ALREADY_WIRED);
+        }
+        reader.inputs[port] = Some(source);
+        Ok(())
+    }
+}
+
 /// Reads a table up to its End and makes the fresh model.
 pub fn load(stream: &[u8]) -> Loaded {
-    let mut default_magnitude = None;
-    let mut parts: Vec<Part> = Vec::new();
-    let mut span_may_follow = false;
+    let mut table = Reading::default();
     let mut rest = stream;
     loop {
         let position = stream.len() - rest.len();
-        let refused = |number| Err(Refusal { number, position });
-        let Some((&code, operands)) = rest.split_first() else {
-            return refused(1);
-        };
-        if !(BEGIN..=WANTED).contains(&code) {
-            return refused(2);
-        }
-        let in_place = match code {
-            BEGIN => default_magnitude.is_none(),
-            WANTED => false,
-            SPAN => span_may_follow,
-            _ => default_magnitude.is_some(),
-        };
-        if !in_place {
-            return refused(3);
-        }
-        let Some((command, behind)) = Command::read(code, operands) else {
-            return refused(1);
-        };
+        let refused = |number| Refusal { number, position };
+        let (command, behind) = table.command(rest).map_err(refused)?;
         rest = behind;
-        span_may_follow = false;
-        match command {
-            Command::Begin(e) => {
-                if e > LARGEST_MAGNITUDE {
-                    return refused(5);
-                }
-                default_magnitude = Some(e);
-            }
-            Command::Part { kind, preference, a, b, p } => {
-                if parts.len() == MOST_PARTS {
-                    return refused(6);
-                }
-                let Some(part) = part(kind, preference, a, b, p) else {
-                    return refused(5);
-                };
-                span_may_follow = matches!(part.kind, Kind::Drive { .. });
-                parts.push(part);
-            }
-            Command::Span(span) => {
-                let Some(Part { kind: Kind::Drive { spans, .. }, .. }) = parts.last_mut() else {
-                    return refused(3);
-                };
-                if spans.len() == MOST_SPANS {
-                    return refused(6);
-                }
-                if !is_count(span) {
-                    return refused(5);
-                }
-                if spans.last().is_some_and(|&before| span <= before) {
-                    return refused(12);
-                }
-                spans.push(span);
-                span_may_follow = true;
-            }
-            Command::Wire { source, reader, port } => {
-                let port = usize::from(port);
-                let count = parts.len();
-                let Some(reader) = parts.get_mut(usize::from(reader)) else {
-                    return refused(7);
-                };
-                if usize::from(source) >= count || port >= reader.kind.ports() {
-                    return refused(7);
-                }
-                if reader.inputs[port].is_some() {
-                    return refused(8);
-                }
-                reader.inputs[port] = Some(source);
-            }
-            Command::End => {
-                return finish(default_magnitude.unwrap_or(0), parts)
-                    .map(|model| Accepted { model, end: stream.len() - rest.len() })
-                    .or_else(refused);
-            }
+        if let Command::End = command {
+            let model = finish(table.default_magnitude.unwrap_or(0), table.parts).map_err(refused)?;
+            return Ok(Accepted { model, end: stream.len() - rest.len() });
         }
+        table.take(command).map_err(refused)?;
     }
 }
 
@@ -183,16 +228,16 @@ pub fn load(stream: &[u8]) -> Loaded {
 fn finish(default_magnitude: u8, parts: Vec<Part>) -> Result<Model, u8> {
     let mut model = Model { default_magnitude, parts, order: Vec::new(), point: Point::START };
     if model.parts.is_empty() {
-        return Err(9);
+        return Err(NO_PARTS);
     }
     let magnitude = model.magnitude();
     for part in &mut model.parts {
         part.ratio = ratio(magnitude, part.preference);
     }
     if model.parts.iter().any(|part| part.kind.p().is_some_and(|p| !part.is_period(p))) {
-        return Err(10);
+        return Err(PERIOD_TOO_LONG);
     }
-    model.order = order(&model.parts).ok_or(11)?;
+    model.order = order(&model.parts).ok_or(LOOP)?;
     fill_start(&mut model);
     Ok(model)
 }
@@ -204,9 +249,9 @@ pub fn wanted(stream: &[u8], position: usize) -> Result<Option<(u32, usize)>, Re
         None => Ok(None),
         Some((&WANTED, operands)) => match operands.first_chunk() {
             Some(&w) => Ok(Some((u32::from_le_bytes(w), position + 5))),
-            None => refused(1),
+            None => refused(CUT),
         },
-        Some((BEGIN..=END, _)) => refused(3),
-        Some(_) => refused(2),
+        Some((BEGIN..=END, _)) => refused(OUT_OF_PLACE),
+        Some(_) => refused(UNKNOWN_COMMAND),
     }
 }

@@ -143,63 +143,66 @@ fn everything() -> Model {
     ])
 }
 
+type Edit = (&'static str, fn(&mut Model));
+
+/// Edits of `everything`, each of which makes it unsound.
+const UNSOUND: &[Edit] = &[
+    ("no parts", |m| m.parts.clear()),
+    ("no parts and no order", |m| (m.parts, m.order) = (vec![], vec![])),
+    ("too many parts", |m| {
+        m.parts = vec![Part::new(Kind::Constant { a: 0 }, None); MOST_PARTS + 1];
+        m.order = (0..=MOST_PARTS as u8).collect();
+    }),
+    ("default magnitude", |m| m.default_magnitude = 16),
+    ("preference", |m| m.parts[1].preference = Some(16)),
+    ("no preference but a ratio", |m| m.parts[3].preference = None),
+    ("ratio", |m| m.parts[0].ratio = 10),
+    ("ratio 0", |m| m.parts[0].ratio = 0),
+    ("operand a", |m| m.parts[0].kind = Kind::Constant { a: 1_000_000_001 }),
+    ("operand b", |m| m.parts[3].kind = Kind::Square { a: 5, b: i32::MIN, p: 4 }),
+    ("operand p 0", |m| m.parts[8].kind = Kind::Detector { p: 0 }),
+    ("operand p", |m| m.parts[8].kind = Kind::Detector { p: 1_000_000_001 }),
+    ("P", |m| {
+        m.default_magnitude = 15;
+        for part in &mut m.parts {
+            part.preference = None;
+            part.ratio = 1;
+        }
+        m.parts[3].preference = Some(5);
+        m.parts[3].ratio = 10_000_000_000;
+        m.parts[3].kind = Kind::Square { a: 0, b: 0, p: 100_000_001 };
+    }),
+    ("span 0", |m| m.parts[11].kind = Kind::Drive { a: 1, spans: vec![0] }),
+    ("span", |m| m.parts[11].kind = Kind::Drive { a: 1, spans: vec![1_000_000_001] }),
+    ("equal spans", |m| m.parts[11].kind = Kind::Drive { a: 1, spans: vec![2, 2] }),
+    ("nine spans", |m| m.parts[11].kind = Kind::Drive { a: 1, spans: (1..10).collect() }),
+    ("unknown source", |m| m.parts[6].inputs[0] = Some(12)),
+    ("unknown source far off", |m| m.parts[1].inputs[0] = Some(u8::MAX)),
+    ("port 0 of a constant", |m| m.parts[0].inputs[0] = Some(1)),
+    ("port 1 of an integrator", |m| m.parts[6].inputs[1] = Some(1)),
+    ("loop", |m| m.parts[1].inputs[0] = Some(2)),
+    ("order short", |m| m.order.truncate(11)),
+    ("order long", |m| m.order.push(0)),
+    ("order twice", |m| m.order[0] = m.order[1]),
+    ("order unknown", |m| m.order[0] = 12),
+    ("order swapped", |m| m.order.swap(0, 3)),
+    ("t", |m| *m = at(m.clone(), LAST_TICK + 1)),
+    ("n", |m| m.point.n = 1000),
+    ("local count", |m| m.parts[0].local = 1),
+    ("local count far off", |m| m.parts[3].local = u64::MAX),
+    ("local count behind", |m| m.point.t = 100),
+    ("output", |m| m.parts[0].output = Some(-1_000_000_001)),
+    ("held number", |m| m.parts[7].held = i32::MAX),
+    ("held number of a kind that holds none", |m| m.parts[0].held = i32::MIN),
+    ("held signal", |m| m.parts[9].kept = Some(1_000_000_001)),
+    ("held signal of a kind that holds none", |m| m.parts[0].kept = Some(1_000_000_001)),
+];
+
 #[test]
 fn unsound_models_get_24_and_come_back_unchanged() {
     let good = everything();
     assert!(good.sound());
-    type Edit = (&'static str, fn(&mut Model));
-    let edits: &[Edit] = &[
-        ("no parts", |m| m.parts.clear()),
-        ("no parts and no order", |m| (m.parts, m.order) = (vec![], vec![])),
-        ("too many parts", |m| {
-            m.parts = vec![Part::new(Kind::Constant { a: 0 }, None); MOST_PARTS + 1];
-            m.order = (0..=MOST_PARTS as u8).collect();
-        }),
-        ("default magnitude", |m| m.default_magnitude = 16),
-        ("preference", |m| m.parts[1].preference = Some(16)),
-        ("no preference but a ratio", |m| m.parts[3].preference = None),
-        ("ratio", |m| m.parts[0].ratio = 10),
-        ("ratio 0", |m| m.parts[0].ratio = 0),
-        ("operand a", |m| m.parts[0].kind = Kind::Constant { a: 1_000_000_001 }),
-        ("operand b", |m| m.parts[3].kind = Kind::Square { a: 5, b: i32::MIN, p: 4 }),
-        ("operand p 0", |m| m.parts[8].kind = Kind::Detector { p: 0 }),
-        ("operand p", |m| m.parts[8].kind = Kind::Detector { p: 1_000_000_001 }),
-        ("P", |m| {
-            m.default_magnitude = 15;
-            for part in &mut m.parts {
-                part.preference = None;
-                part.ratio = 1;
-            }
-            m.parts[3].preference = Some(5);
-            m.parts[3].ratio = 10_000_000_000;
-            m.parts[3].kind = Kind::Square { a: 0, b: 0, p: 100_000_001 };
-        }),
-        ("span 0", |m| m.parts[11].kind = Kind::Drive { a: 1, spans: vec![0] }),
-        ("span", |m| m.parts[11].kind = Kind::Drive { a: 1, spans: vec![1_000_000_001] }),
-        ("equal spans", |m| m.parts[11].kind = Kind::Drive { a: 1, spans: vec![2, 2] }),
-        ("nine spans", |m| m.parts[11].kind = Kind::Drive { a: 1, spans: (1..10).collect() }),
-        ("unknown source", |m| m.parts[6].inputs[0] = Some(12)),
-        ("unknown source far off", |m| m.parts[1].inputs[0] = Some(u8::MAX)),
-        ("port 0 of a constant", |m| m.parts[0].inputs[0] = Some(1)),
-        ("port 1 of an integrator", |m| m.parts[6].inputs[1] = Some(1)),
-        ("loop", |m| m.parts[1].inputs[0] = Some(2)),
-        ("order short", |m| m.order.truncate(11)),
-        ("order long", |m| m.order.push(0)),
-        ("order twice", |m| m.order[0] = m.order[1]),
-        ("order unknown", |m| m.order[0] = 12),
-        ("order swapped", |m| m.order.swap(0, 3)),
-        ("t", |m| *m = at(m.clone(), LAST_TICK + 1)),
-        ("n", |m| m.point.n = 1000),
-        ("local count", |m| m.parts[0].local = 1),
-        ("local count far off", |m| m.parts[3].local = u64::MAX),
-        ("local count behind", |m| m.point.t = 100),
-        ("output", |m| m.parts[0].output = Some(-1_000_000_001)),
-        ("held number", |m| m.parts[7].held = i32::MAX),
-        ("held number of a kind that holds none", |m| m.parts[0].held = i32::MIN),
-        ("held signal", |m| m.parts[9].kept = Some(1_000_000_001)),
-        ("held signal of a kind that holds none", |m| m.parts[0].kept = Some(1_000_000_001)),
-    ];
-    for (name, edit) in edits {
+    for (name, edit) in UNSOUND {
         let mut model = good.clone();
         edit(&mut model);
         assert_ne!(model, good, "{name}");

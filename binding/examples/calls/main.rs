@@ -40,6 +40,11 @@ use std::process::ExitCode;
 use std::time::Instant;
 use words::{Words, COUNT, KIND, P, RATIO, T};
 
+/// The number of a model that is not sound.
+const NOT_SOUND: u64 = 24;
+/// The number of a call whose buffer is too short.
+const TOO_SHORT: u64 = 25;
+
 extern "C" {
     fn dozhumek_load(stream: *const u8, stream_length: usize, out: *mut u8, out_length: usize) -> u64;
     fn dozhumek_advance(model: *const u8, model_length: usize, wanted: u64, out: *mut u8, out_length: usize) -> u64;
@@ -70,7 +75,7 @@ struct Expected {
 fn expected(given: &Words, w: u64) -> Result<Expected, String> {
     let mut model = given.normal();
     let Some(meant) = model.model() else {
-        return Ok(Expected { counts: [24, 0, 0, 0, 0], model, by_rule: true });
+        return Ok(Expected { counts: [NOT_SOUND, 0, 0, 0, 0], model, by_rule: true });
     };
     let answer = second::advance(meant.clone(), w);
     if answer.number == 0 {
@@ -94,19 +99,42 @@ fn with_held_numbers(mut model: Model) -> Model {
     model
 }
 
+/// What a call of the library writes where it has room for `length` bytes and sometimes a few more, all `fill` before.
+fn written(
+    name: &str,
+    length: usize,
+    fill: u8,
+    random: &mut Random,
+    call: impl FnOnce(&mut [u8]) -> u64,
+) -> Result<Vec<u8>, String> {
+    let spare = random.pick(&[0, 0, 0, 1, 100]);
+    let mut out = vec![fill; length + spare];
+    let code = call(&mut out);
+    if code != 0 {
+        return Err(format!("{name} answers {code} with room for its answer"));
+    }
+    if out[length..].iter().any(|&byte| byte != fill) {
+        return Err(format!("{name} writes behind its answer"));
+    }
+    out.truncate(length);
+    Ok(out)
+}
+
+/// Gives a call of the library room for so few bytes that it has to refuse and to write nothing.
+fn too_short(name: &str, length: usize, fill: u8, call: impl FnOnce(&mut [u8]) -> u64) -> Result<(), String> {
+    let mut short = vec![fill; length];
+    let code = call(&mut short);
+    if code != TOO_SHORT || short.iter().any(|&byte| byte != fill) {
+        return Err(format!("{name} with room for {length} bytes answers {code}"));
+    }
+    Ok(())
+}
+
 /// Loads a stream with both. The second implementation's model, if it is accepted.
 fn load(stream: &[u8], random: &mut Random, seen: &mut Seen) -> Result<Option<Model>, String> {
     let fill = random.byte();
-    let spare = random.pick(&[0, 0, 0, 1, 100]);
-    let mut out = vec![fill; LOADED_BYTES + spare];
-    let code = raw_load(stream, &mut out);
     seen.loads += 1;
-    if code != 0 {
-        return Err(format!("load answers {code} with room for its answer"));
-    }
-    if out[LOADED_BYTES..].iter().any(|&byte| byte != fill) {
-        return Err("load writes behind its answer".to_string());
-    }
+    let out = written("load", LOADED_BYTES, fill, random, |out| raw_load(stream, out))?;
     let (number, position, loaded) = match second::load(stream) {
         Ok(accepted) => (0, accepted.end as u64, Some(with_held_numbers(accepted.model))),
         Err(refusal) => (u64::from(refusal.number), refusal.position as u64, None),
@@ -115,7 +143,7 @@ fn load(stream: &[u8], random: &mut Random, seen: &mut Seen) -> Result<Option<Mo
         return Err(format!("load answers {} at {} instead of {number} at {position}", word(&out, 0), word(&out, 1)));
     }
     seen.load_numbers[number as usize] += 1;
-    let got = Words::from_bytes(&out[16..LOADED_BYTES]);
+    let got = Words::from_bytes(&out[16..]);
     let mut wanted = got.clone();
     match &loaded {
         Some(model) => wanted.put(model),
@@ -130,21 +158,17 @@ fn load(stream: &[u8], random: &mut Random, seen: &mut Seen) -> Result<Option<Mo
         seen.count("load through the binding");
     }
     if random.once_in(16) {
-        let mut short = vec![fill; random.pick(&[0, 1, 16, LOADED_BYTES - 1])];
-        let code = raw_load(stream, &mut short);
-        if code != 25 || short.iter().any(|&byte| byte != fill) {
-            return Err(format!("load with room for {} bytes answers {code}", short.len()));
-        }
+        let length = random.pick(&[0, 1, 16, LOADED_BYTES - 1]);
+        too_short("load", length, fill, |out| raw_load(stream, out))?;
         seen.count("load with too little room");
     }
     Ok(loaded)
 }
 
-/// Advances a model with both. The number, and the model afterwards.
-fn advance(given: &Words, w: u64, random: &mut Random, seen: &mut Seen) -> Result<(u64, Words), String> {
+/// The bytes of a model as they are handed in, and the model that they mean: bytes behind it mean nothing, and missing
+/// ones are 0.
+fn handed_in(given: &Words, random: &mut Random, seen: &mut Seen) -> (Vec<u8>, Words) {
     let mut bytes = given.bytes();
-    // Bytes behind the model mean nothing, and missing ones are 0.
-    let mut meant = given.clone();
     match random.below(64) {
         0 => {
             bytes.extend((0..1 + random.below(20)).map(|_| random.byte()));
@@ -153,31 +177,30 @@ fn advance(given: &Words, w: u64, random: &mut Random, seen: &mut Seen) -> Resul
         1 if seen.may_cut => {
             let length = random.below(MODEL_BYTES);
             bytes.truncate(random.pick(&[0, 1, 7, 8, 16, 32, 288, 488, MODEL_BYTES - 1, length]));
-            meant = Words::from_bytes(&bytes);
             seen.count("missing bytes");
+            let meant = Words::from_bytes(&bytes);
+            return (bytes, meant);
         }
         _ => {}
     }
+    (bytes, given.clone())
+}
+
+/// Advances a model with both. The number, and the model afterwards.
+fn advance(given: &Words, w: u64, random: &mut Random, seen: &mut Seen) -> Result<(u64, Words), String> {
+    let (bytes, meant) = handed_in(given, random, seen);
     let want = expected(&meant, w)?;
     let fill = random.byte();
-    let spare = random.pick(&[0, 0, 0, 1, 100]);
-    let mut out = vec![fill; ANSWER_BYTES + spare];
-    let code = raw_advance(&bytes, w, &mut out);
     seen.advances += 1;
-    if code != 0 {
-        return Err(format!("advance answers {code} with room for its answer"));
-    }
-    if out[ANSWER_BYTES..].iter().any(|&byte| byte != fill) {
-        return Err("advance writes behind its answer".to_string());
-    }
+    let out = written("advance", ANSWER_BYTES, fill, random, |out| raw_advance(&bytes, w, out))?;
     let counts = [0, 1, 2, 3, 4].map(|at| word(&out, at));
     if counts != want.counts {
         return Err(format!("number, step, rounds, revisions and ceiling are {counts:?} instead of {:?}", want.counts));
     }
-    let got = Words::from_bytes(&out[40..ANSWER_BYTES]);
+    let got = Words::from_bytes(&out[40..]);
     same_words(&got, &want.model)?;
     let number = counts[0];
-    if number != 0 && meant.normal() == meant && out[40..ANSWER_BYTES] != meant.bytes() {
+    if number != 0 && meant.normal() == meant && out[40..] != meant.bytes() {
         return Err("a refused call does not hand back the very bytes".to_string());
     }
     if random.once_in(8) {
@@ -190,11 +213,8 @@ fn advance(given: &Words, w: u64, random: &mut Random, seen: &mut Seen) -> Resul
         seen.count("advance through the binding");
     }
     if random.once_in(64) {
-        let mut short = vec![fill; random.pick(&[0, 1, 40, ANSWER_BYTES - 1])];
-        let code = raw_advance(&bytes, w, &mut short);
-        if code != 25 || short.iter().any(|&byte| byte != fill) {
-            return Err(format!("advance with room for {} bytes answers {code}", short.len()));
-        }
+        let length = random.pick(&[0, 1, 40, ANSWER_BYTES - 1]);
+        too_short("advance", length, fill, |out| raw_advance(&bytes, w, out))?;
         seen.count("advance with too little room");
     }
     seen.answer(&meant, w, &want.counts, &want.model, want.by_rule);
@@ -269,7 +289,7 @@ fn play(words: &mut Words, most: usize, random: &mut Random, seen: &mut Seen, la
         *last = Last { what: format!("advance by {w} of"), bytes: words.bytes() };
         let (number, after) = advance(words, w, random, seen)?;
         *words = after;
-        if number == 24 {
+        if number == NOT_SOUND {
             return Err("a model that was played is unsound".to_string());
         }
     }
@@ -300,11 +320,11 @@ fn play_altered(words: &mut Words, random: &mut Random, seen: &mut Seen, last: &
     seen.sort(name, sound);
     seen.may_cut = then == Then::Either;
     let (number, after) = advance(&altered, w, random, seen)?;
-    if !seen.may_cut && (number == 24) == sound {
+    if !seen.may_cut && (number == NOT_SOUND) == sound {
         return Err("24 does not tell whether it is sound".to_string());
     }
     seen.may_cut = false;
-    if sound && number != 24 {
+    if sound && number != NOT_SOUND {
         altered = after;
         play(&mut altered, 3, random, seen, last)?;
         if random.once_in(4) {
@@ -328,15 +348,18 @@ fn arguments() -> Option<Arguments> {
     Some(Arguments { calls, seed, only, trace: trace == Some(1) })
 }
 
+/// What differs, with the call that was made last.
+fn report(name: String, what: String, last: &Last) -> String {
+    let bytes: String = last.bytes.iter().map(|byte| format!("{byte:02x}")).collect();
+    format!("{name} differs: {what}\n{} {bytes}", last.what)
+}
+
+/// One line of figures, or what went wrong.
 fn compare(arguments: &Arguments) -> Result<String, String> {
     let seed = arguments.seed;
     let mut seen = Seen::default();
     let mut last = Last::default();
     let start = Instant::now();
-    let report = |name: String, what: String, last: &Last| {
-        let bytes: String = last.bytes.iter().map(|byte| format!("{byte:02x}")).collect();
-        format!("{name} differs: {what}\n{} {bytes}", last.what)
-    };
     let swept = if arguments.only.is_none() { swept::swept() } else { vec![] };
     for (number, stream) in swept.iter().enumerate() {
         last = Last { what: "load of".to_string(), bytes: stream.clone() };
@@ -350,10 +373,10 @@ fn compare(arguments: &Arguments) -> Result<String, String> {
         }
         try_case(seed, number, &mut seen, &mut last)
             .map_err(|what| report(format!("case {number} of seed {seed}"), what, &last))?;
-        number += 1;
         if arguments.only.is_some() {
-            return Ok(format!("case {} of seed {seed}: nothing differs", number - 1));
+            return Ok(format!("case {number} of seed {seed}: nothing differs"));
         }
+        number += 1;
         if seen.loads + seen.advances >= arguments.calls {
             break;
         }

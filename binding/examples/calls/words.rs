@@ -173,9 +173,15 @@ fn put_part(words: &mut [u64], part: &Part) {
     };
 }
 
-fn part_of(words: &[u64]) -> Option<Part> {
-    let value = |at: usize| i32::try_from(words[at] as i64).ok();
-    let (a, b, p) = (value(A)?, value(B)?, words[P] as u32);
+/// A number that the second implementation's types hold.
+fn value(words: &[u64], at: usize) -> Option<i32> {
+    i32::try_from(words[at] as i64).ok()
+}
+
+/// A part's kind with its operands and spans; none where an operand that the kind does not name is not 0, or a part that
+/// is no drive has spans.
+fn kind_of(words: &[u64]) -> Option<Kind> {
+    let (a, b, p) = (value(words, A)?, value(words, B)?, words[P] as u32);
     let spans = usize::try_from(words[SPAN_COUNT]).ok().filter(|&spans| spans <= SPANS)?;
     let spans: Vec<u32> = words[FIRST_SPAN..][..spans].iter().map(|&span| span as u32).collect();
     if words[KIND] != 11 && !spans.is_empty() {
@@ -195,28 +201,29 @@ fn part_of(words: &[u64]) -> Option<Part> {
         10 => (Kind::Sampler, (a, b, p)),
         _ => (Kind::Drive { a, spans }, (0, b, p)),
     };
-    if unnamed != (0, 0, 0) {
-        return None;
-    }
+    (unnamed == (0, 0, 0)).then_some(kind)
+}
+
+fn part_of(words: &[u64]) -> Option<Part> {
     let source = |port: usize| match words[PORT + port] {
         0 => Some(None),
         word => u8::try_from(word - 1).ok().map(Some),
     };
     let signal = |at: usize| -> Option<Signal> {
         if words[at] == 1 {
-            value(at + 1).map(Some)
+            value(words, at + 1).map(Some)
         } else {
             Some(None)
         }
     };
     Some(Part {
-        kind,
+        kind: kind_of(words)?,
         preference: Some(words[PREFERENCE]).filter(|&own| own != NO_PREFERENCE).map(|own| own as u8),
         inputs: [source(0)?, source(1)?],
         ratio: words[RATIO],
         local: words[LOCAL],
         output: signal(OUTPUT)?,
-        held: value(HELD)?,
+        held: value(words, HELD)?,
         kept: signal(SIGNAL)?,
         side: [None, Some(Side::Negative), Some(Side::NotNegative)][words[SIDE] as usize],
         mark: [None, Some(Side::NotNegative), Some(Side::Negative)][words[MARK] as usize],

@@ -1,6 +1,8 @@
 // The fields of a part that are enums, as numbers and back. The contracts cite `specs/Encoded.antt` and
 // `specs/Decoded.antt`.
 use crate::word::word_signed;
+use kinds::kind::kind_at;
+use kinds::kind::number_of;
 use machine::part::Kind;
 use machine::part::Mark;
 use machine::part::Side;
@@ -12,52 +14,24 @@ ghost use Rattle.codec.specs.Encoded.{mark-code, side-code, source-code}
 ghost use Rattle.codec.specs.Decoded.{mark-coded, side-coded, signal-of, source-of};
 ghost use Rattle.codec.specs.Sized.{FitsSource};
 
-// The kinds by their numbers.
-const KINDS: [Kind; 12] = [
-    Kind::Constant,
-    Kind::Gain,
-    Kind::Adder,
-    Kind::Square,
-    Kind::Pulse,
-    Kind::Delay,
-    Kind::Integrator,
-    Kind::ResetIntegrator,
-    Kind::Detector,
-    Kind::Hold,
-    Kind::Sampler,
-    Kind::Drive,
-];
+// How many kinds there are.
+const KIND_COUNT: u64 = 12;
 
 // The number of a kind.
 pub fn kind_code(k: Kind) -> u64
     ensures { λ r. ⌜ r ≡ kind-number k ⌝ }
 {
-    match k {
-        Kind::Constant => 0,
-        Kind::Gain => 1,
-        Kind::Adder => 2,
-        Kind::Square => 3,
-        Kind::Pulse => 4,
-        Kind::Delay => 5,
-        Kind::Integrator => 6,
-        Kind::ResetIntegrator => 7,
-        Kind::Detector => 8,
-        Kind::Hold => 9,
-        Kind::Sampler => 10,
-        Kind::Drive => 11,
-    }
+    number_of(k) as u64
 }
 
 // The kind that has a number, the constant where none has.
 pub(crate) fn kind_coded(w: u64) -> Kind
     ensures { λ r. ⌜ r ≡ kind-of w ⌝ }
 {
-    if w >= 12 {
+    if w >= KIND_COUNT {
         return Kind::Constant;
     }
-    let place = w as usize;
-    let kind = KINDS[place];
-    kind
+    kind_at(w as u8)
 }
 
 // A port as a number: 0 unwired, k + 1 from part k.

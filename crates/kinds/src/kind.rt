@@ -2,7 +2,7 @@
 // Its contracts cite the machine's `specs/Kind.antt` and `specs/Load.antt`.
 use machine::part::Kind;
 ghost use mathlib.Core.Path.{_≡_};
-ghost use Rattle.machine.specs.Kind.{integrates, kind-number};
+ghost use Rattle.machine.specs.Kind.{integrates, kind-number, kind-of};
 ghost use Rattle.machine.specs.Load.{is-drive};
 ghost use Rattle.kinds.specs.Found.{KindMeant};
 
@@ -46,8 +46,18 @@ pub fn kind_of(number: u8) -> KindFound
     KindFound::Known(kind)
 }
 
+// The kind with this number; of numbers that no kind has, the first kind.
+pub fn kind_at(number: u8) -> Kind
+    ensures { λ r. ⌜ r ≡ kind-of number ⌝ }
+{
+    let KindFound::Known(kind) = kind_of(number) else {
+        return Kind::Constant;
+    };
+    kind
+}
+
 // The number of a kind.
-fn number_of(k: Kind) -> u8
+pub fn number_of(k: Kind) -> u8
     ensures { λ r. ⌜ r ≡ kind-number k ⌝ }
 {
     match k {

@@ -33,6 +33,9 @@ ghost use Rattle.reading.specs.Spanned.{Beside, last-place, row-with, sp
 ghost use Rattle.reading.specs.Steps.{step-of, uncut};
 ghost use Rattle.reading.specs.Wired.{wired-reading};
 
+// The number of a command that is cut.
+const CUT: u64 = 1;
+
 // What a command comes to: its refusal's number, 0 meaning none, and where there is none the position and the progress behind it.
 pub struct Step {
     pub number: u64,
@@ -62,7 +65,7 @@ pub fn begin(s: &[u8], at: usize, progress: Progress) -> Step
 {
     let ByteRead::Got(e, c) = byte(s, Cursor { at: at + 1 }) else {
         return Step {
-            number: 1,
+            number: CUT,
             next: at,
             progress: progress,
         };
@@ -102,7 +105,7 @@ pub fn part(s: &[u8], at: usize, progress: Progress) -> Step
 {
     let PartRead::Got(o, c) = part_operands(s, Cursor { at: at + 1 }) else {
         return Step {
-            number: 1,
+            number: CUT,
             next: at,
             progress: progress,
         };
@@ -143,7 +146,7 @@ pub fn wire(s: &[u8], at: usize, progress: Progress) -> Step
 {
     let WireRead::Got(o, c) = wire_operands(s, Cursor { at: at + 1 }) else {
         return Step {
-            number: 1,
+            number: CUT,
             next: at,
             progress: progress,
         };
@@ -194,7 +197,7 @@ pub fn span(s: &[u8], at: usize, progress: Progress, last: u32) -> SpanStep
 {
     let WordRead::Got(v, c) = word(s, Cursor { at: at + 1 }) else {
         let cut = Step {
-            number: 1,
+            number: CUT,
             next: at,
             progress: progress,
         };

@@ -1,11 +1,9 @@
 // The table as far as it has been read. Spans stand in rows of their own, beside the progress, until End is reached; a component
 // counts its spans. Its contracts cite `specs/Progress.antt`.
-use kinds::kind::KindFound;
 use kinds::kind::is_drive;
-use kinds::kind::kind_of;
+use kinds::kind::kind_at;
 use machine::model::PARTS;
 use machine::part::Component;
-use machine::part::Kind;
 use machine::part::SPANS;
 use machine::part::Source;
 use operands::cursor::signed_of;
@@ -14,11 +12,13 @@ use operands::refusal::port_refusal;
 ghost use Prim.Native.Nat.{ℕ, _<_, _≤_};
 ghost use mathlib.Core.Path.{_≡_};
 ghost use mathlib.Core.List.{List};
-ghost use Rattle.machine.specs.Kind.{kind-of};
 ghost use Rattle.machine.specs.Load.{begun-with, wire-refusal, with-part, with-wire};
 ghost use Rattle.reading.specs.Progress.{reading-of};
 ghost use Rattle.reading.specs.Wired.{wired-reading};
 ghost use Rattle.reading.specs.Made.{component-of, made-component};
+
+// The number of a wire that names an unknown part.
+const UNKNOWN_PART: u64 = 7;
 
 // Whether Begin was read, whether a span may follow, the default magnitude, and the parts: the first `count` places are in use.
 pub struct Progress {
@@ -27,16 +27,6 @@ pub struct Progress {
     pub magnitude: u8,
     pub count: usize,
     pub parts: [Component; PARTS],
-}
-
-// The kind with this number; of numbers that no kind has, the first kind.
-fn kind_at(number: u8) -> Kind
-    ensures { λ r. ⌜ r ≡ kind-of number ⌝ }
-{
-    let KindFound::Known(kind) = kind_of(number) else {
-        return Kind::Constant;
-    };
-    kind
 }
 
 // The component of a Part that no span or wire has reached yet.
@@ -156,11 +146,11 @@ pub(crate) fn wire_refusal(progress: Progress, source: u8, receiver: u8, port: u
 {
     let count = progress.count;
     if source as usize >= count {
-        return 7;
+        return UNKNOWN_PART;
     }
     let place = receiver as usize;
     if place >= count {
-        return 7;
+        return UNKNOWN_PART;
     }
     let c = progress.parts[place];
     let kind = c.kind;

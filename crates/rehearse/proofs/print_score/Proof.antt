@@ -42,8 +42,10 @@ returns-2 c = tt
 
 loop-less : tie.Need-loop-less Inv-loop μ-loop
 loop-less c =
-    let call = c .before .before .before .before .before .before in
-    let later = call .play-some .ensures .later (c .before .if2 .left) (omega arith) in
+    let unended = c .before in
+    let written = unended .before .before in
+    let played = written .before .before .before in
+    let later = played .play-some .ensures .later (unended .if2 .left) (omega arith) in
     omega (arith, later .0, later .1)
 
 loop-again : tie.Need-loop-again Inv-loop μ-loop

@@ -36,6 +36,27 @@ fn two() -> Draft {
     draft
 }
 
+/// The wires within a half of `mixed`: source, receiving part and receiving port.
+const MIXED_WIRES: [(usize, usize, u8); 17] = [
+    (0, 1, 0),
+    (2, 3, 0),
+    (3, 4, 0),
+    (14, 4, 1),
+    (15, 5, 0),
+    (4, 7, 0),
+    (6, 7, 1),
+    (7, 8, 0),
+    (8, 9, 0),
+    (3, 9, 1),
+    (6, 10, 0),
+    (2, 11, 0),
+    (9, 12, 0),
+    (1, 12, 1),
+    (10, 13, 0),
+    (5, 14, 0),
+    (3, 15, 0),
+];
+
 /// The first parts of a table of 32 with all kinds, and the wires among them.
 fn mixed(parts: usize) -> Draft {
     let mut draft = Draft { magnitude: 1, ..Draft::default() };
@@ -60,26 +81,7 @@ fn mixed(parts: usize) -> Draft {
         draft.add(INTEGRATOR, 1, 0, 0);
         draft.rows[first + 11].preference = 0;
         draft.rows[first + 4].preference = half as u8;
-        let wires = [
-            (0, 1, 0),
-            (2, 3, 0),
-            (3, 4, 0),
-            (14, 4, 1),
-            (15, 5, 0),
-            (4, 7, 0),
-            (6, 7, 1),
-            (7, 8, 0),
-            (8, 9, 0),
-            (3, 9, 1),
-            (6, 10, 0),
-            (2, 11, 0),
-            (9, 12, 0),
-            (1, 12, 1),
-            (10, 13, 0),
-            (5, 14, 0),
-            (3, 15, 0),
-        ];
-        for (source, reader, port) in wires {
+        for (source, reader, port) in MIXED_WIRES {
             draft.wire(first + source, first + reader, port);
         }
     }

@@ -316,6 +316,23 @@ fn drives(draft: &mut Draft, scale: Scale, random: &mut Random) {
     }
 }
 
+/// Spans of a drive with this number: of each two neighbouring rungs at least one, and of 16 at most eight; sometimes one
+/// less, or the lowest too.
+fn every_other(rungs: &[u32], number: usize, random: &mut Random) -> Vec<u32> {
+    let mut spans: Vec<u32> = rungs.chunks(2).take(8).map(|pair| pair[number % 2 % pair.len()]).collect();
+    if random.once_in(3) {
+        let at = random.below(spans.len());
+        spans.remove(at);
+    }
+    if random.once_in(3) {
+        spans.extend(rungs.first());
+        spans.sort_unstable();
+        spans.dedup();
+        spans.truncate(8);
+    }
+    spans
+}
+
 /// Drives whose spans alternate, so that each round takes back a little, and sometimes a detector that halves.
 pub fn ladder(random: &mut Random) -> Draft {
     let mut draft = Draft::default();
@@ -327,18 +344,7 @@ pub fn ladder(random: &mut Random) -> Draft {
     let from = source(&mut draft, scale, random);
     let crowd = random.pick(&[2, 2, 3, 5, 8, 30]);
     for number in 0..crowd {
-        // Of each two neighbours at least one, and of 16 at most eight.
-        let mut spans: Vec<u32> = rungs.chunks(2).take(8).map(|pair| pair[number % 2 % pair.len()]).collect();
-        if random.once_in(3) {
-            let at = random.below(spans.len());
-            spans.remove(at);
-        }
-        if random.once_in(3) {
-            spans.extend(rungs.first());
-            spans.sort_unstable();
-            spans.dedup();
-            spans.truncate(8);
-        }
+        let spans = every_other(&rungs, number, random);
         let drive = draft.add_drive(scale.value(random), spans);
         if random.once_in(2) {
             draft.wire(from, drive, 0);

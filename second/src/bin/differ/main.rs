@@ -15,6 +15,7 @@ mod random;
 mod seen;
 mod swept;
 
+use named::Named;
 use program::Program;
 use random::Random;
 use seen::Seen;
@@ -62,29 +63,11 @@ fn main() -> ExitCode {
 fn compare(arguments: &Arguments) -> Result<String, String> {
     let program = Program::watched(&arguments.program);
     if let Some(number) = arguments.only {
-        let stream = stream_of(arguments.seed, number);
-        return match difference(&program, number, &stream, &expected(&stream)) {
-            None => Ok(format!("{}: nothing differs\n{}", name_of(arguments.seed, number), hexadecimal(&stream))),
-            Some(what) => Err(report(&name_of(arguments.seed, number), &stream, &what)),
-        };
+        return one_case(arguments.seed, number, &program);
     }
     let (named, swept) = if arguments.unnamed { (vec![], vec![]) } else { (named::named(), swept::swept()) };
     for (ticket, case) in named.iter().enumerate() {
-        if case.wrong_reading == Some(&case.expected) {
-            return Err(format!("{}: the case does not tell the readings apart", case.name));
-        }
-        let own = expected(&case.stream);
-        if own != case.expected.as_bytes() {
-            return Err(format!("{}: the library differs from the document", case.name));
-        }
-        if let Some(what) = difference(&program, ticket as u64, &case.stream, &own) {
-            let wrong = if what.got.is_some() && what.got.as_deref() == case.wrong_reading.map(str::as_bytes) {
-                "; this is the wrong reading"
-            } else {
-                ""
-            };
-            return Err(format!("named case '{}': {}{wrong}\n{}", case.name, what.text, hexadecimal(&case.stream)));
-        }
+        named_case(case, ticket as u64, &program)?;
     }
 
     let start = Instant::now();
@@ -110,12 +93,49 @@ fn compare(arguments: &Arguments) -> Result<String, String> {
     ))
 }
 
+/// One random case, with its bytes.
+fn one_case(seed: u64, number: u64, program: &Program) -> Result<String, String> {
+    let stream = stream_of(seed, number);
+    match difference(program, number, &stream, &expected(&stream)) {
+        None => Ok(format!("{}: nothing differs\n{}", name_of(seed, number), hexadecimal(&stream))),
+        Some(what) => Err(report(&name_of(seed, number), &stream, &what)),
+    }
+}
+
+/// A named case: the library and the program both have to print what the document says.
+fn named_case(case: &Named, ticket: u64, program: &Program) -> Result<(), String> {
+    if case.wrong_reading == Some(&case.expected) {
+        return Err(format!("{}: the case does not tell the readings apart", case.name));
+    }
+    let own = expected(&case.stream);
+    if own != case.expected.as_bytes() {
+        return Err(format!("{}: the library differs from the document", case.name));
+    }
+    let Some(what) = difference(program, ticket, &case.stream, &own) else {
+        return Ok(());
+    };
+    let misread = what.got.is_some() && what.got.as_deref() == case.wrong_reading.map(str::as_bytes);
+    let wrong = if misread { "; this is the wrong reading" } else { "" };
+    Err(format!("named case '{}': {}{wrong}\n{}", case.name, what.text, hexadecimal(&case.stream)))
+}
+
 struct Failure {
     number: u64,
     text: String,
 }
 
-/// The swept cases, then the random ones.
+/// The name and the bytes of a case: the swept ones come first, then the random ones.
+fn swept_or_random(swept: &[Vec<u8>], seed: u64, number: u64) -> (String, Vec<u8>) {
+    match swept.get(number as usize) {
+        Some(stream) => (format!("swept case {number}"), stream.clone()),
+        None => {
+            let number = number - swept.len() as u64;
+            (name_of(seed, number), stream_of(seed, number))
+        }
+    }
+}
+
+/// Tries the swept cases and the random ones.
 fn many_cases(arguments: &Arguments, program: &Program, swept: &[Vec<u8>]) -> Result<Seen, String> {
     let cases = swept.len() as u64 + arguments.cases;
     let next = AtomicU64::new(0);
@@ -130,13 +150,7 @@ fn many_cases(arguments: &Arguments, program: &Program, swept: &[Vec<u8>]) -> Re
             if number >= cases {
                 break;
             }
-            let (name, stream) = match swept.get(number as usize) {
-                Some(stream) => (format!("swept case {number}"), stream.clone()),
-                None => {
-                    let number = number - swept.len() as u64;
-                    (name_of(arguments.seed, number), stream_of(arguments.seed, number))
-                }
-            };
+            let (name, stream) = swept_or_random(swept, arguments.seed, number);
             let output = expected(&stream);
             if let Some(what) = difference(program, number, &stream, &output) {
                 let failure = Failure { number, text: report(&name, &stream, &what) };

@@ -53,94 +53,115 @@ impl Table {
     }
 }
 
+/// A case with the answer that the document gives, and that of a wrong reading.
+fn case(name: &'static str, stream: Vec<u8>, expected: &str, wrong_reading: Option<&'static str>) -> Named {
+    Named { name, stream, expected: expected.to_string(), wrong_reading }
+}
+
 pub fn named() -> Vec<Named> {
-    let mut all = Vec::new();
-    let mut add = |name, stream, expected: &str, wrong_reading| {
-        all.push(Named { name, stream, expected: expected.to_string(), wrong_reading });
-    };
+    let mut all = readings_that_miss();
+    all.extend(played_examples());
+    all.push(restless());
+    all.push(case("played: the empty stream", Vec::new(), "refused 1 at 0\n", None));
+    all.push(longest_score());
+    all
+}
 
-    add(
-        "missed: each step divided by r instead of the whole time",
-        Table::new(2).part(CONSTANT, 1, 0, 0).preferring(0, INTEGRATOR, 0, 0, 0).wire(0, 1, 0).score(&[40, 40, 40]),
-        "40 0 40 1 0 1 0\n80 0 40 1 0 1 0\n120 0 40 1 0 1 1\n",
-        Some("40 0 40 1 0 1 0\n80 0 40 1 0 1 0\n120 0 40 1 0 1 0\n"),
-    );
-    add(
-        "missed: the least reply after one round only",
-        Table::new(0).part(DRIVE, 0, 0, 0).spans(&[3, 8]).part(DRIVE, 0, 0, 0).spans(&[3, 5]).score(&[9]),
-        "3 0 3 3 0 0 0\n",
-        Some("5 0 5 1 0 0 0\n"),
-    );
-    add(
-        "missed: a detector's side changed after a dropped trial",
-        Table::new(0)
-            .part(CONSTANT, 2, 0, 0)
-            .part(INTEGRATOR, -7, 0, 0)
-            .part(DETECTOR, 0, 0, 1)
-            .wire(0, 1, 0)
-            .wire(1, 2, 0)
-            .score(&[8, 8, 8, 8]),
-        "2 0 2 3 2 2 -3 -\n3 0 1 4 3 2 -1 -\n4 0 1 4 3 2 1 -\n4 1 0 2 0 2 1 1\n",
-        Some("4 0 4 2 1 2 1 -\n12 0 8 1 0 2 17 -\n20 0 8 1 0 2 33 -\n28 0 8 1 0 2 49 -\n"),
-    );
-    add(
-        "missed: from (k × P, 0) past the pulse",
-        Table::new(0).part(PULSE, 7, 0, 4).score(&[10, 10, 10, 10]),
-        "4 0 4 2 0 -\n4 1 0 2 0 7\n8 0 4 2 0 -\n8 1 0 2 0 7\n",
-        Some("4 0 4 2 0 -\n8 0 4 2 0 -\n12 0 4 2 0 -\n16 0 4 2 0 -\n"),
-    );
+/// What the document names as readings that miss, each with a case that tells it apart.
+fn readings_that_miss() -> Vec<Named> {
+    vec![
+        case(
+            "missed: each step divided by r instead of the whole time",
+            Table::new(2).part(CONSTANT, 1, 0, 0).preferring(0, INTEGRATOR, 0, 0, 0).wire(0, 1, 0).score(&[40, 40, 40]),
+            "40 0 40 1 0 1 0\n80 0 40 1 0 1 0\n120 0 40 1 0 1 1\n",
+            Some("40 0 40 1 0 1 0\n80 0 40 1 0 1 0\n120 0 40 1 0 1 0\n"),
+        ),
+        case(
+            "missed: the least reply after one round only",
+            Table::new(0).part(DRIVE, 0, 0, 0).spans(&[3, 8]).part(DRIVE, 0, 0, 0).spans(&[3, 5]).score(&[9]),
+            "3 0 3 3 0 0 0\n",
+            Some("5 0 5 1 0 0 0\n"),
+        ),
+        case(
+            "missed: a detector's side changed after a dropped trial",
+            Table::new(0)
+                .part(CONSTANT, 2, 0, 0)
+                .part(INTEGRATOR, -7, 0, 0)
+                .part(DETECTOR, 0, 0, 1)
+                .wire(0, 1, 0)
+                .wire(1, 2, 0)
+                .score(&[8, 8, 8, 8]),
+            "2 0 2 3 2 2 -3 -\n3 0 1 4 3 2 -1 -\n4 0 1 4 3 2 1 -\n4 1 0 2 0 2 1 1\n",
+            Some("4 0 4 2 1 2 1 -\n12 0 8 1 0 2 17 -\n20 0 8 1 0 2 33 -\n28 0 8 1 0 2 49 -\n"),
+        ),
+        case(
+            "missed: from (k × P, 0) past the pulse",
+            Table::new(0).part(PULSE, 7, 0, 4).score(&[10, 10, 10, 10]),
+            "4 0 4 2 0 -\n4 1 0 2 0 7\n8 0 4 2 0 -\n8 1 0 2 0 7\n",
+            Some("4 0 4 2 0 -\n8 0 4 2 0 -\n12 0 4 2 0 -\n16 0 4 2 0 -\n"),
+        ),
+    ]
+}
 
-    add(
-        "played: the program's example",
-        Table::new(0).part(CONSTANT, 1, 0, 0).part(DRIVE, 0, 0, 0).spans(&[2, 5]).wire(0, 1, 0).score(&[7, 4, 1]),
-        "5 0 5 2 0 1 5\n7 0 2 2 0 1 7\nrefused 22\n",
-        None,
-    );
-    add(
-        "played: ratio 10, span {2}, at tick 7",
-        Table::new(1).part(CONSTANT, 1, 0, 0).preferring(0, DRIVE, 0, 0, 0).spans(&[2]).wire(0, 1, 0).score(&[7, 50]),
-        "7 0 7 1 0 1 0\n29 0 22 2 0 1 2\n",
-        None,
-    );
-    add(
-        "played: a square at its first edge",
-        Table::new(0).part(SQUARE, 5, -6, 4).score(&[9, 9, 9, 9]),
-        "4 0 4 2 0 5\n4 1 0 2 0 -6\n8 0 4 2 0 -6\n8 1 0 2 0 5\n",
-        None,
-    );
-    add(
-        "played: a gain wired to itself",
-        Table::new(0).part(GAIN, 2, 0, 0).wire(0, 0, 0).score(&[5]),
-        "refused 11 at 21\n",
-        None,
-    );
-    add(
-        "played: an integrator wired to itself",
-        Table::new(0).part(INTEGRATOR, 1, 0, 0).wire(0, 0, 0).score(&[5, 5]),
-        "5 0 5 1 0 6\n10 0 5 1 0 36\n",
-        None,
-    );
-    let mut restless: String = (1..=999).map(|n| format!("0 {n} 0 2 0 3 3\n")).collect();
-    restless.push_str("refused 21\nrefused 21\nrefused 20\n");
+/// The document's played examples that are a few lines long.
+fn played_examples() -> Vec<Named> {
+    vec![
+        case(
+            "played: the program's example",
+            Table::new(0).part(CONSTANT, 1, 0, 0).part(DRIVE, 0, 0, 0).spans(&[2, 5]).wire(0, 1, 0).score(&[7, 4, 1]),
+            "5 0 5 2 0 1 5\n7 0 2 2 0 1 7\nrefused 22\n",
+            None,
+        ),
+        case(
+            "played: ratio 10, span {2}, at tick 7",
+            Table::new(1)
+                .part(CONSTANT, 1, 0, 0)
+                .preferring(0, DRIVE, 0, 0, 0)
+                .spans(&[2])
+                .wire(0, 1, 0)
+                .score(&[7, 50]),
+            "7 0 7 1 0 1 0\n29 0 22 2 0 1 2\n",
+            None,
+        ),
+        case(
+            "played: a square at its first edge",
+            Table::new(0).part(SQUARE, 5, -6, 4).score(&[9, 9, 9, 9]),
+            "4 0 4 2 0 5\n4 1 0 2 0 -6\n8 0 4 2 0 -6\n8 1 0 2 0 5\n",
+            None,
+        ),
+        case(
+            "played: a gain wired to itself",
+            Table::new(0).part(GAIN, 2, 0, 0).wire(0, 0, 0).score(&[5]),
+            "refused 11 at 21\n",
+            None,
+        ),
+        case(
+            "played: an integrator wired to itself",
+            Table::new(0).part(INTEGRATOR, 1, 0, 0).wire(0, 0, 0).score(&[5, 5]),
+            "5 0 5 1 0 6\n10 0 5 1 0 36\n",
+            None,
+        ),
+    ]
+}
+
+/// A delay that is due at every microstep of a tick.
+fn restless() -> Named {
+    let mut lines: String = (1..=999).map(|n| format!("0 {n} 0 2 0 3 3\n")).collect();
+    lines.push_str("refused 21\nrefused 21\nrefused 20\n");
     let mut steps = vec![1; 1001];
     steps.push(0);
-    add(
+    case(
         "played: a constant into a delay",
         Table::new(0).part(CONSTANT, 3, 0, 0).part(DELAY, 0, 0, 0).wire(0, 1, 0).score(&steps),
-        &restless,
+        &lines,
         None,
-    );
-    add("played: the empty stream", Vec::new(), "refused 1 at 0\n", None);
-    add(
-        "the longest score the program reads, cut in its last command",
-        {
-            let mut stream = Table::new(0).part(CONSTANT, 3, 0, 0).score(&vec![0; 13_200]);
-            stream.truncate(70_000);
-            stream
-        },
-        // 18 bytes of table, 13,103 commands, and three bytes of the next.
-        &("refused 20\n".repeat(13_103) + "refused 1 at 65533\n"),
-        None,
-    );
-    all
+    )
+}
+
+/// A score that is longer than what the program reads: 18 bytes of table, 13,103 commands, and three bytes of the next.
+fn longest_score() -> Named {
+    let mut stream = Table::new(0).part(CONSTANT, 3, 0, 0).score(&vec![0; 13_200]);
+    stream.truncate(70_000);
+    let expected = "refused 20\n".repeat(13_103) + "refused 1 at 65533\n";
+    case("the longest score the program reads, cut in its last command", stream, &expected, None)
 }

@@ -24,47 +24,77 @@ fn good_row(kind: u8) -> Vec<u8> {
     row(kind, NO_PREFERENCE, good_operands(kind))
 }
 
-pub fn swept() -> Vec<Vec<u8>> {
-    let mut all = Vec::new();
-    let mut add = |commands: &[&[u8]]| all.push(commands.concat());
+/// Streams, each given by its commands.
+#[derive(Default)]
+struct Streams(Vec<Vec<u8>>);
 
+impl Streams {
+    fn add(&mut self, commands: &[&[u8]]) {
+        self.0.push(commands.concat());
+    }
+}
+
+pub fn swept() -> Vec<Vec<u8>> {
+    let mut all = Streams::default();
+    for kind in 0..=KINDS as u8 {
+        operands(kind, &mut all);
+        ports(kind, &mut all);
+    }
+    bytes(&mut all);
+    let drive = [good_row(DRIVE), span(2), span(5)].concat();
+    cuts(&drive, &mut all);
+    sequences(&[], &mut all);
+    sequences(&[&[1, 0], &drive[..]].concat(), &mut all);
+    all.0
+}
+
+/// Each operand of a kind at the edges of its range, and the preferences.
+fn operands(kind: u8, all: &mut Streams) {
     let billion = 1_000_000_000;
     let edges = [0, 1, -1, billion, -billion, billion + 1, -billion - 1, i64::from(i32::MAX), i64::from(i32::MIN)];
-    for kind in 0..=KINDS as u8 {
-        for operand in 0..3 {
-            for edge in edges {
-                let mut operands = good_operands(kind);
-                operands[operand] = edge;
-                add(&[&[1, 0], &row(kind, NO_PREFERENCE, operands), &[5], &SCORE]);
-            }
-        }
-        for preference in [0, 1, 14, 15, 16, 17, 0x7F, 0x80, 0xFE] {
-            add(&[&[1, 3], &row(kind, preference, good_operands(kind)), &[5], &SCORE]);
-        }
-        for port in [0, 1, 2, 3, 255] {
-            let wire = [4, 0, 1, port];
-            add(&[&[1, 0], &good_row(CONSTANT), &good_row(kind), &wire, &[5], &SCORE]);
-            add(&[&[1, 0], &good_row(CONSTANT), &good_row(kind), &wire, &wire, &[5], &SCORE]);
-            // Wired to itself.
-            add(&[&[1, 0], &good_row(kind), &[4, 0, 0, port], &[5], &SCORE]);
+    for operand in 0..3 {
+        for edge in edges {
+            let mut operands = good_operands(kind);
+            operands[operand] = edge;
+            all.add(&[&[1, 0], &row(kind, NO_PREFERENCE, operands), &[5], &SCORE]);
         }
     }
+    for preference in [0, 1, 14, 15, 16, 17, 0x7F, 0x80, 0xFE] {
+        all.add(&[&[1, 3], &row(kind, preference, good_operands(kind)), &[5], &SCORE]);
+    }
+}
+
+/// Each port of a kind wired once, wired twice, and wired to the part itself.
+fn ports(kind: u8, all: &mut Streams) {
+    for port in [0, 1, 2, 3, 255] {
+        let wire = [4, 0, 1, port];
+        all.add(&[&[1, 0], &good_row(CONSTANT), &good_row(kind), &wire, &[5], &SCORE]);
+        all.add(&[&[1, 0], &good_row(CONSTANT), &good_row(kind), &wire, &wire, &[5], &SCORE]);
+        all.add(&[&[1, 0], &good_row(kind), &[4, 0, 0, port], &[5], &SCORE]);
+    }
+}
+
+/// Every byte as the default magnitude, and where a command may stand.
+fn bytes(all: &mut Streams) {
     for byte in 0..=255 {
-        add(&[&[1, byte], &good_row(CONSTANT), &[5], &SCORE]);
-        add(&[&[byte]]);
-        add(&[&[1, 0], &[byte]]);
-        add(&[&[1, 0], &good_row(CONSTANT), &[5], &SCORE, &[byte], &SCORE]);
+        all.add(&[&[1, byte], &good_row(CONSTANT), &[5], &SCORE]);
+        all.add(&[&[byte]]);
+        all.add(&[&[1, 0], &[byte]]);
+        all.add(&[&[1, 0], &good_row(CONSTANT), &[5], &SCORE, &[byte], &SCORE]);
     }
+}
 
-    // Every cut of a stream with all commands.
-    let drive = [good_row(DRIVE), span(2), span(5)].concat();
-    let stream = [&[1, 0][..], &good_row(CONSTANT), &drive, &[4, 0, 1, 0], &good_row(HOLD), &[5], &SCORE].concat();
+/// Every cut of a stream with all commands.
+fn cuts(drive: &[u8], all: &mut Streams) {
+    let stream = [&[1, 0][..], &good_row(CONSTANT), drive, &[4, 0, 1, 0], &good_row(HOLD), &[5], &SCORE].concat();
     for length in 0..=stream.len() {
-        add(&[&stream[..length]]);
+        all.add(&[&stream[..length]]);
     }
+}
 
-    // Every short sequence of commands, whole and without its last byte, at the start and behind a drive.
-    let words: [&[u8]; 10] = [
+/// Every short sequence of commands behind a start, whole and without its last byte.
+fn sequences(start: &[u8], all: &mut Streams) {
+    let commands: [&[u8]; 10] = [
         &[1, 0],
         &good_row(CONSTANT),
         &good_row(DRIVE),
@@ -76,16 +106,13 @@ pub fn swept() -> Vec<Vec<u8>> {
         &[0],
         &[7],
     ];
-    for start in [&[][..], &[&[1, 0], &drive[..]].concat()] {
-        for first in words {
-            for second in words {
-                for third in words {
-                    let sequence = [start, first, second, third].concat();
-                    add(&[&sequence]);
-                    add(&[&sequence[..sequence.len() - 1]]);
-                }
+    for first in commands {
+        for second in commands {
+            for third in commands {
+                let sequence = [start, first, second, third].concat();
+                all.add(&[&sequence]);
+                all.add(&[&sequence[..sequence.len() - 1]]);
             }
         }
     }
-    all
 }

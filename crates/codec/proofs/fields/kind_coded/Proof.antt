@@ -1,5 +1,5 @@
--- `kind_coded` reads the definition's list of kinds; past its end the definition's default stands.
-use mathlib.Core.Path.{refl, sym}
+-- `kind_coded` is the kind at the number; past the end of the definition's list of kinds its default stands.
+use mathlib.Core.Path.{sym}
 use lib.ListN.{List·getD-eq-default}
 use Rattle.machine.specs.Kind.{kinds, kind-of}
 use Rattle.machine.specs.declared.part.Kind.the-variants.{Constant}
@@ -11,12 +11,14 @@ returns : tie.Need-returns
 unfolding kind-of
 returns c = sym (List·getD-eq-default kinds Constant (c .if1 .taken))
 
-array-copy-out-kind : tie.Need-array-copy-out-kind
-array-copy-out-kind c = search needs
+cast-kind-at : tie.Need-cast-kind-at
+cast-kind-at c = search needs
+
+kind-at-requires : tie.Need-kind-at-requires
+kind-at-requires c κs = search needs
 
 returns-2 : tie.Need-returns-2
-unfolding kind-of
-returns-2 c = refl
+returns-2 c = search needs
 
 pub kind-coded-spec : {M : Type 1} → statement M
-kind-coded-spec = tie.close (tie.spec returns array-copy-out-kind returns-2)
+kind-coded-spec = tie.close (tie.spec returns cast-kind-at kind-at-requires returns-2)

@@ -36,17 +36,16 @@ returns : tie.Need-returns
 unfolding four-bytes
 returns c =
     let fourth = c .before .before in
-    let third = fourth .before .before .before .before .before in
-    let second = third .before .before .before .before .before in
-    let first = second .before .before .before .before .before in
+    let byte4 = fourth .before in
+    let third = byte4 .before .before .before .before in
+    let byte3 = third .before in
+    let second = byte3 .before .before .before .before in
+    let byte2 = second .before in
+    let first = byte2 .before .before .before .before in
+    let byte1 = first .before in
     let two = put-then (first .put-byte .ensures) (second .put-byte2 .ensures) in
     let four = put-then (put-then two (third .put-byte3 .ensures)) (fourth .put-byte4 .ensures) in
-    simp (
-      first .before .low-byte .ensures,
-      second .before .low-byte2 .ensures,
-      third .before .low-byte3 .ensures,
-      fourth .before .low-byte4 .ensures,
-    ) at four
+    simp (byte1 .low-byte .ensures, byte2 .low-byte2 .ensures, byte3 .low-byte3 .ensures, byte4 .low-byte4 .ensures) at four
 
 pub put-four-spec : {M : Type 1} → statement M
 put-four-spec =

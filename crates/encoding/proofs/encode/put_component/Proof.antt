@@ -32,23 +32,27 @@ returns : tie.Need-returns
 unfolding component-words
 returns c =
     let port1 = c .before .before in
-    let port0 = port1 .before .before .before .before .before in
-    let spans = port0 .before .before .before .before .before in
+    let code1 = port1 .before in
+    let port0 = code1 .before .before .before .before in
+    let code0 = port0 .before in
+    let spans = code0 .before .before .before .before in
     let operands = spans .before .before .before .before in
-    let start = operands .before .before .before .before .before .before in
-    let a = toZ-ofZ w64 (start .args .c .a) (record { sfits = operands .before .before .struct-told .given .1 .1 .0 .1 }) in
-    let b = toZ-ofZ w64 (start .args .c .b) (record { sfits = operands .before .struct-told2 .given .1 .1 .1 .0 .1 }) in
+    let told-b = operands .before in
+    let told-a = told-b .before in
+    let start = told-a .before .before .before .before in
+    let a = toZ-ofZ w64 (start .args .c .a) (record { sfits = told-a .struct-told .given .1 .1 .0 .1 }) in
+    let b = toZ-ofZ w64 (start .args .c .b) (record { sfits = told-b .struct-told2 .given .1 .1 .1 .0 .1 }) in
     let front = simp (a, b) at (operands .put-operands .ensures .0) in
     let ports = words-then (port0 .put-word .ensures .0) (port1 .put-word2 .ensures .0) in
-    let ports = simp (port0 .before .source-code .ensures .0, port1 .before .source-code2 .ensures .0) at ports in
+    let ports = simp (code0 .source-code .ensures .0, code1 .source-code2 .ensures .0) at ports in
     let whole = start .args .c in
     let first = operand-words (whole .kind) (whole .preference) (whole .a) (whole .b) (whole .p) (whole .«span_count») in (
       words-then {us = first} front (words-then (spans .put-spans .ensures .0) ports),
       record {
         operands = simp (a, b) at (operands .put-operands .ensures .1);
         spans = spans .put-spans .ensures .1;
-        port0 = port0 .before .source-code .ensures .1;
-        port1 = port1 .before .source-code2 .ensures .1;
+        port0 = code0 .source-code .ensures .1;
+        port1 = code1 .source-code2 .ensures .1;
       },
     )
 

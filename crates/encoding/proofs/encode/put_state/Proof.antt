@@ -38,17 +38,20 @@ returns : tie.Need-returns
 unfolding state-words
 returns c =
     let mark = c .before .before in
-    let side = mark .before .before .before .before .before in
-    let output = side .before .before .before .before .before in
+    let mark-code = mark .before in
+    let side = mark-code .before .before .before .before in
+    let side-code = side .before in
+    let output = side-code .before .before .before .before in
     let signal = output .before .before .before .before in
     let held = signal .before .before .before .before in
-    let count = held .before .before .before .before .before in
+    let told = held .before in
+    let count = told .before .before .before .before in
     let start = count .before .before .before in
-    let back = toZ-ofZ w64 (start .args .s .held) (record { sfits = held .before .struct-told .given .1 .0 .1 }) in
+    let back = toZ-ofZ w64 (start .args .s .held) (record { sfits = told .struct-told .given .1 .0 .1 }) in
     let two = words-then (count .put-word .ensures .0) (held .put-signed .ensures .0) in
     let two = simp back at two in
     let last = words-then (side .put-word2 .ensures .0) (mark .put-word3 .ensures .0) in
-    let last = simp (side .before .side-code .ensures, mark .before .mark-code .ensures) at last in (
+    let last = simp (side-code .side-code .ensures, mark-code .mark-code .ensures) at last in (
       words-then two (words-then (signal .put-signal .ensures .0) (words-then (output .put-signal2 .ensures .0) last)),
       record {
         local = count .put-word .ensures .1;

@@ -27,12 +27,13 @@ same-length c = search needs
 returns : tie.Need-returns
 unfolding refused-at-line
 returns c =
-    let last = c .before .before in
-    let third = last .before .before .before .before in
-    let second = third .before .before .before .before in
-    let first = second .before .before .before .before .before in
-    let put = put-then (put-then (put-then (first .put-refusal .ensures) (second .put-text .ensures)) (third .put-decimal .ensures)) (last .put-byte .ensures) in
-    simp append-assoc at put
+    let feed = c .before .before in
+    let position = feed .before .before .before .before in
+    let text = position .before .before .before .before in
+    let refusal : tie.After-put-refusal = text .before .before .before .before .before in
+    let begun = put-then (refusal .put-refusal .ensures) (text .put-text .ensures) in
+    let whole = put-then (put-then begun (position .put-decimal .ensures)) (feed .put-byte .ensures) in
+    simp append-assoc at whole
 
 pub put-refused-at-line-spec : {M : Type 1} → statement M
 put-refused-at-line-spec =

@@ -26,6 +26,20 @@ Inv-loop buf model line₀ at₀ end i₀ line at i =
 abbrev μ-loop : tie.MeasureT-loop
 μ-loop buf model line₀ at₀ end i₀ line at i = end - i
 
+-- from the loop back to the numbers that the line begins with, from there to the test of the answer's number, and to the start
+abbrev numbers-of : tie.At-loop Inv-loop μ-loop → tie.After-put-numbers Inv-loop μ-loop
+numbers-of loop = loop .before .before .before
+
+abbrev committed-of : tie.After-put-numbers Inv-loop μ-loop → tie.Else1 Inv-loop μ-loop
+committed-of numbers = numbers .before .before .before
+
+abbrev start-of : tie.Else1 Inv-loop μ-loop → tie.Start Inv-loop μ-loop
+start-of committed = committed .before .before .before
+
+-- from an output that was put back to the turn of the loop that puts it
+abbrev turn-of : tie.After-put-output Inv-loop μ-loop → tie.At-loop Inv-loop μ-loop
+turn-of put = put .before .before .before .before .before
+
 -- the model has 32 places for parts: what holding the answer tells of that field
 parts-room : (c : tie.Start Inv-loop μ-loop) → length (c .args .answer .model .parts) ≡ 32
 parts-room c =
@@ -90,10 +104,11 @@ loop-less c = omega arith
 
 loop-again : tie.Need-loop-again Inv-loop μ-loop
 loop-again c =
-    let turn = c .before .before .before .before .before .before in
-    let start = turn .before .before .before .before .before .before .before .before .before in
+    let output = c .before in
+    let turn = turn-of output in
+    let start = start-of (committed-of (numbers-of turn)) in
     let parts = start .args .answer .model .parts in
-    let put = put-then (turn .loop .inv .2) (c .before .put-output .ensures) in
+    let put = put-then (turn .loop .inv .2) (output .put-output .ensures) in
     let inside : turn .loop .i < length parts = omega (arith, parts-room start) in
     let more = outputs-more parts (turn .loop .i) blank-part inside in
     (omega arith, omega arith, put-as put more (rw (← more) (omega arith)))
@@ -121,12 +136,12 @@ returns-2 c =
     let written = c .before .before in
     let ended = written .before .before .before .before in
     let loop = ended .before .before .before in
-    let begun = loop .before .before .before in
-    let test = begun .before .before .before in
-    let start = test .before .before .before in
+    let numbers = numbers-of loop in
+    let committed = committed-of numbers in
+    let start = start-of committed in
     let count : loop .loop .i ≡ min (start .args .answer .model .count) 32 = omega arith in
-    rw (← line-built (start .args .answer) (test .if1 .left) (parts-room start) count
-    (begun .put-numbers .ensures) (loop .loop .inv .2) (ended .put-byte .ensures))
+    rw (← line-built (start .args .answer) (committed .if1 .left) (parts-room start) count
+    (numbers .put-numbers .ensures) (loop .loop .inv .2) (ended .put-byte .ensures))
     (bounded 1024 (written .write-text .ensures) (simp length-take (omega arith)))
 
 pub write-answer-spec : {M : Type 1} → statement M

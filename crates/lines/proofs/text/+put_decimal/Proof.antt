@@ -71,7 +71,8 @@ module _ (t : ℕ) where
 
   put-byte-requires-2 : put-decimal-lts.Need-put-byte-requires-2 callees given put-decimal.Post
   put-byte-requires-2 c κs =
-      let start = c .before .before .before .before .before .before .before .before in
+      let tenth = c .before .before .before .before in
+      let start = tenth .before .before .before .before in
       omega (arith, few-digits 18 (start .args .n / 10) (omega arith))
 
   same-length-2 : put-decimal-lts.Need-same-length-2 callees given put-decimal.Post
@@ -80,9 +81,10 @@ module _ (t : ℕ) where
   returns-2 : put-decimal-lts.Need-returns-2 callees given put-decimal.Post
   returns-2 c =
       let call = c .before .before in
-      let tenth = call .before .before .before .before .before in
+      let digit = call .before in
+      let tenth = digit .before .before .before .before in
       let large = tenth .before .before in
-      last (call .before .last-digit2 .ensures) (large .before .before .fits .n) (large .if1 .left) (tenth .put-decimal .ensures)
+      last (digit .last-digit2 .ensures) (large .before .before .fits .n) (large .if1 .left) (tenth .put-decimal .ensures)
       (call .put-byte2 .ensures)
 
 pub +put-decimal-spec : {M : Type 1} → statement M

@@ -43,10 +43,11 @@ unfolding signal-text
 returns-2 c =
     let call = c .before .before in
     let told = call .before .before in
-    let first = told .before .before .before .before .before in
-    let v = told .before .output .given .0 .0 in
+    let present = told .before in
+    let first = present .before .before .before .before in
+    let v = present .output .given .0 .0 in
     let back = toZ-ofZ w64 v (record { sfits = told .known-told .given .0 .1 }) in
-    rw (told .before .output .given .1, ← back) (put-then (first .put-byte .ensures) (call .put-value .ensures))
+    rw (present .output .given .1, ← back) (put-then (first .put-byte .ensures) (call .put-value .ensures))
 
 pub put-output-spec : {M : Type 1} → statement M
 put-output-spec =

@@ -43,9 +43,10 @@ loop-less c = omega arith
 
 loop-again : tie.Need-loop-again Inv-loop μ-loop
 loop-again c =
-    let turn = c .before .before .before .before .before .before in
-    let inside = c .before .before .before .before .before .loop-test .taken in
-    (omega arith, omega arith, byte-more _ inside (turn .loop .inv .2) (c .before .before .put-byte .ensures))
+    let put = c .before .before in
+    let test = put .before .before .before in
+    let turn = test .before in
+    (omega arith, omega arith, byte-more _ (test .loop-test .taken) (turn .loop .inv .2) (put .put-byte .ensures))
 
 same-length : tie.Need-same-length Inv-loop μ-loop
 same-length c = search needs

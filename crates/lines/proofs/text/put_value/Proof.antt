@@ -1,15 +1,15 @@
 -- `put_value` puts a hyphen before the magnitude of a negative value, and the magnitude alone of another.
 use native.Mathlib.Omega.{arith}
 use mathlib.Core.Path.{_≡_, refl}
-use mathlib.Core.Bool.{true, false, true≢false}
+use mathlib.Core.Bool.{true, false}
 use mathlib.Core.List.{_∷_}
-use lib.IntN.{ℤ, pos, negsuc, natAbs}
+use lib.IntN.{ℤ, pos, natAbs}
 use lib.Signed.{ltZ}
 use mir.Syntax.{w64}
 use mir.ValLaws.{toZ-ofZ}
 use borrow.Author.Needs.{needs}
-use borrow.Author.Tests.{ltb-true}
 use Rattle.machine.specs.Rehearse.{decimal, hyphen, signed-decimal}
+use Rattle.laws.specs.Signed.{negative, not-negative}
 use Rattle.lines.specs.Pieces.{put-then, put-as}
 use Rattle.lines.proofs.text.put_value.Statement.{statement}
 use Rattle.lines.proofs.text.put_value.Tie as tie
@@ -17,13 +17,11 @@ use Rattle.lines.proofs.text.put_value.Tie as tie
 -- a value's text, by its sign
 of-negative : (v : ℤ) → ltZ v (pos 0) ≡ true → signed-decimal v ≡ hyphen ∷ decimal (natAbs v)
 unfolding signed-decimal
-of-negative (pos n) negative = absurd (omega (arith, ltb-true n 0 negative))
-of-negative (negsuc n) negative = refl
+of-negative v below = rw (negative v below) refl
 
 of-other : (v : ℤ) → ltZ v (pos 0) ≡ false → signed-decimal v ≡ decimal (natAbs v)
 unfolding signed-decimal
-of-other (pos n) left = refl
-of-other (negsuc n) left = absurd (true≢false left)
+of-other v from = rw (not-negative v from) refl
 
 put-byte-requires : tie.Need-put-byte-requires
 put-byte-requires c κs = search needs
@@ -40,11 +38,12 @@ same-length c = search needs
 returns : tie.Need-returns
 returns c =
     let call = c .before .before in
-    let hyphened = call .before .before .before .before .before in
+    let measured = call .before in
+    let hyphened = measured .before .before .before .before in
     let test = hyphened .before .before in
     let start = test .before .before in
     let back = toZ-ofZ w64 (start .args .v) (start .fits .v) in
-    rw (of-negative (start .args .v) (rw back at (test .if1 .taken)), ← (rw back at (call .before .magnitude .ensures)))
+    rw (of-negative (start .args .v) (rw back at (test .if1 .taken)), ← (rw back at (measured .magnitude .ensures)))
     (put-then (hyphened .put-byte .ensures) (call .put-decimal .ensures))
 
 magnitude-requires-2 : tie.Need-magnitude-requires-2

@@ -7,8 +7,8 @@ use borrow.Author.Tests.{ltb-false}
 use Rattle.machine.specs.declared.part.Kind.the-variants.{Constant}
 use Rattle.machine.specs.Kind.{kinds, kind-known, kind-of}
 use borrow.Author.Needs.{needs}
-use Rattle.reading.proofs.progress.kind_at.Statement.{statement}
-use Rattle.reading.proofs.progress.kind_at.Tie as tie
+use Rattle.kinds.proofs.kind.kind_at.Statement.{statement}
+use Rattle.kinds.proofs.kind.kind_at.Tie as tie
 
 -- a number that no kind has stands for the first kind
 none-has : (number : ℕ) → kind-known number ≡ false → kind-of number ≡ Constant
