@@ -25,15 +25,19 @@ first-of-requires-2 c κs = search needs
 returns : tie.Need-returns
 unfolding end-number
 returns c =
-    let args = c .before .before .before .before .before .args in
+    let later = c .before in
+    let unplaced = later .before in
+    let unfit = unplaced .before in
+    let empty = unfit .before in
+    let args = empty .before .args in
     let fit = args .fit in
     let closed = ltb (args .placed) (args .count) in
     rw (
       c .first-of2 .ensures,
-      c .before .first-of .ensures,
-      c .before .before .refusal3 .ensures,
-      c .before .before .before .refusal2 .ensures,
-      c .before .before .before .before .refusal .ensures,
+      later .first-of .ensures,
+      unplaced .refusal3 .ensures,
+      unfit .refusal2 .ensures,
+      empty .refusal .ensures,
       first-refusal (not fit) 9 (cond closed 11 0),
       cond-not fit 10 (cond closed 11 0),
       first-refusal (eqb (args .count) 0) 8 (cond fit (cond closed 11 0) 10),

@@ -48,8 +48,9 @@ loop-less c = omega arith
 
 loop-again : tie.Need-loop-again Inv-loop μ-loop
 loop-again c =
-    let loop = c .before .before .before .loop in
-    let start = c .before .before .before .before .before in
+    let turn = c .before .before .before in
+    let loop = turn .loop in
+    let start = turn .before .before in
     let parts = start .args .t1 in
     let full : length parts ≡ 32 = omega arith in
     let here : loop .i < length parts = omega arith in (
