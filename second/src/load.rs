@@ -117,7 +117,8 @@ struct Reading {
 }
 
 impl Reading {
-    /// The command at the front of these bytes and the bytes behind it, if it is known, in its place and whole.
+    /// The command at the front of these bytes and the bytes behind it, or the number of its refusal: where it is not
+    /// known, not in its place or not whole.
     fn command<'a>(&self, bytes: &'a [u8]) -> Result<(Command, &'a [u8]), u8> {
         let Some((&code, operands)) = bytes.split_first() else {
             return Err(CUT);
@@ -140,7 +141,7 @@ impl Reading {
         Ok(read)
     }
 
-    /// Takes a command into the table; End changes nothing of it.
+    /// Takes a command into the table, or tells the number of its refusal; End changes nothing of the table.
     fn take(&mut self, command: Command) -> Result<(), u8> {
         self.span_may_follow = false;
         match command {
@@ -152,6 +153,7 @@ impl Reading {
         }
     }
 
+    /// Begin, with the default magnitude.
     fn take_begin(&mut self, e: u8) -> Result<(), u8> {
         if e > LARGEST_MAGNITUDE {
             return Err(OUT_OF_RANGE);
@@ -160,6 +162,7 @@ impl Reading {
         Ok(())
     }
 
+    /// A Part with these operands.
     fn take_part(&mut self, kind: u8, preference: u8, a: i32, b: i32, p: u32) -> Result<(), u8> {
         if self.parts.len() == MOST_PARTS {
             return Err(TOO_MANY);
@@ -172,6 +175,7 @@ impl Reading {
         Ok(())
     }
 
+    /// A Span of the last part.
     fn take_span(&mut self, span: u32) -> Result<(), u8> {
         let Some(Part { kind: Kind::Drive { spans, .. }, .. }) = self.parts.last_mut() else {
             return Err(OUT_OF_PLACE);
@@ -190,6 +194,7 @@ impl Reading {
         Ok(())
     }
 
+    /// A Wire into a port of the part `reader`.
     fn take_wire(&mut self, source: u8, reader: u8, port: u8) -> Result<(), u8> {
         let port = usize::from(port);
         let count = self.parts.len();

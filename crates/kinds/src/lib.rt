@@ -1,5 +1,6 @@
-// What loading and the test of soundness both ask of kinds, operands, magnitudes, ratios, sources, spans
-// and components. Each answer is the machine's own definition of it.
+// What loading and the test of soundness ask of kinds, operands, magnitudes, ratios, sources, spans and
+// components, and the numbers of the kinds, which a model's bytes hold too. Each answer is the machine's own
+// definition of it.
 pub mod component;
 pub mod kind;
 pub mod operand;
