@@ -14,7 +14,7 @@ pub const MODEL_BYTES: usize = 6688;
 pub const LOADED_BYTES: usize = 6704;
 pub const ANSWER_BYTES: usize = 6728;
 
-/// The kinds of part, with their numbers.
+/// The kinds of part, in the order of their numbers.
 #[derive(Clone, Copy, Debug, PartialEq, Eq)]
 pub enum Kind {
     Constant,

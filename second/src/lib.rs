@@ -1,4 +1,4 @@
-//! A second implementation of the rehearsal master, written from the document alone and sharing nothing with the
+//! A second implementation of the rehearsal master, by document 01 alone and sharing nothing with the
 //! verified one. It is what the verified program is compared with, and the baseline of the benchmark.
 
 pub mod advance;

@@ -39,7 +39,7 @@ fn span_beside(s: &[u8], at: usize, progress: Progress, rows: [[u32; SPANS]; PAR
     span(s, at, progress, last)
 }
 
-// The command with byte b at a position, behind the progress and its rows: any but End and Want.
+// The command with byte b at a position, behind the progress and its rows: any but End and a wanted step.
 fn command(s: &[u8], at: usize, progress: Progress, rows: [[u32; SPANS]; PARTS], b: u8) -> SpanStep
     requires { ⌜ (at < length (now s)) × (progress .count ≤ 32) × (0 < b) × (b < 5) × (b ≡ 3 → Spannable progress) ⌝ }
     ensures { λ r. ⌜ step-of (rows-behind b progress rows (r .span)) at (r .step) ≡
