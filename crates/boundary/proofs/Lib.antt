@@ -1,2 +1,2 @@
--- Laws that the proofs of this crate cite.
+-- A model's bytes within the bytes of an answer mean that model.
 mod Again

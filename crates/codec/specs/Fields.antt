@@ -47,6 +47,7 @@ four-sum v =
     (joined (v % 256) (v / 256 % 256) (v / 65536 % 256) (v / 65536 / 256 % 256) (v % 65536) (v / 65536 % 65536) (v % 4294967296) (two-sum v)
     (two-sum (v / 65536)) (quarters v))
 
+-- two halves of four bytes hold a number modulo 2^64
 halves : (v : ℕ) → v % 4294967296 + 4294967296 * (v / 4294967296 % 4294967296) ≡ in-word v
 halves v = omega arith
 

@@ -1,2 +1,2 @@
--- Laws that the proofs of this crate cite.
+-- The bytes of an answer, put piece by piece.
 mod Answers

@@ -1,4 +1,4 @@
--- What the contracts and proofs of this crate cite beside the machine's definitions.
+-- What soundness asks of one part, of a model with its unused places, and of a whole model test by test.
 pub mod Parts
 pub mod Trimmed
 pub mod Whole

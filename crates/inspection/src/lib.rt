@@ -1,4 +1,4 @@
-// The test of soundness, which every call that takes a model asks first. Its contract cites the machine's
+// The test of soundness, which advancing asks first. Its contract cites the machine's
 // `specs/Sound.antt`.
 use crate::parts::parts_fit;
 use crate::survey::surveyed;

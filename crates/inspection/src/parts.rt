@@ -1,5 +1,5 @@
-// The tests of the parts of a model, one by one. Its contracts cite the machine's `specs/Sound.antt`, and
-// `specs/Parts.antt`, which gathers what soundness asks of one part.
+// The tests of the parts of a model, one by one. Its contracts cite `specs/Parts.antt`, which
+// gathers what the machine's `specs/Sound.antt` asks of one part.
 use kinds::component::component_fits;
 use kinds::range::is_signal;
 use kinds::range::is_value;

@@ -1,5 +1,5 @@
 // The kinds by their numbers, which of them is the drive, and which hold a number.
-// Its contracts cite the machine's `specs/Kind.antt` and `specs/Load.antt`.
+// Its contracts cite the machine's `specs/Kind.antt` and `specs/Load.antt`, and `specs/Found.antt`.
 use machine::part::Kind;
 ghost use mathlib.Core.Path.{_≡_};
 ghost use Rattle.machine.specs.Kind.{integrates, kind-number, kind-of};

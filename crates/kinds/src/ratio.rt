@@ -1,5 +1,5 @@
 // The master's magnitude, ratios, and whether a P is within the time.
-// Its contracts cite the machine's `specs/Time.antt`, and `specs/Table.antt` for P.
+// Its contracts cite the machine's `specs/Time.antt`.
 use crate::range::NO_PREFERENCE;
 use machine::time::Point;
 ghost use mathlib.Core.Path.{_≡_};

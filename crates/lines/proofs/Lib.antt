@@ -1,4 +1,4 @@
--- Laws that the proofs of this crate cite.
+-- Digits, outputs one after the other, and the bounds of a line.
 mod Decimal
 mod Outputs
 mod Bounds

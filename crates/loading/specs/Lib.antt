@@ -1,4 +1,4 @@
--- What the contracts and proofs of this crate cite beside `machine`'s definitions.
+-- The places of a table's parts, no model, what End comes to, positions; and what `load`'s contract comes to for a caller (`Owed`).
 pub mod Places
 pub mod Blank
 pub mod Ending

@@ -1,4 +1,5 @@
-// The parts of a table before the start point is filled. Its contracts cite the machine's `specs/Fresh.antt`, and `specs/Places.antt`.
+// The parts of a table before the start point is filled. Its contracts cite `specs/Places.antt`, which goes by the machine's
+// `specs/Fresh.antt`.
 use crate::blank::blank_part;
 use kinds::kind::holds_number;
 use kinds::ratio::ratio_of;

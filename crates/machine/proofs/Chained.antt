@@ -29,6 +29,7 @@ no-spares-then (suc zero) h = refl
 no-spares-then (suc (suc zero)) h = refl
 no-spares-then (suc (suc (suc i))) h = absurd (omega arith)
 
+-- the first call keeps what `advance` promises
 first-call : Advanced crossing 8 (advance crossing 8)
 unfolding computing
 first-call =
@@ -38,6 +39,7 @@ first-call =
       unused = record { orders = refl; parts = refl; spans = no-spares };
     }
 
+-- and so does the second, from the model of the first one's answer
 second-call : Advanced then-crossing 8 (advance then-crossing 8)
 unfolding computing
 second-call =
@@ -47,6 +49,7 @@ second-call =
       unused = record { orders = refl; parts = refl; spans = no-spares-then };
     }
 
+-- the two calls form a chain
 pub chained : Chain crossing (machine-calls crossing (8 ∷ 8 ∷ []))
 unfolding computing
 chained = (refl, first-call, (refl, second-call, tt))

@@ -232,7 +232,7 @@ unfoldable pub side-after : Side → Signal → Side
 side-after s Absent = s
 side-after s (Value v) = side-of v
 
--- the mark, by the sides before and after: 1 (now not negative), −1, or none where they are the same or the side was unset
+-- the mark, by the sides before and after: 1 (now not negative), −1, or none where they are the same or either is unset
 abbrev pub mark-between : Side → Side → Mark
 mark-between Unset s = Clear
 mark-between Negative Unset = Clear

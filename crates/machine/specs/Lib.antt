@@ -1,5 +1,5 @@
--- Document 01's machine as definitions, a file for each of its sections, to be read from top to bottom. They compute: together they are an
--- executable machine. Every promise in this repository cites them, and none of them is taken from code.
+-- Document 01's machine as definitions, in files by its sections, to be read from top to bottom. They compute: together they are an
+-- executable machine. The promise of every public call cites them, and none of them is taken from code.
 pub mod Lists
 pub mod Time
 pub mod Signal

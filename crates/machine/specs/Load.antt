@@ -275,7 +275,7 @@ abbrev pub read-on : Read → (ℕ → Reading → Loaded) → Loaded
 read-on (onward at rd) on = on at rd
 read-on (ended r) on = r
 
--- reading for at most n turns; each turn that goes on takes a byte or more, so that as many turns as there are bytes, and one, are never all taken
+-- reading for at most n turns; each turn that goes on takes a byte or more, so that as many turns as there are bytes, and one, are never all taken without an end
 unfoldable pub read-from : ℕ → List ℕ → ℕ → Reading → Loaded
 read-from zero bs at rd = refused 1 (length bs)
 read-from (suc n) bs at rd = read-on (read-turn bs at rd) (read-from n bs)

@@ -18,7 +18,7 @@ use Rattle.machine.specs.Load.{load}
 use Rattle.machine.specs.Advance.{advance}
 use Rattle.machine.specs.Score.{score-at}
 
--- the characters that a line has besides digits
+-- the characters that a line has besides digits and the words below
 abbrev pub blank : ℕ
 blank = 32
 
@@ -35,7 +35,7 @@ refused-text = 114 ∷ 101 ∷ 102 ∷ 117 ∷ 115 ∷ 101 ∷ 100 ∷ blank ∷
 abbrev pub at-text : List ℕ
 at-text = blank ∷ 97 ∷ 116 ∷ blank ∷ []
 
--- a number's decimal digits in front of the characters given, in at most f + 1 places; n + 1 places are more than n has
+-- a number's decimal digits in front of the characters given, in at most f + 1 places; n has no more digits than n + 1
 unfoldable pub digits-before : ℕ → ℕ → List ℕ → List ℕ
 digits-before zero n cs = (48 + n % 10) ∷ cs
 digits-before (suc f) n cs =
@@ -56,12 +56,12 @@ unfoldable pub signal-text : Signal → List ℕ
 signal-text Absent = hyphen ∷ []
 signal-text (Value v) = signed-decimal v
 
--- "each part's output", by part number, with "one blank between"
+-- "each part's output in part order", read as by part number (docs/DECISIONS.md, reading 1), with "one blank between"
 unfoldable pub outputs-text : List Part → List ℕ
 outputs-text [] = []
 outputs-text (p ∷ ps) = blank ∷ (signal-text (p .state .output) ++ outputs-text ps)
 
--- "A line holds t, n, step, rounds, revisions, then each part's output"
+-- "A line holds t, n, step, rounds, revisions, then each part's output in part order"
 unfoldable pub committed-line : Answer → List ℕ
 committed-line r =
     decimal (tick (r .model .point)) ++ (blank ∷
@@ -89,7 +89,7 @@ score-lines End on call = []
 score-lines (Wanted w next) on call = answer-line (call w) ++ on (call w) next
 score-lines (Refused number position) on call = refused-at-line number position
 
--- the lines of at most n score commands; each takes a byte or more, so that as many as there are bytes, and one, are never all taken
+-- the lines of at most n score commands; each takes a byte or more, so that as many as there are bytes, and one, are never all taken without an end
 unfoldable pub lines-from : ℕ → List ℕ → ℕ → Model → List ℕ
 lines-from zero bs at m = []
 lines-from (suc n) bs at m = score-lines (score-at bs at) (λ r next. lines-from n bs next (r .model)) (advance m)

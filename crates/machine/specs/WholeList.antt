@@ -1,5 +1,6 @@
 -- Document 01, "One advance", the paragraph "Demand 3 is a single claim about the whole list": the claim, as one statement about a list of calls
--- from a model. It speaks of any list, so that it can be false of one. Assumes nothing.
+-- from a model. Words in quotation marks that are not document 01's are the third demand's own. It speaks of any list, so that it can be false of one.
+-- Assumes nothing.
 use Prim.Native.Nat.{ℕ, _+_, _*_, _/_, _≤_, _<_}
 use mathlib.Core.Path.{_≡_}
 use mathlib.Core.List.{List, [], _∷_, List·Memᴰ}

@@ -25,7 +25,7 @@ pub enum Comparison {
     Later,
 }
 
-// Where a step leads: to a point of the time, or past the last one.
+// Where a step leads: to a point of the time, or to none (`Past`).
 pub enum Stepped {
     To(Point),
     Past,
@@ -87,7 +87,7 @@ impl Point {
         Comparison::Same
     }
 
-    // The point that a step of `h` leads to, unless it lies past the last one.
+    // The point that a step of `h` leads to, where that is a point of the time.
     pub fn step(self, h: u64) -> Stepped
         ensures { λ r. ⌜ r ≡ stepped self h ⌝ }
     {

@@ -1,4 +1,4 @@
--- What the contracts and proofs of this crate cite beside `machine`'s definitions.
+-- Questions asked of all parts, the search turn by turn, what bars a call; and demand 3 of the calls themselves (`EveryList`).
 pub mod Asked
 pub mod Searching
 pub mod Barring

@@ -1,6 +1,6 @@
 // The search for the step of one advance, of a sound model.
 //
-// Its contracts cite `machine`'s `specs/Advance.antt` and this crate's `specs/Searching.antt`.
+// Its contracts cite this crate's `specs/Searching.antt`, which goes by `machine`'s `specs/Advance.antt`.
 use crate::asking::any_due_of;
 use crate::asking::any_objects_of;
 use crate::asking::round_of;

@@ -1,7 +1,8 @@
 // The order of parts. Those still unplaced are marks in one 32-bit word: trailing zeros find the lowest
 // marked part, and the count of ones falls with each part placed.
 //
-// The contracts cite `part-order` of the machine's specs/Table.antt.
+// The contracts cite this crate's `specs/Direct.antt` and `specs/Order.antt`, where the order is
+// `part-order` of the machine's `specs/Table.antt`.
 use kinds::port::direct0_of;
 use kinds::port::direct1_of;
 use machine::model::PARTS;

@@ -1,3 +1,3 @@
--- What the contracts and proofs of this crate cite beside `machine`'s definitions.
+-- The ranges that the functions on one part ask for, and states with one field changed.
 pub mod Ranges
 pub mod States

@@ -15,7 +15,8 @@
 // goes on at a place puts the new link over it, so that no later walk meets it: all walks together
 // go on at most once at each place, and each walk ends once.
 //
-// The contracts cite `part-order` of the machine's specs/Table.antt.
+// The contract of the test cites `part-order` of the machine's `specs/Table.antt`, those of its parts
+// this crate's `specs/Times.antt` and `specs/Links.antt`.
 use machine::model::PARTS;
 use machine::part::Source;
 use placing::Direct;

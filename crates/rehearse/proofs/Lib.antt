@@ -1,2 +1,2 @@
--- Laws that the proofs of this crate cite.
+-- The lines of a score, split where the buffer is written.
 mod Lines

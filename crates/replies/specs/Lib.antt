@@ -1,2 +1,2 @@
--- What the contracts and proofs of this crate cite beside `machine`'s definitions.
+-- What a part is to be for a question about a step to be asked of it.
 pub mod Asked

@@ -1,6 +1,6 @@
 // The longest step of at most h that a part accepts.
 //
-// Its contracts cite `machine`'s `specs/Accept.antt`.
+// Its contracts cite `machine`'s `specs/Accept.antt`, and this crate's `specs/Asked.antt`.
 use crate::due::due_of;
 use crate::span::allowed;
 use crate::span::largest_below;

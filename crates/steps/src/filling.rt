@@ -1,6 +1,6 @@
 // The outputs of a point, filled in part order.
 //
-// Its contract cites `machine`'s `specs/Step.antt`.
+// Its contract cites `machine`'s `specs/Step.antt`, and this crate's `specs/Trimmed.antt` and `specs/Fillable.antt`.
 use crate::port::heard_of;
 use crate::port::source_index;
 use machine::model::Model;

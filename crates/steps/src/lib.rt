@@ -1,6 +1,6 @@
 // The steps of a whole model: every part moved, the outputs of a point filled in part order, every part
-// settled, and the step that these make; and the start point filled. Each function's contract is an
-// equation with a definition of `machine`.
+// settled, and the step that these make; and the start point filled. The contracts cite
+// definitions of `machine` and of this crate's `specs/`.
 mod filling;
 mod moving;
 pub mod port;

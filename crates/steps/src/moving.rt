@@ -1,6 +1,6 @@
 // Every part of a model moved by a step.
 //
-// Its contract cites `machine`'s `specs/Step.antt`.
+// Its contract cites `machine`'s `specs/Step.antt`, and this crate's `specs/Trimmed.antt`.
 use crate::port::heard_of;
 use crate::port::source_index;
 use machine::model::Model;

@@ -1,6 +1,7 @@
 // Every part of a model settled, once the outputs of the point are there.
 //
-// Its contract cites `machine`'s `specs/Step.antt`.
+// Its contracts cite `machine`'s `specs/Step.antt`, and this crate's `specs/Trimmed.antt`, `specs/Fillable.antt` and
+// `specs/Settling.antt`.
 use crate::filling::filled_model;
 use crate::port::heard_of;
 use crate::port::source_index;

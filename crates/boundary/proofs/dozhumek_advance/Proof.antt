@@ -1,4 +1,4 @@
--- `dozhumek_advance` advances the model that the bytes mean, and writes that answer.
+-- `dozhumek_advance` advances the model that the bytes mean, and writes that answer; taken out again, the model's bytes mean its model (`Again.antt`).
 use borrow.Author.Needs.{needs}
 use Rattle.boundary.proofs.Again.{answer-again}
 use Rattle.boundary.proofs.dozhumek_advance.Statement.{statement}

@@ -1,4 +1,4 @@
--- `dozhumek_load` loads the stream, and writes that answer.
+-- `dozhumek_load` loads the stream, and writes that answer; taken out again, the model's bytes mean that model (`Again.antt`).
 use borrow.Author.Needs.{needs}
 use Rattle.boundary.proofs.Again.{loaded-again}
 use Rattle.boundary.proofs.dozhumek_load.Statement.{statement}

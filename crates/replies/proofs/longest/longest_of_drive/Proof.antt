@@ -1,5 +1,5 @@
 -- `longest_of_drive` makes the definition's test of d. Where d fails it, d is not 0, and so the largest of 0 and the spans below d is less than d:
--- one local tick more than it adds, in master ticks, is no more than d.
+-- one local tick more is at most d, so that in master ticks it is within d × r, and so within the time.
 use Prim.Native.Nat.{ℕ, _+_, _*_, _<_, _≤_}
 use native.Mathlib.Nat.{le-trans, mul-le-mul-right}
 use native.Mathlib.Omega.{arith}
