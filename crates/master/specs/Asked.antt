@@ -8,7 +8,6 @@ use mathlib.Core.Bool.{Bool, true, false, _||_}
 use mathlib.Core.List.{[], _∷_}
 use lib.ListN.{length, drop, drop-of-length-le}
 use lib.Seq.{drop-cons}
-use Rattle.machine.specs.declared.time.Point.{Point}
 use Rattle.machine.specs.declared.signal.Signal.{Signal}
 use Rattle.machine.specs.declared.part.Part.{Part}
 use Rattle.machine.specs.declared.model.Model.{Model}
@@ -17,7 +16,7 @@ use Rattle.machine.specs.Time.{last-tick, tick, local-count}
 use Rattle.machine.specs.Kind.{period}
 use Rattle.machine.specs.Model.{blank-part, part-at, reading0, trimmed, trimmed-part, trimmed-component}
 use Rattle.machine.specs.Sound.{sound}
-use Rattle.machine.specs.Accept.{Class, waiting, delaying, detecting, driving, free, class-of, due, due-as, longest}
+use Rattle.machine.specs.Accept.{Class, waiting, delaying, detecting, driving, free, class-of, due, longest}
 use Rattle.machine.specs.Advance.{least, objects, objects-as}
 use Rattle.laws.specs.Bools.{or-left}
 use Rattle.laws.specs.Lists.{all-at}
@@ -26,6 +25,7 @@ use Rattle.soundness.specs.Facts.{sound-facts}
 use Rattle.soundness.specs.SoundParts.{sound-component}
 use Rattle.acceptance.specs.SoundParts.{sound-fit, sound-few}
 use Rattle.replies.specs.Asked.{AskFits}
+use Rattle.replies.specs.Trimmed.{due-trimmed}
 use Rattle.steps.specs.Reading.{part-trimmed, reading-trimmed}
 use Rattle.steps.specs.Fillable.{Wired, wired-places, wired-at}
 use Rattle.steps.specs.SoundParts.{sound-wired, sound-periods}
@@ -34,19 +34,7 @@ use Rattle.steps.specs.SoundParts.{sound-wired, sound-periods}
 sound-spans : (m : Model) → sound m ≡ true → (i : ℕ) → i < length (m .parts) → part-at (m .parts) i .component .«span_count» ≤ 8
 sound-spans m is-sound i within = rw (sound-component m is-sound i within .counted) (sound-few m is-sound i within)
 
--- whether a part is due, and whether it objects, reads nothing that trimming cuts away
-due-as-trimmed : (c : Class) (p : Part) (now : Point) (x : Signal) → due-as c (trimmed-part p) now x ≡ due-as c p now x
-unfolding due-as trimmed-part trimmed-component
-due-as-trimmed waiting p now x = refl
-due-as-trimmed delaying p now x = refl
-due-as-trimmed detecting p now x = refl
-due-as-trimmed driving p now x = refl
-due-as-trimmed free p now x = refl
-
-due-trimmed : (p : Part) (now : Point) (x : Signal) → due (trimmed-part p) now x ≡ due p now x
-unfolding due trimmed-part trimmed-component
-due-trimmed p now x = due-as-trimmed (class-of p) p now x
-
+-- whether a part objects reads nothing that trimming cuts away
 objects-as-trimmed : (c : Class) (h : ℕ) (p : Part) → objects-as c h (trimmed-part p) ≡ objects-as c h p
 unfolding objects-as trimmed-part trimmed-component
 objects-as-trimmed waiting h p = refl

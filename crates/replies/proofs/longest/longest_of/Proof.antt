@@ -20,24 +20,12 @@ use Rattle.machine.specs.Time.{gained, last-tick, local-count, tick}
 use Rattle.machine.specs.Kind.{kind-of, period}
 use Rattle.machine.specs.Model.{trimmed-component, trimmed-part}
 use Rattle.machine.specs.Step.{gain-of}
-use Rattle.machine.specs.Accept.{Class, waiting, delaying, detecting, driving, free, class, class-of, due, due-as, next-multiple, allowed, largest-below, last-adding, longest-as, longest}
+use Rattle.machine.specs.Accept.{Class, waiting, driving, class, class-of, due, next-multiple, allowed, largest-below, last-adding, longest-as, longest}
 use Rattle.laws.specs.Kinds.{of-kinds-left}
 use Rattle.point.specs.Ranges.{StepFits}
+use Rattle.replies.specs.Trimmed.{due-trimmed}
 use Rattle.replies.proofs.longest.longest_of.Statement.{statement}
 use Rattle.replies.proofs.longest.longest_of.Tie as tie
-
--- a part is due where the trimmed one is
-due-as-trimmed : (k : Class) (p : Part) (now : Point) (x : Signal) → due-as k (trimmed-part p) now x ≡ due-as k p now x
-unfolding due-as trimmed-part trimmed-component
-due-as-trimmed waiting p now x = refl
-due-as-trimmed delaying p now x = refl
-due-as-trimmed detecting p now x = refl
-due-as-trimmed driving p now x = refl
-due-as-trimmed free p now x = refl
-
-due-trimmed : (p : Part) (now : Point) (x : Signal) → due (trimmed-part p) now x ≡ due p now x
-unfolding due trimmed-part trimmed-component
-due-trimmed p now x = due-as-trimmed (class-of p) p now x
 
 -- the longest step of a part that is due
 due-longest : (p : Part) (now : Point) (x : Signal) (h : ℕ) → due p now x ≡ true → 0 ≡ longest (trimmed-part p) now x h
