@@ -56,7 +56,7 @@ module _ (old : List Part) (now : Point) where
       getD-set-other ps k i (shown old now ps (part-at ps k)) blank-part (λ e. out (List·Memᴰ·head e))
 
   -- filling goes on from what was filled
-  filled-append : (front ks : List ℕ) (ps : List Part) → filled old now (front ++ ks) ps ≡ filled old now ks (filled old now front ps)
+  pub filled-append : (front ks : List ℕ) (ps : List Part) → filled old now (front ++ ks) ps ≡ filled old now ks (filled old now front ps)
   unfolding filled
   filled-append [] ks ps = refl
   filled-append (k ∷ front) ks ps = filled-append front ks (set ps k (shown old now ps (part-at ps k)))

@@ -3,7 +3,7 @@
 use Prim.Native.Nat.{ℕ, _+_, _<_}
 use native.Mathlib.Numerals.{add-one}
 use mathlib.Core.Path.{_≡_, refl, sym, ap}
-use mathlib.Core.List.{List, [], _∷_, _++_}
+use mathlib.Core.List.{List, [], _∷_}
 use lib.ListN.{length, getD, set, take}
 use lib.Seq.{take-suc}
 use Rattle.machine.specs.declared.time.Point.{Point}
@@ -16,6 +16,7 @@ use Rattle.machine.specs.Kind.{output-as, output}
 use Rattle.machine.specs.Model.{part-at, reading0, reading1, trimmed, trimmed-part, trimmed-component}
 use Rattle.machine.specs.Step.{with-output, shown, filled}
 use Rattle.laws.specs.Partway.{mapped-places}
+use Rattle.ordering.specs.Filling.{filled-append}
 use Rattle.steps.specs.Reading.{SourceBelow, WiredBelow, reading-trimmed}
 use Rattle.steps.specs.Fillable.{Wired, reading-in-use}
 
@@ -36,24 +37,14 @@ output-as-trimmed Hold p now x y before = refl
 output-as-trimmed Sampler p now x y before = refl
 output-as-trimmed Drive p now x y before = refl
 
--- the parts `old` stand at the point before
-module _ (old : List Part) (now : Point) where
-  -- filling one output more
-  filled-added :
-      (ks : List ℕ) (k : ℕ) (ps : List Part) →
-      filled old now (ks ++ (k ∷ [])) ps ≡
-      set (filled old now ks ps) k (shown old now (filled old now ks ps) (part-at (filled old now ks ps) k))
-  unfolding filled
-  filled-added [] k ps = refl
-  filled-added (j ∷ ks) k ps = filled-added ks k (set ps j (shown old now ps (part-at ps j)))
-
-  -- that of the next number in the order
-  pub filled-next :
-      (order : List ℕ) (i : ℕ) (ps : List Part) → i < length order →
-      set (filled old now (take i order) ps) (getD order i 0)
-      (shown old now (filled old now (take i order) ps) (part-at (filled old now (take i order) ps) (getD order i 0))) ≡
-      filled old now (take (i + 1) order) ps
-  filled-next order i ps h = rw (add-one, take-suc order i 0) (sym (filled-added (take i order) (getD order i 0) ps))
+-- filling the output of the next number in the order; the parts `old` stand at the point before
+pub filled-next :
+    (old : List Part) (now : Point) (order : List ℕ) (i : ℕ) (ps : List Part) → i < length order →
+    set (filled old now (take i order) ps) (getD order i 0)
+    (shown old now (filled old now (take i order) ps) (part-at (filled old now (take i order) ps) (getD order i 0))) ≡
+    filled old now (take (i + 1) order) ps
+unfolding filled
+filled-next old now order i ps h = rw (add-one, take-suc order i 0) (sym (filled-append old now (take i order) (getD order i 0 ∷ []) ps))
 
 -- showing a part keeps its component
 pub shown-component : (old : List Part) (now : Point) (ps : List Part) (p : Part) → shown old now ps p .component ≡ p .component
