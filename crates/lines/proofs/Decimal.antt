@@ -1,6 +1,6 @@
 -- Laws of `decimal`: it is the digits of the tenth part with the last digit behind them, and a number below 10 ^ k has at most k digits.
--- The definition puts digits in front of characters, with fuel; that the characters stand behind, and that more fuel changes nothing, give the laws.
--- Assumes nothing.
+-- The definition puts digits in front of characters, with fuel; that the characters stand behind, and that more fuel changes nothing
+-- (`digits-enough` of `printing`), give the laws. Assumes nothing.
 use Prim.Native.Nat.{ℕ, zero, suc, _+_, _/_, _%_, _^_, _≤_, _<_}
 use native.Mathlib.Nat.{pow-suc}
 use native.Mathlib.Omega.{arith}
@@ -13,6 +13,7 @@ use lib.Dec.{ltb}
 use borrow.Author.Tests.{lt-ltb, le-ltb, ltb-true, ltb-false}
 use Rattle.machine.specs.Rehearse.{digits-before, decimal}
 use Rattle.laws.specs.Bools.{either}
+use Rattle.printing.specs.Fuel.{digits-enough}
 
 -- the characters given stand behind the digits
 before-append : (f n : ℕ) (cs : List ℕ) → digits-before f n cs ≡ digits-before f n [] ++ cs
@@ -28,23 +29,6 @@ before-append (suc f) n cs = cases (either (ltb n 10)) (before-append f (n / 10)
     cases (inl e) with-cs alone = simp e
     cases (inr e) with-cs alone = simp (e, with-cs, alone, append-assoc)
 
--- fuel of n or more is enough, whatever it is
-same-fuel : (f g n : ℕ) (cs : List ℕ) → n ≤ f → n ≤ g → digits-before f n cs ≡ digits-before g n cs
-unfolding digits-before
-same-fuel zero zero n cs p q = refl
-same-fuel zero (suc g) n cs p q = let e = lt-ltb n 10 (omega arith) in simp e
-same-fuel (suc f) zero n cs p q = let e = lt-ltb n 10 (omega arith) in simp e
-same-fuel (suc f) (suc g) n cs p q = cases (either (ltb n 10)) (same-fuel f g (n / 10) ((48 + n % 10) ∷ cs))
-  where
-    cases :
-        (ltb n 10 ≡ true) ⊎ (ltb n 10 ≡ false) →
-        (n / 10 ≤ f → n / 10 ≤ g → digits-before f (n / 10) ((48 + n % 10) ∷ cs) ≡ digits-before g (n / 10) ((48 + n % 10) ∷ cs)) →
-        digits-before (suc f) n cs ≡ digits-before (suc g) n cs
-    cases (inl e) later = simp e
-    cases (inr e) later =
-        let large = ltb-false n 10 e in
-        simp (e, later (omega arith) (omega arith))
-
 -- a number of one digit
 pub one-digit : (n : ℕ) → n < 10 → decimal n ≡ (48 + n % 10) ∷ []
 unfolding decimal digits-before
@@ -59,7 +43,7 @@ more-digits (suc f) h =
     let n = suc f in
     let e = le-ltb n 10 h in
     simp e (before-append f (n / 10) ((48 + n % 10) ∷ []) ∙
-    ap (λ l. l ++ ((48 + n % 10) ∷ [])) (same-fuel f (n / 10) (n / 10) [] (omega arith) (omega arith)))
+    ap (λ l. l ++ ((48 + n % 10) ∷ [])) (digits-enough f (n / 10) (n / 10) [] (omega arith) (omega arith)))
 
 -- how many digits a number has at most
 pub few-digits : (k n : ℕ) → n < 10 ^ suc k → length (decimal n) ≤ suc k
