@@ -1,12 +1,12 @@
--- A table whose components stand in the first places of an array: its components one by one, as a loop meets them; its periods; and its first parts.
--- Assumes nothing.
+-- A table whose components stand in the first places of an array: its components and their preferences one by one, as a loop meets them; its periods;
+-- and its first parts. Assumes nothing.
 use Prim.Native.Nat.{ℕ, _+_, _*_, _≤_, _<_}
 use native.Mathlib.Omega.{arith}
 use native.Mathlib.Numerals.{add-one}
 use mathlib.Core.Path.{_≡_, refl, sym, ap, _∙_}
 use mathlib.Core.Bool.{Bool, true, _&&_}
 use mathlib.Core.List.{List, [], _∷_, _++_, map, map-map}
-use lib.ListN.{length, take, drop, drop-of-length-le}
+use lib.ListN.{length, length-map, getD, take, drop, drop-of-length-le}
 use lib.Seq.{drop-cons}
 use lib.Dec.{leb}
 use Rattle.machine.specs.declared.part.Component.{Component}
@@ -16,11 +16,17 @@ use Rattle.machine.specs.Time.{last-tick, larger, master-magnitude, ratio-of}
 use Rattle.machine.specs.Model.{blank-component, trimmed-component, trimmed-part}
 use Rattle.machine.specs.Table.{Table, component-at, magnitude-of, component-ratio, periods-fit}
 use Rattle.machine.specs.Fresh.{first-state, first-part, first-parts}
+use Rattle.laws.specs.Lists.{getD-map-in}
 use Rattle.laws.specs.Partway.{mapped-at, mapped-front, mapped-length}
+use Rattle.soundness.specs.Magnitude.{magnitude-on}
 
 -- the components in the first `count` places, without their unused places for spans
 unfoldable pub components : ℕ → List Component → List Component
 components count parts = map trimmed-component (take count parts)
+
+-- their preferences
+unfoldable pub preferences : ℕ → List Component → List ℕ
+preferences count parts = map (λ (c : Component). c .preference) (components count parts)
 
 -- the table that they make with a default magnitude
 unfoldable pub table-in : (magnitude count : ℕ) → List Component → Table
@@ -44,15 +50,37 @@ unfolding first-parts first-part first-by component-ratio
 first-parts-by t = refl
 
 module _ (count : ℕ) (parts : List Component) (few : count ≤ length parts) where
-  -- as many components as places
+  -- as many components as places, and as many preferences
   pub components-count : length (components count parts) ≡ count
   unfolding components
   components-count = mapped-length trimmed-component count parts few
 
-  -- each is that of its place
+  pub preferences-count : length (preferences count parts) ≡ count
+  unfolding preferences
+  preferences-count = length-map (components count parts) (λ (c : Component). c .preference) ∙ components-count
+
+  -- each component is that of its place
   component-in : (i : ℕ) → i < count → component-at (components count parts) i ≡ trimmed-component (component-at parts i)
   unfolding components
   component-in i h = mapped-at trimmed-component count parts i blank-component blank-component h few
+
+  -- and each preference
+  preference-in : (i : ℕ) → i < count → getD (preferences count parts) i 0 ≡ component-at parts i .preference
+  unfolding preferences trimmed-component
+  preference-in i h =
+      let within : i < length (components count parts) = omega (arith, components-count) in
+      getD-map-in (λ (c : Component). c .preference) (components count parts) i blank-component 0 within ∙
+      ap (λ (c : Component). c .preference) (component-in i h)
+
+  -- a loop's turn: the magnitude e with the preferences from i on takes that of place i
+  pub preferences-on :
+      (e i : ℕ) → i < count →
+      master-magnitude e (drop i (preferences count parts)) ≡
+      master-magnitude (larger e (component-at parts i .preference)) (drop (i + 1) (preferences count parts))
+  preferences-on e i h =
+      let within : i < length (preferences count parts) = omega (arith, preferences-count) in
+      magnitude-on e (preferences count parts) i within ∙
+      ap (λ (q : ℕ). master-magnitude (larger e q) (drop (i + 1) (preferences count parts))) (preference-in i h)
 
   -- a loop's turn: the components from i on are that of place i and those behind it
   components-on :
@@ -68,19 +96,7 @@ module _ (count : ℕ) (parts : List Component) (few : count ≤ length parts) w
       let past : length (components count parts) ≤ i = omega (arith, components-count) in
       drop-of-length-le (components count parts) past
 
-  -- a loop's turn and end, of the master's magnitude
-  pub magnitude-on :
-      (e i : ℕ) → i < count →
-      master-magnitude e (map (λ (c : Component). c .preference) (drop i (components count parts))) ≡
-      master-magnitude (larger e (component-at parts i .preference)) (map (λ (c : Component). c .preference) (drop (i + 1) (components count parts)))
-  unfolding master-magnitude trimmed-component
-  magnitude-on e i h = rw (components-on i h)
-
-  pub magnitude-end : (e i : ℕ) → count ≤ i → master-magnitude e (map (λ (c : Component). c .preference) (drop i (components count parts))) ≡ e
-  unfolding master-magnitude
-  magnitude-end e i h = rw (components-end i h)
-
-  -- of the test of the periods
+  -- a loop's turn and end, of the test of the periods
   pub periods-on :
       (magnitude i : ℕ) → i < count →
       periods-within magnitude (drop i (components count parts)) ≡

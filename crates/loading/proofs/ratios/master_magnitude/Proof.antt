@@ -1,22 +1,20 @@
--- `master_magnitude` is the master's magnitude of the table. The loop's invariant: it is that of what was found so far and the components from i on.
+-- `master_magnitude` is the master's magnitude of the table. The loop's invariant: it is that of what was found so far and the preferences from i on.
 -- The measure is what is left of the count.
 use Prim.Native.Nat.{ℕ, _+_, _-_, _≤_}
 use native.Mathlib.Omega.{arith}
 use mathlib.Core.Path.{_≡_, _∙_, refl, sym, ap}
-use mathlib.Core.List.{map}
 use lib.ListN.{length, drop}
-use Rattle.machine.specs.declared.part.Component.{Component}
 use Rattle.machine.specs.Time.{master-magnitude}
 use Rattle.machine.specs.Table.{magnitude-of}
-use Rattle.loading.specs.Places.{components, magnitude-on, magnitude-end, table-in}
+use Rattle.soundness.specs.Magnitude.{magnitude-end}
+use Rattle.loading.specs.Places.{preferences, preferences-count, preferences-on, table-in}
 use borrow.Author.Needs.{needs}
 use Rattle.loading.proofs.ratios.master_magnitude.Statement.{statement}
 use Rattle.loading.proofs.ratios.master_magnitude.Tie as tie
 
 abbrev Inv-loop : tie.InvT-loop
 Inv-loop count default parts magnitude₀ i₀ magnitude i =
-    master-magnitude default (map (λ (c : Component). c .preference) (components count parts)) ≡
-    master-magnitude magnitude (map (λ (c : Component). c .preference) (drop i (components count parts)))
+    master-magnitude default (preferences count parts) ≡ master-magnitude magnitude (drop i (preferences count parts))
 
 abbrev μ-loop : tie.MeasureT-loop
 μ-loop count default parts magnitude₀ i₀ magnitude i = count - i
@@ -42,22 +40,24 @@ loop-less c = omega arith
 loop-again : tie.Need-loop-again Inv-loop μ-loop
 loop-again c =
     let test = c .before .before in
+    let loop = test .before .loop in
     let start = test .before .before in
-    let i = test .before .loop .i in
+    let count = start .args .count in
     let parts = start .args .t1 in
-    let few : start .args .count ≤ length parts = omega arith in
-    test .before .loop .inv ∙ magnitude-on (start .args .count) parts few (test .before .loop .magnitude) i (test .loop-test .taken) ∙
-    ap
-    (λ (e : ℕ). master-magnitude e (map (λ (c : Component). c .preference) (drop (i + 1) (components (start .args .count) parts))))
-    (sym (c .larger-of .ensures))
+    let few : count ≤ length parts = omega arith in
+    loop .inv ∙ preferences-on count parts few (loop .magnitude) (loop .i) (test .loop-test .taken) ∙
+    ap (λ (e : ℕ). master-magnitude e (drop (loop .i + 1) (preferences count parts))) (sym (c .larger-of .ensures))
 
 returns : tie.Need-returns Inv-loop μ-loop
-unfolding magnitude-of table-in
+unfolding magnitude-of table-in preferences
 returns c =
+    let loop = c .before .loop in
     let start = c .before .before in
+    let count = start .args .count in
     let parts = start .args .t1 in
-    let few : start .args .count ≤ length parts = omega arith in
-    sym (c .before .loop .inv ∙ magnitude-end (start .args .count) parts few (c .before .loop .magnitude) (c .before .loop .i) (c .loop-test .left))
+    let few : count ≤ length parts = omega arith in
+    let past : length (preferences count parts) ≤ loop .i = rw (preferences-count count parts few) (c .loop-test .left) in
+    sym (loop .inv ∙ magnitude-end (loop .magnitude) (preferences count parts) (loop .i) past)
 
 pub master-magnitude-spec : {M : Type 1} → statement M
 master-magnitude-spec =
