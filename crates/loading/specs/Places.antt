@@ -2,12 +2,10 @@
 -- and its first parts. Assumes nothing.
 use Prim.Native.Nat.{ℕ, _+_, _*_, _≤_, _<_}
 use native.Mathlib.Omega.{arith}
-use native.Mathlib.Numerals.{add-one}
 use mathlib.Core.Path.{_≡_, refl, sym, ap, _∙_}
 use mathlib.Core.Bool.{Bool, true, _&&_}
-use mathlib.Core.List.{List, [], _∷_, _++_, map, map-map}
-use lib.ListN.{length, length-map, getD, take, drop, drop-of-length-le}
-use lib.Seq.{drop-cons}
+use mathlib.Core.List.{List, _++_, map, map-map}
+use lib.ListN.{length, length-map, getD, take, drop}
 use lib.Dec.{leb}
 use Rattle.machine.specs.declared.part.Component.{Component}
 use Rattle.machine.specs.declared.part.Part.{Part}
@@ -17,6 +15,7 @@ use Rattle.machine.specs.Model.{blank-component, trimmed-component, trimmed-par
 use Rattle.machine.specs.Table.{Table, component-at, magnitude-of, component-ratio, periods-fit}
 use Rattle.machine.specs.Fresh.{first-state, first-part, first-parts}
 use Rattle.laws.specs.Lists.{getD-map-in}
+use Rattle.laws.specs.Loops.{every-on, every-end}
 use Rattle.laws.specs.Partway.{mapped-at, mapped-front, mapped-length}
 use Rattle.soundness.specs.Magnitude.{magnitude-on}
 
@@ -82,32 +81,23 @@ module _ (count : ℕ) (parts : List Component) (few : count ≤ length parts) w
       magnitude-on e (preferences count parts) i within ∙
       ap (λ (q : ℕ). master-magnitude (larger e q) (drop (i + 1) (preferences count parts))) (preference-in i h)
 
-  -- a loop's turn: the components from i on are that of place i and those behind it
-  components-on :
-      (i : ℕ) → i < count →
-      drop i (components count parts) ≡ trimmed-component (component-at parts i) ∷ drop (i + 1) (components count parts)
-  components-on i h =
-      let within : i < length (components count parts) = omega (arith, components-count) in
-      rw (drop-cons (components count parts) i blank-component within, component-in i h, add-one)
-
-  -- and its end: none is left
-  components-end : (i : ℕ) → count ≤ i → drop i (components count parts) ≡ []
-  components-end i h =
-      let past : length (components count parts) ≤ i = omega (arith, components-count) in
-      drop-of-length-le (components count parts) past
-
-  -- a loop's turn and end, of the test of the periods
+  -- a loop's turn: the test of the periods from i on asks that of place i and those behind it
   pub periods-on :
       (magnitude i : ℕ) → i < count →
       periods-within magnitude (drop i (components count parts)) ≡
       (leb (component-at parts i .p * ratio-of magnitude (component-at parts i .preference)) last-tick &&
       periods-within magnitude (drop (i + 1) (components count parts)))
-  unfolding periods-within every trimmed-component
-  periods-on magnitude i h = rw (components-on i h)
+  unfolding periods-within trimmed-component
+  periods-on magnitude i h =
+      let within : i < length (components count parts) = omega (arith, components-count) in
+      every-on _ (components count parts) i blank-component within ∙ rw (component-in i h)
 
+  -- and its end: all fit
   pub periods-end : (magnitude i : ℕ) → count ≤ i → periods-within magnitude (drop i (components count parts)) ≡ true
-  unfolding periods-within every
-  periods-end magnitude i h = rw (components-end i h)
+  unfolding periods-within
+  periods-end magnitude i h =
+      let past : length (components count parts) ≤ i = omega (arith, components-count) in
+      every-end _ (components count parts) i past
 
   -- the first parts of the places, once all are stored, are those of the components
   pub first-stored :
