@@ -1,3 +1,3 @@
--- What a part is to be for a question about a step to be asked of it.
+-- What a part has to meet to be asked for a step, and that whether it is due reads nothing that trimming cuts away.
 pub mod Asked
 pub mod Trimmed
