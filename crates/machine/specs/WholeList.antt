@@ -3,8 +3,10 @@
 -- Assumes nothing.
 use Prim.Native.Nat.{ℕ, _+_, _*_, _/_, _≤_, _<_}
 use mathlib.Core.Path.{_≡_}
+use mathlib.Core.Logic.{_⊎_}
 use mathlib.Core.List.{List, [], _∷_, List·Memᴰ}
 use lib.ListN.{length}
+use Rattle.machine.specs.declared.time.Point.{Point}
 use Rattle.machine.specs.declared.part.Kind.the-variants.{Pulse}
 use Rattle.machine.specs.declared.model.Model.{Model}
 use Rattle.machine.specs.declared.model.Answer.{Answer}
@@ -51,6 +53,10 @@ unfoldable pub sum : List ℕ → ℕ
 sum [] = 0
 sum (h ∷ hs) = h + sum hs
 
+-- the point p lies behind q, so it is the later of the two: "Points order by t, then n"
+abbrev pub Behind : Point → Point → Type 0
+Behind q p = (tick q < tick p) ⊎ ((tick q ≡ tick p) × (q .n < p .n))
+
 -- "ONE claim about the whole list" of calls from the model m
 pub record WholeList (m : Model) (cs : List Call) : Type 0 where
   -- "final model = committed steps alone"
@@ -62,7 +68,8 @@ pub record WholeList (m : Model) (cs : List Call) : Type 0 where
       (i : ℕ) → i < length (trimmed (last-model m cs) .parts) →
       part-at (trimmed (last-model m cs) .parts) i .state .local .0 ≡
       tick (last-model m cs .point) / part-at (trimmed (last-model m cs) .parts) i .ratio
-  -- "pulses' points (kP, 0) and (kP, 1) visited": the first once the tick is reached, the second once it is passed
+  -- "pulses' points (kP, 0) and (kP, 1) visited": the first once the tick kP is reached, the second once the list has passed the
+  -- first: it ends at a later tick, or at the tick kP with a microstep above 0
   pub reached :
       (i k : ℕ) → i < length (trimmed m .parts) → part-at (trimmed m .parts) i .component .kind ≡ Pulse →
       tick (m .point) < k * period (part-at (trimmed m .parts) i) →
@@ -71,6 +78,6 @@ pub record WholeList (m : Model) (cs : List Call) : Type 0 where
   pub passed :
       (i k : ℕ) → i < length (trimmed m .parts) → part-at (trimmed m .parts) i .component .kind ≡ Pulse →
       tick (m .point) < k * period (part-at (trimmed m .parts) i) →
-      k * period (part-at (trimmed m .parts) i) < tick (last-model m cs .point) →
+      Behind (point (k * period (part-at (trimmed m .parts) i)) 0) (last-model m cs .point) →
       List·Memᴰ (point (k * period (part-at (trimmed m .parts) i)) 1) (visited m cs)
   pub calls : All OfCall cs

@@ -96,10 +96,10 @@ unfolding trimmed visited
 whole-list-from m cs s ch =
     let list = retraced m cs ch in
     let hs = committed cs in
-    let end : tick (last-model m cs .point) ≡ tick (steps-made (trimmed m) hs .point) = ap (λ (z : Model). tick (z .point)) (list .model) in
+    let end : last-model m cs .point ≡ steps-made (trimmed m) hs .point = ap (λ (z : Model). z .point) (list .model) in
     record {
       same = list .model;
-      ticks = end ∙ steps-tick (trimmed m) hs;
+      ticks = ap tick end ∙ steps-tick (trimmed m) hs;
       locals = sound-local (trimmed (last-model m cs)) (chain-sound m cs s ch);
       reached = λ i k p e before past. rw (list .points) (List·Memᴰ·tail
           (steps-reached (trimmed m) hs i k p e (list .accepted) before (rw end at past)));

@@ -14,7 +14,7 @@ use Rattle.machine.specs.declared.time.Point.{Point}
 use Rattle.machine.specs.Time.{point, tick, led-to}
 use Rattle.machine.specs.Kind.{positive-multiple, at-multiple}
 use Rattle.machine.specs.Accept.{next-multiple}
-use Rattle.machine.specs.WholeList.{sum}
+use Rattle.machine.specs.WholeList.{sum, Behind}
 use Rattle.laws.specs.Bools.{either, and-intro, cond-false}
 use Rattle.soundness.specs.Stepped.{led-tick}
 
@@ -95,12 +95,14 @@ reached-point P k p (h ∷ hs) w before past =
     before-or-there (inl b) later = List·Memᴰ·tail (later b)
     before-or-there (inr e) later = List·Memᴰ·head (sym e)
 
--- steps that wait, from before k × P, or from (k × P, 0), to further than k × P lead through (k × P, 1)
+-- steps that wait, from before k × P, or from (k × P, 0), to a point behind (k × P, 0) lead through (k × P, 1)
 pub passed-point : (P k : ℕ) (p : Point) (hs : List ℕ) → Waits P p hs → (tick p < k * P) ⊎ (p ≡ point (k * P) 0) → 0 < k * P →
-    k * P < tick (point-after p hs) → List·Memᴰ (point (k * P) 1) (points-after p hs)
+    Behind (point (k * P) 0) (point-after p hs) → List·Memᴰ (point (k * P) 1) (points-after p hs)
 unfolding point-after points-after
-passed-point P k p [] w (inl before) up past = absurd (omega arith)
-passed-point P k p [] w (inr there) up past = absurd (omega (arith, ap tick there))
+passed-point P k p [] w (inl before) up (inl later) = absurd (omega arith)
+passed-point P k p [] w (inl before) up (inr same) = absurd (omega (arith, same .0))
+passed-point P k p [] w (inr there) up (inl later) = absurd (omega (arith, ap tick there))
+passed-point P k p [] w (inr there) up (inr same) = absurd (omega (arith, same .1, ap (λ (q : Point). q .n) there))
 passed-point P k p (h ∷ hs) w (inl before) up past =
     List·Memᴰ·tail (passed-point P k (led-to p h) hs (w .1) (up-to P k p h (w .0) before) up past)
 passed-point P k p (h ∷ hs) w (inr there) up past =

@@ -16,7 +16,7 @@ use Rattle.machine.specs.Kind.{period}
 use Rattle.machine.specs.Model.{part-at, reading0}
 use Rattle.machine.specs.Step.{step-made, steps-made}
 use Rattle.machine.specs.Accept.{due-as, due, AcceptsAs, Accepts}
-use Rattle.machine.specs.WholeList.{AllAccept, sum}
+use Rattle.machine.specs.WholeList.{AllAccept, sum, Behind}
 use Rattle.stepsearch.specs.Frame.{made-length, made-component, made-ratio}
 use Rattle.wholelist.specs.Points.{point-after, points-after, after-tick, WaitsAt, Waits, reached-point, passed-point}
 
@@ -58,7 +58,7 @@ pulses-wait m (h ∷ hs) i p e a =
       rw (component, ratio, made-point m h) at rest,
     )
 
--- so of a pulse with period P they lead through (k × P, 0) once they reach that tick, and through (k × P, 1) once they pass it
+-- so of a pulse with period P they lead through (k × P, 0) once they reach that tick, and through (k × P, 1) once they pass that point
 pub steps-reached : (m : Model) (hs : List ℕ) (i k : ℕ) → i < length (m .parts) → part-at (m .parts) i .component .kind ≡ Pulse →
     AllAccepted m hs → tick (m .point) < k * period (part-at (m .parts) i) →
     k * period (part-at (m .parts) i) ≤ tick (steps-made m hs .point) →
@@ -68,7 +68,7 @@ steps-reached m hs i k p e a before past =
 
 pub steps-passed : (m : Model) (hs : List ℕ) (i k : ℕ) → i < length (m .parts) → part-at (m .parts) i .component .kind ≡ Pulse →
     AllAccepted m hs → tick (m .point) < k * period (part-at (m .parts) i) →
-    k * period (part-at (m .parts) i) < tick (steps-made m hs .point) →
+    Behind (point (k * period (part-at (m .parts) i)) 0) (steps-made m hs .point) →
     List·Memᴰ (point (k * period (part-at (m .parts) i)) 1) (points-after (m .point) hs)
 steps-passed m hs i k p e a before past =
     passed-point (period (part-at (m .parts) i)) k (m .point) hs (pulses-wait m hs i p e a) (inl before) (omega arith)
