@@ -3,15 +3,14 @@
 -- Assumes nothing.
 use Prim.Native.Nat.{ℕ, _+_, _*_, _/_, _≤_, _<_}
 use mathlib.Core.Path.{_≡_}
-use mathlib.Core.Logic.{_⊎_}
 use mathlib.Core.List.{List, [], _∷_, List·Memᴰ}
 use lib.ListN.{length}
-use Rattle.machine.specs.declared.time.Point.{Point}
+use Rattle.machine.specs.declared.time.Comparison.the-variants.{Earlier}
 use Rattle.machine.specs.declared.part.Kind.the-variants.{Pulse}
 use Rattle.machine.specs.declared.model.Model.{Model}
 use Rattle.machine.specs.declared.model.Answer.{Answer}
 use Rattle.machine.specs.Lists.{All}
-use Rattle.machine.specs.Time.{point, tick}
+use Rattle.machine.specs.Time.{point, tick, compared}
 use Rattle.machine.specs.Kind.{period}
 use Rattle.machine.specs.Model.{part-at, reading0, trimmed}
 use Rattle.machine.specs.Step.{steps-made}
@@ -53,10 +52,6 @@ unfoldable pub sum : List ℕ → ℕ
 sum [] = 0
 sum (h ∷ hs) = h + sum hs
 
--- the point p lies behind q, so it is the later of the two: "Points order by t, then n"
-abbrev pub Behind : Point → Point → Type 0
-Behind q p = (tick q < tick p) ⊎ ((tick q ≡ tick p) × (q .n < p .n))
-
 -- "ONE claim about the whole list" of calls from the model m
 pub record WholeList (m : Model) (cs : List Call) : Type 0 where
   -- "final model = committed steps alone"
@@ -78,6 +73,6 @@ pub record WholeList (m : Model) (cs : List Call) : Type 0 where
   pub passed :
       (i k : ℕ) → i < length (trimmed m .parts) → part-at (trimmed m .parts) i .component .kind ≡ Pulse →
       tick (m .point) < k * period (part-at (trimmed m .parts) i) →
-      Behind (point (k * period (part-at (trimmed m .parts) i)) 0) (last-model m cs .point) →
+      compared (point (k * period (part-at (trimmed m .parts) i)) 0) (last-model m cs .point) ≡ Earlier →
       List·Memᴰ (point (k * period (part-at (trimmed m .parts) i)) 1) (visited m cs)
   pub calls : All OfCall cs

@@ -5,16 +5,18 @@ use Prim.Native.Nat.{ℕ, zero, suc, _+_, _*_, _/_, _%_, _≤_, _<_}
 use native.Mathlib.Omega.{arith}
 use native.Mathlib.Nat.{mul-zero, mul-mod-left, div-lt-iff-lt-mul, mul-le-mul-right}
 use mathlib.Core.Path.{_≡_, ap, sym, _∙_}
-use mathlib.Core.Bool.{true, false, true≢false}
+use mathlib.Core.Bool.{Bool, true, false, true≢false, false≢true}
 use mathlib.Core.Logic.{_⊎_, inl, inr}
 use mathlib.Core.List.{List, [], _∷_, List·Memᴰ, List·Memᴰ·head, List·Memᴰ·tail}
 use lib.Dec.{eqb, ltb}
 use borrow.Author.Tests.{ltb-true, ltb-false, lt-ltb, eq-eqb, ne-eqb}
 use Rattle.machine.specs.declared.time.Point.{Point}
-use Rattle.machine.specs.Time.{point, tick, led-to}
+use Rattle.machine.specs.declared.time.Comparison.{Comparison}
+use Rattle.machine.specs.declared.time.Comparison.the-variants.{Earlier, Same, Later}
+use Rattle.machine.specs.Time.{point, tick, led-to, compared}
 use Rattle.machine.specs.Kind.{positive-multiple, at-multiple}
 use Rattle.machine.specs.Accept.{next-multiple}
-use Rattle.machine.specs.WholeList.{sum, Behind}
+use Rattle.machine.specs.WholeList.{sum}
 use Rattle.laws.specs.Bools.{either, and-intro, cond-false}
 use Rattle.soundness.specs.Stepped.{led-tick}
 
@@ -95,14 +97,41 @@ reached-point P k p (h ∷ hs) w before past =
     before-or-there (inl b) later = List·Memᴰ·tail (later b)
     before-or-there (inr e) later = List·Memᴰ·head (sym e)
 
--- steps that wait, from before k × P, or from (k × P, 0), to a point behind (k × P, 0) lead through (k × P, 1)
+-- whether a comparison is `Earlier`
+abbrev is-earlier : Comparison → Bool
+is-earlier Earlier = true
+is-earlier Same = false
+is-earlier Later = false
+
+-- a point that is earlier than another is so by its tick, or at the same tick by its microstep
+earlier-by : (q p : Point) → compared q p ≡ Earlier → (tick q < tick p) ⊎ ((tick q ≡ tick p) × (q .n < p .n))
+unfolding compared
+earlier-by q p e = by-tick (either (ltb (tick q) (tick p))) (either (ltb (tick p) (tick q))) (either (ltb (q .n) (p .n))) (either (ltb (p .n) (q .n)))
+  where
+    by-tick :
+        (ltb (tick q) (tick p) ≡ true) ⊎ (ltb (tick q) (tick p) ≡ false) → (ltb (tick p) (tick q) ≡ true) ⊎ (ltb (tick p) (tick q) ≡ false) →
+        (ltb (q .n) (p .n) ≡ true) ⊎ (ltb (q .n) (p .n) ≡ false) → (ltb (p .n) (q .n) ≡ true) ⊎ (ltb (p .n) (q .n) ≡ false) →
+        (tick q < tick p) ⊎ ((tick q ≡ tick p) × (q .n < p .n))
+    by-tick (inl a) b c d = inl (ltb-true (tick q) (tick p) a)
+    by-tick (inr a) (inl b) c d = absurd (false≢true (ap is-earlier (rw (a, b) at e)))
+    by-tick (inr a) (inr b) (inl c) d =
+        let left = ltb-false (tick q) (tick p) a in
+        let right = ltb-false (tick p) (tick q) b in
+        inr (omega arith, ltb-true (q .n) (p .n) c)
+    by-tick (inr a) (inr b) (inr c) (inl d) = absurd (false≢true (ap is-earlier (rw (a, b, c, d) at e)))
+    by-tick (inr a) (inr b) (inr c) (inr d) = absurd (false≢true (ap is-earlier (rw (a, b, c, d) at e)))
+
+-- steps that wait, from before k × P, or from (k × P, 0), to a point later than (k × P, 0) lead through (k × P, 1)
 pub passed-point : (P k : ℕ) (p : Point) (hs : List ℕ) → Waits P p hs → (tick p < k * P) ⊎ (p ≡ point (k * P) 0) → 0 < k * P →
-    Behind (point (k * P) 0) (point-after p hs) → List·Memᴰ (point (k * P) 1) (points-after p hs)
+    compared (point (k * P) 0) (point-after p hs) ≡ Earlier → List·Memᴰ (point (k * P) 1) (points-after p hs)
 unfolding point-after points-after
-passed-point P k p [] w (inl before) up (inl later) = absurd (omega arith)
-passed-point P k p [] w (inl before) up (inr same) = absurd (omega (arith, same .0))
-passed-point P k p [] w (inr there) up (inl later) = absurd (omega (arith, ap tick there))
-passed-point P k p [] w (inr there) up (inr same) = absurd (omega (arith, same .1, ap (λ (q : Point). q .n) there))
+passed-point P k p [] w at up past = absurd (not-later at (earlier-by (point (k * P) 0) p past))
+  where
+    not-later : (tick p < k * P) ⊎ (p ≡ point (k * P) 0) → (k * P < tick p) ⊎ ((k * P ≡ tick p) × (0 < p .n)) → ⊥
+    not-later (inl before) (inl later) = omega arith
+    not-later (inl before) (inr same) = omega (arith, same .0)
+    not-later (inr there) (inl later) = omega (arith, ap tick there)
+    not-later (inr there) (inr same) = omega (arith, same .1, ap (λ (q : Point). q .n) there)
 passed-point P k p (h ∷ hs) w (inl before) up past =
     List·Memᴰ·tail (passed-point P k (led-to p h) hs (w .1) (up-to P k p h (w .0) before) up past)
 passed-point P k p (h ∷ hs) w (inr there) up past =

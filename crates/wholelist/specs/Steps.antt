@@ -7,16 +7,17 @@ use mathlib.Core.Logic.{inl}
 use mathlib.Core.List.{List, [], _∷_, List·Memᴰ}
 use lib.ListN.{length}
 use Rattle.machine.specs.declared.time.Point.{Point}
+use Rattle.machine.specs.declared.time.Comparison.the-variants.{Earlier}
 use Rattle.machine.specs.declared.signal.Signal.{Signal}
 use Rattle.machine.specs.declared.part.Kind.the-variants.{Pulse}
 use Rattle.machine.specs.declared.part.Part.{Part}
 use Rattle.machine.specs.declared.model.Model.{Model}
-use Rattle.machine.specs.Time.{point, tick, led-to}
+use Rattle.machine.specs.Time.{point, tick, led-to, compared}
 use Rattle.machine.specs.Kind.{period}
 use Rattle.machine.specs.Model.{part-at, reading0}
 use Rattle.machine.specs.Step.{step-made, steps-made}
 use Rattle.machine.specs.Accept.{due-as, due, AcceptsAs, Accepts}
-use Rattle.machine.specs.WholeList.{AllAccept, sum, Behind}
+use Rattle.machine.specs.WholeList.{AllAccept, sum}
 use Rattle.stepsearch.specs.Frame.{made-length, made-component, made-ratio}
 use Rattle.wholelist.specs.Points.{point-after, points-after, after-tick, WaitsAt, Waits, reached-point, passed-point}
 
@@ -68,7 +69,7 @@ steps-reached m hs i k p e a before past =
 
 pub steps-passed : (m : Model) (hs : List ℕ) (i k : ℕ) → i < length (m .parts) → part-at (m .parts) i .component .kind ≡ Pulse →
     AllAccepted m hs → tick (m .point) < k * period (part-at (m .parts) i) →
-    Behind (point (k * period (part-at (m .parts) i)) 0) (steps-made m hs .point) →
+    compared (point (k * period (part-at (m .parts) i)) 0) (steps-made m hs .point) ≡ Earlier →
     List·Memᴰ (point (k * period (part-at (m .parts) i)) 1) (points-after (m .point) hs)
 steps-passed m hs i k p e a before past =
     passed-point (period (part-at (m .parts) i)) k (m .point) hs (pulses-wait m hs i p e a) (inl before) (omega arith)
