@@ -1,4 +1,6 @@
--- What is proved of the definitions themselves: `played`, the ten marked examples, and `chained`, an example of a chain of calls.
+-- What is proved of the definitions themselves: `played`, the ten marked examples, `chained`, an example of a chain of calls, and `kind-table`, the table of
+-- kinds line by line.
 pub mod Computing
 pub mod Played
 pub mod Chained
+pub mod KindTable
