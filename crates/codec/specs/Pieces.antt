@@ -4,8 +4,8 @@ use native.Mathlib.Omega.{arith}
 use mathlib.Core.Path.{_≡_, refl, sym, ap, _∙_}
 use mathlib.Core.List.{List, [], _∷_, _++_, append-assoc, append-nil}
 use lib.ListN.{length, take, drop, length-append, take-append-drop}
-use Rattle.lines.specs.Put.{Put}
-use Rattle.lines.specs.Pieces.{drop-more}
+use Rattle.writing.specs.Put.{Put}
+use Rattle.writing.specs.Pieces.{drop-more}
 use Rattle.codec.specs.Words.{rows, word-bytes, bytes-of}
 use Rattle.codec.specs.Widths.{word-wide, bytes-append}
 use Rattle.codec.specs.Put.{WordsPut}

@@ -1,14 +1,14 @@
 // Numbers as words of 8 bytes: written at a position of a buffer, and read from bytes by the word's
 // number, where a byte that is not there is 0. The contracts cite `specs/Words.antt`.
-use lines::text::magnitude;
-use lines::text::put_byte;
+use writing::number::absolute;
+use writing::put::put_byte;
 ghost use mathlib.Core.Path.{_≡_};
 ghost use mathlib.Core.List.{_∷_, []};
 ghost use Prim.Native.Nat.{_+_, _%_, _<_, _≤_};
 ghost use lib.ListN.{length};
 ghost use Rattle.machine.specs.Load.{byte-at, word-at};
 ghost use Rattle.codec.specs.Words.{four-bytes, signed-word, word-in, word-signed};
-ghost use Rattle.lines.specs.Put.{Put};
+ghost use Rattle.writing.specs.Put.{Put};
 ghost use Rattle.codec.specs.Put.{WordsPut};
 ghost use Rattle.codec.specs.Sized.{FitsWord};
 
@@ -81,9 +81,9 @@ pub fn signed_word(v: i64) -> u64
     ensures { λ r. ⌜ r ≡ signed-word v ⌝ }
 {
     if v < 0 {
-        return LARGEST - (magnitude(v) - 1);
+        return LARGEST - (absolute(v) - 1);
     }
-    magnitude(v)
+    absolute(v)
 }
 
 // The signed number of a word, in two's complement.

@@ -7,7 +7,7 @@ use lib.ListN.{length}
 use borrow.Author.Tests.{le-leb, lt-leb}
 use Rattle.codec.specs.Words.{bytes-of}
 use Rattle.codec.specs.Put.{WordsPut}
-use Rattle.lines.specs.Written.{too-short}
+use Rattle.writing.specs.Written.{too-short}
 use Rattle.encoding.specs.Written.{WrittenInto}
 use Rattle.codec.specs.Widths.{length-bytes}
 use Rattle.codec.specs.Pieces.{at-front}

@@ -8,7 +8,7 @@ use native.Mathlib.Omega.{arith}
 use lib.ListN.{length, drop}
 use lib.Dec.{leb}
 use Rattle.laws.specs.Bools.{either, cond-true, cond-false}
-use Rattle.lines.specs.Written.{too-short}
+use Rattle.writing.specs.Written.{too-short}
 
 -- The answer's bytes, how many they are, the buffer before and after the call, and the call's number. Where the bytes fit, the number is 0 and they
 -- stand at the buffer's front, with what lay behind them kept; where they do not, the number is 25 and the buffer is kept whole.

@@ -2,9 +2,9 @@
 // of the crate `codec`, and `specs/Written.antt`.
 use crate::encode::put_model;
 use codec::word::put_word;
-use lines::line::TOO_SHORT;
 use machine::model::Answer;
 use machine::model::Loaded;
+use writing::written::TOO_SHORT;
 ghost use mathlib.Core.Path.{_≡_};
 ghost use Rattle.codec.specs.Encoded.{answer-bytes, loaded-bytes};
 ghost use Rattle.codec.specs.Sized.{Sized};

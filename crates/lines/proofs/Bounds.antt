@@ -2,8 +2,8 @@
 use Prim.Native.Nat.{ℕ, _≤_}
 use mathlib.Core.List.{List}
 use lib.ListN.{length}
-use Rattle.lines.specs.declared.line.Written.{Written}
-use Rattle.lines.specs.Written.{WrittenAs}
+use Rattle.writing.specs.declared.written.Written.{Written}
+use Rattle.writing.specs.Written.{WrittenAs}
 
 -- a text that is written, with a bound of its length
 pub bounded : {text before after : List ℕ} {w : Written} (n : ℕ) → WrittenAs text before after w → length text ≤ n →

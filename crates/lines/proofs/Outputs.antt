@@ -11,7 +11,7 @@ use Rattle.machine.specs.declared.model.Answer.{Answer}
 use Rattle.machine.specs.Time.{tick}
 use Rattle.machine.specs.Model.{trimmed, trimmed-answer, trimmed-part}
 use Rattle.machine.specs.Rehearse.{answer-line, blank, committed-line, line-feed, outputs-text, refused-line, signal-text}
-use Rattle.lines.specs.Put.{numbers-text}
+use Rattle.lines.specs.LineNumbers.{numbers-text}
 
 -- the outputs of one part more
 outputs-suc : (ps : List Part) (i : ℕ) (d : Part) → i < length ps →

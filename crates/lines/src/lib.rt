@@ -1,4 +1,4 @@
 // The lines of a rehearsal, as they are written into a buffer that the caller lends. Its contracts cite the
-// machine's definitions and `specs/Written.antt`.
+// machine's definitions and `writing`'s `specs/Written.antt`.
 pub mod line;
 pub mod text;

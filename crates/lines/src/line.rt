@@ -1,20 +1,23 @@
 // The lines of a rehearsal, each written into a buffer that the caller lends. A line is built in an
 // array of its own, so that its length is known before the buffer is touched. The promises cite the
-// machine's `Rehearse.antt` and `specs/Written.antt`.
-use crate::text::put_byte;
+// machine's `Rehearse.antt` and `writing`'s `specs/Written.antt`.
 use crate::text::put_decimal;
 use crate::text::put_output;
-use crate::text::put_text;
 use machine::model::Answer;
 use machine::model::PARTS;
+use writing::put::put_byte;
+use writing::put::put_text;
+use writing::written::Written;
+use writing::written::write_text;
 ghost use mathlib.Core.Path.{_≡_};
 ghost use mathlib.Core.List.{_∷_, [], _++_};
 ghost use Prim.Native.Nat.{_+_, _≤_, min};
 ghost use lib.ListN.{length};
 ghost use Rattle.machine.specs.Model.{trimmed-answer};
 ghost use Rattle.machine.specs.Rehearse.{answer-line, blank, decimal, refused-at-line, refused-line, refused-text};
-ghost use Rattle.lines.specs.Put.{Put, numbers-text};
-ghost use Rattle.lines.specs.Written.{WrittenAs};
+ghost use Rattle.writing.specs.Put.{Put};
+ghost use Rattle.writing.specs.Written.{WrittenAs};
+ghost use Rattle.lines.specs.LineNumbers.{numbers-text};
 
 // How many bytes a line is built in. The longest line of a committed advance has 777: five numbers of
 // 20 digits with four blanks, 32 outputs of 20 characters with a blank before each, and a line feed.
@@ -23,31 +26,6 @@ const ROOM: usize = 1024;
 // How many bytes the line of a refusal is built in. The longest has 53: `refused ` and ` at `, two
 // numbers of 20 digits, and a line feed.
 const REFUSAL_ROOM: usize = 64;
-
-// The number of a call whose buffer is too short.
-pub const TOO_SHORT: u64 = 25;
-
-// What a writing call answers: 0 and the text's length, or 25 and the length that the buffer needs.
-pub struct Written {
-    pub number: u64,
-    pub length: usize,
-}
-
-// A text into the buffer, where it fits.
-fn write_text(text: &[u8], buf: &mut [u8]) -> Written
-    ensures { λ w. ⌜ WrittenAs (now (text .entry)) (now (buf .entry)) (now (buf .exit)) w ⌝ }
-{
-    if buf.len() < text.len() {
-        return Written {
-            number: TOO_SHORT,
-            length: text.len(),
-        };
-    }
-    Written {
-        number: 0,
-        length: put_text(buf, 0, text),
-    }
-}
 
 // `refused N`, which begins the line of every refusal.
 fn put_refusal(line: &mut [u8], number: u64) -> usize

@@ -3,8 +3,8 @@
 //
 // Its contracts cite this crate's `specs/Barring.antt`.
 use machine::time::Point;
-use operands::refusal::first_of;
-use operands::refusal::refusal;
+use refusals::first_of;
+use refusals::refusal;
 ghost use mathlib.Core.Path.{_≡_};
 ghost use mathlib.Core.Bool.{_&&_};
 ghost use lib.Dec.{leb};

@@ -14,6 +14,8 @@ use machine::model::PARTS;
 use machine::part::Kind;
 use machine::part::SPANS;
 use machine::part::Source;
+use refusals::first_of;
+use refusals::refusal;
 ghost use mathlib.Core.Path.{_≡_};
 ghost use mathlib.Core.Bool.{cond};
 ghost use lib.Dec.{eqb};
@@ -30,26 +32,6 @@ pub const SPAN_BYTE: u8 = 0x03;
 pub const END_BYTE: u8 = 0x05;
 
 pub const WANT_BYTE: u8 = 0x06;
-
-// A refusal's number where there is cause for it.
-pub fn refusal(cause: bool, number: u64) -> u64
-    ensures { λ r. ⌜ r ≡ cond cause number 0 ⌝ }
-{
-    if cause {
-        return number;
-    }
-    0
-}
-
-// The first of two refusals, where there is one.
-pub fn first_of(first: u64, second: u64) -> u64
-    ensures { λ r. ⌜ r ≡ cond (eqb first 0) second first ⌝ }
-{
-    if first == 0 {
-        return second;
-    }
-    first
-}
 
 // The refusal of a Begin with this magnitude.
 pub fn begin_refusal(e: u8) -> u64

@@ -20,9 +20,9 @@ use Rattle.machine.specs.Load.{byte-at}
 use Rattle.machine.specs.Rehearse.{answer-line, refused-at-line, lines-from}
 use Rattle.laws.specs.Bools.{cond-cases}
 use Rattle.printing.specs.Fuel.{score-later, lines-enough}
-use Rattle.lines.specs.declared.line.Written.{Written}
-use Rattle.lines.specs.Put.{Put}
-use Rattle.lines.specs.Written.{WrittenAs}
+use Rattle.writing.specs.declared.written.Written.{Written}
+use Rattle.writing.specs.Put.{Put}
+use Rattle.writing.specs.Written.{WrittenAs}
 use Rattle.rehearse.specs.declared.play.Played.{Played}
 use Rattle.rehearse.specs.Playing.{lines-at, to-come, PlayedOne}
 

@@ -10,7 +10,7 @@ ghost use Prim.Native.Nat.{_+_, _≤_};
 ghost use lib.ListN.{length};
 ghost use Rattle.machine.specs.Model.{trimmed-answer};
 ghost use Rattle.machine.specs.Rehearse.{answer-line, refused-at-line};
-ghost use Rattle.lines.specs.Put.{Put};
+ghost use Rattle.writing.specs.Put.{Put};
 ghost use Rattle.rehearse.specs.Playing.{PlayedOne, PlayedSome};
 
 // How many bytes have room for any line.

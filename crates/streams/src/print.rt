@@ -1,5 +1,4 @@
 // What was loaded, as text on standard output.
-use lines::text::magnitude;
 use machine::model::Loaded;
 use machine::model::Model;
 use machine::model::PARTS;
@@ -12,6 +11,7 @@ use machine::part::Side;
 use machine::part::Source;
 use machine::part::State;
 use machine::signal::Signal;
+use writing::number::absolute;
 
 // A text.
 fn print(text: &[u8]) {
@@ -40,7 +40,7 @@ fn print_value(text: &[u8], v: i64) {
     if v < 0 {
         print(b"-");
     }
-    io::print_decimal(1, magnitude(v));
+    io::print_decimal(1, absolute(v));
 }
 
 // A text and a signal behind it, a hyphen where it is absent.

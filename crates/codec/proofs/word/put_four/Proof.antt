@@ -1,5 +1,5 @@
 -- `put_four` puts the four bytes of the definition one behind the other.
-use Rattle.lines.specs.Pieces.{put-then}
+use Rattle.writing.specs.Pieces.{put-then}
 use Rattle.codec.specs.Words.{four-bytes}
 use borrow.Author.Needs.{needs}
 use Rattle.codec.proofs.word.put_four.Statement.{statement}

@@ -1,6 +1,6 @@
 -- `put_word` puts the lower half and the upper half of the word.
 use native.Mathlib.Omega.{arith}
-use Rattle.lines.specs.Pieces.{put-then}
+use Rattle.writing.specs.Pieces.{put-then}
 use Rattle.codec.specs.Pieces.{one-word}
 use Rattle.codec.specs.Words.{word-bytes}
 use borrow.Author.Needs.{needs}

@@ -8,14 +8,14 @@ use borrow.Author.Needs.{needs}
 use Rattle.codec.proofs.word.signed_word.Statement.{statement}
 use Rattle.codec.proofs.word.signed_word.Tie as tie
 
-magnitude-requires : tie.Need-magnitude-requires
-magnitude-requires c κs = search needs
+absolute-requires : tie.Need-absolute-requires
+absolute-requires c κs = search needs
 
 sub-result : tie.Need-sub-result
 sub-result c =
     let start = c .before .before in
     let back = toZ-ofZ w64 (start .args .v) (start .fits .v) in
-    rw (c .magnitude .ensures, back, negative (start .args .v) (rw back at (c .before .if1 .taken))) (omega arith)
+    rw (c .absolute .ensures, back, negative (start .args .v) (rw back at (c .before .if1 .taken))) (omega arith)
 
 sub-result-2 : tie.Need-sub-result-2
 sub-result-2 c = search needs
@@ -25,19 +25,19 @@ unfolding signed-word
 returns c =
     let start = c .before .before in
     let back = toZ-ofZ w64 (start .args .v) (start .fits .v) in
-    rw (c .magnitude .ensures, back, negative (start .args .v) (rw back at (c .before .if1 .taken))) (omega arith)
+    rw (c .absolute .ensures, back, negative (start .args .v) (rw back at (c .before .if1 .taken))) (omega arith)
 
-magnitude-requires-2 : tie.Need-magnitude-requires-2
-magnitude-requires-2 c κs = search needs
+absolute-requires-2 : tie.Need-absolute-requires-2
+absolute-requires-2 c κs = search needs
 
 returns-2 : tie.Need-returns-2
 unfolding signed-word
 returns-2 c =
     let start = c .before .before in
     let back = toZ-ofZ w64 (start .args .v) (start .fits .v) in
-    rw (c .magnitude2 .ensures, back, not-negative (start .args .v) (rw back at (c .before .if1 .left)))
+    rw (c .absolute2 .ensures, back, not-negative (start .args .v) (rw back at (c .before .if1 .left)))
 
 pub signed-word-spec : {M : Type 1} → statement M
 signed-word-spec =
     tie.close
-    (tie.spec magnitude-requires sub-result sub-result-2 returns magnitude-requires-2 returns-2)
+    (tie.spec absolute-requires sub-result sub-result-2 returns absolute-requires-2 returns-2)

@@ -1,6 +1,6 @@
 -- `put_number` puts a number's digits, and a blank behind them.
 use borrow.Author.Needs.{needs}
-use Rattle.lines.specs.Pieces.{put-then}
+use Rattle.writing.specs.Pieces.{put-then}
 use Rattle.lines.proofs.line.put_number.Statement.{statement}
 use Rattle.lines.proofs.line.put_number.Tie as tie
 

@@ -1,8 +1,8 @@
 -- `put_numbers` puts the five numbers one behind the other, the first four with their blanks.
 use mathlib.Core.List.{append-assoc}
 use borrow.Author.Needs.{needs}
-use Rattle.lines.specs.Put.{numbers-text}
-use Rattle.lines.specs.Pieces.{put-then}
+use Rattle.lines.specs.LineNumbers.{numbers-text}
+use Rattle.writing.specs.Pieces.{put-then}
 use Rattle.lines.proofs.line.put_numbers.Statement.{statement}
 use Rattle.lines.proofs.line.put_numbers.Tie as tie
 

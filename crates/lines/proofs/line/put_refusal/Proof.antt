@@ -1,6 +1,6 @@
 -- `put_refusal` puts the text `refused `, and the number's digits behind it.
 use borrow.Author.Needs.{needs}
-use Rattle.lines.specs.Pieces.{put-then}
+use Rattle.writing.specs.Pieces.{put-then}
 use Rattle.lines.proofs.line.put_refusal.Statement.{statement}
 use Rattle.lines.proofs.line.put_refusal.Tie as tie
 

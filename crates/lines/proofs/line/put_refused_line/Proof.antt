@@ -2,7 +2,7 @@
 use mathlib.Core.List.{append-assoc}
 use borrow.Author.Needs.{needs}
 use Rattle.machine.specs.Rehearse.{refused-line}
-use Rattle.lines.specs.Pieces.{put-then}
+use Rattle.writing.specs.Pieces.{put-then}
 use Rattle.lines.proofs.line.put_refused_line.Statement.{statement}
 use Rattle.lines.proofs.line.put_refused_line.Tie as tie
 

@@ -11,14 +11,14 @@ use borrow.Author.Needs.{needs}
 use borrow.Fn.Kinds.{In}
 use borrow.Fn.PlainCycle.{Measures, is, falls, and}
 use Rattle.machine.specs.Rehearse.{decimal}
-use Rattle.lines.specs.Put.{Put}
+use Rattle.writing.specs.Put.{Put}
 use Rattle.lines.proofs.Decimal.{one-digit, more-digits, few-digits}
-use Rattle.lines.specs.Pieces.{put-then, put-as}
+use Rattle.writing.specs.Pieces.{put-then, put-as}
 use Rattle.lines.proofs.text.put_decimal.Reads as put-decimal
 use Rattle.lines.proofs.text.put_decimal.Kinds as put-decimal-kinds
 use Rattle.lines.proofs.text.+put_decimal.Lts-put_decimal as put-decimal-lts
 use Rattle.lines.proofs.text.last_digit.Reads as last-digit
-use Rattle.lines.proofs.text.put_byte.Reads as put-byte
+use Rattle.writing.proofs.put.put_byte.Reads as put-byte
 use Rattle.lines.proofs.text.+put_decimal.{statement}
 use Rattle.lines.proofs.text.+put_decimal.Tie.{close}
 

@@ -5,7 +5,7 @@ use mir.Syntax.{w64}
 use mir.ValLaws.{toZ-ofZ}
 use borrow.Author.Needs.{needs}
 use Rattle.machine.specs.Rehearse.{signal-text}
-use Rattle.lines.specs.Pieces.{put-then, put-as}
+use Rattle.writing.specs.Pieces.{put-then, put-as}
 use Rattle.lines.proofs.text.put_output.Statement.{statement}
 use Rattle.lines.proofs.text.put_output.Tie as tie
 

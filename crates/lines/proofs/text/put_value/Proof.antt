@@ -1,4 +1,4 @@
--- `put_value` puts a hyphen before the magnitude of a negative value, and the magnitude alone of another.
+-- `put_value` puts a hyphen before the absolute of a negative value, and the absolute alone of another.
 use native.Mathlib.Omega.{arith}
 use mathlib.Core.Path.{_≡_, refl}
 use mathlib.Core.Bool.{true, false}
@@ -10,7 +10,7 @@ use mir.ValLaws.{toZ-ofZ}
 use borrow.Author.Needs.{needs}
 use Rattle.machine.specs.Rehearse.{decimal, hyphen, signed-decimal}
 use Rattle.laws.specs.Signed.{negative, not-negative}
-use Rattle.lines.specs.Pieces.{put-then, put-as}
+use Rattle.writing.specs.Pieces.{put-then, put-as}
 use Rattle.lines.proofs.text.put_value.Statement.{statement}
 use Rattle.lines.proofs.text.put_value.Tie as tie
 
@@ -26,8 +26,8 @@ of-other v from = rw (not-negative v from) refl
 put-byte-requires : tie.Need-put-byte-requires
 put-byte-requires c κs = search needs
 
-magnitude-requires : tie.Need-magnitude-requires
-magnitude-requires c κs = search needs
+absolute-requires : tie.Need-absolute-requires
+absolute-requires c κs = search needs
 
 put-decimal-requires : tie.Need-put-decimal-requires
 put-decimal-requires c κs = search needs
@@ -43,11 +43,11 @@ returns c =
     let test = hyphened .before .before in
     let start = test .before .before in
     let back = toZ-ofZ w64 (start .args .v) (start .fits .v) in
-    rw (of-negative (start .args .v) (rw back at (test .if1 .taken)), ← (rw back at (measured .magnitude .ensures)))
+    rw (of-negative (start .args .v) (rw back at (test .if1 .taken)), ← (rw back at (measured .absolute .ensures)))
     (put-then (hyphened .put-byte .ensures) (call .put-decimal .ensures))
 
-magnitude-requires-2 : tie.Need-magnitude-requires-2
-magnitude-requires-2 c κs = search needs
+absolute-requires-2 : tie.Need-absolute-requires-2
+absolute-requires-2 c κs = search needs
 
 put-decimal-requires-2 : tie.Need-put-decimal-requires-2
 put-decimal-requires-2 c κs = search needs
@@ -61,7 +61,7 @@ returns-2 c =
     let test = call .before .before .before in
     let start = test .before .before in
     let back = toZ-ofZ w64 (start .args .v) (start .fits .v) in
-    rw (of-other (start .args .v) (rw back at (test .if1 .left)), ← (rw back at (call .before .magnitude2 .ensures)))
+    rw (of-other (start .args .v) (rw back at (test .if1 .left)), ← (rw back at (call .before .absolute2 .ensures)))
     (put-as (call .put-decimal2 .ensures) refl (omega arith))
 
 pub put-value-spec : {M : Type 1} → statement M
@@ -69,11 +69,11 @@ put-value-spec =
     tie.close
     (tie.spec
     put-byte-requires
-    magnitude-requires
+    absolute-requires
     put-decimal-requires
     same-length
     returns
-    magnitude-requires-2
+    absolute-requires-2
     put-decimal-requires-2
     same-length-2
     returns-2)

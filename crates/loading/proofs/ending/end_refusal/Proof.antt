@@ -1,7 +1,7 @@
 -- `end_refusal` is the definition: the first of its three refusals.
 use mathlib.Core.Bool.{cond, not}
 use lib.Dec.{eqb, leb, ltb}
-use Rattle.operands.specs.Tests.{above, cond-not, first-refusal}
+use Rattle.refusals.specs.FirstRefusal.{above, cond-not, first-refusal}
 use Rattle.loading.specs.Ending.{end-number}
 use borrow.Author.Needs.{needs}
 use Rattle.loading.proofs.ending.end_refusal.Statement.{statement}

@@ -5,7 +5,7 @@ use lib.Dec.{leb}
 use borrow.Author.Needs.{needs}
 use Rattle.machine.specs.Time.{last-tick}
 use Rattle.machine.specs.Advance.{longest-wanted}
-use Rattle.operands.specs.Tests.{cond-not, first-refusal}
+use Rattle.refusals.specs.FirstRefusal.{cond-not, first-refusal}
 use Rattle.master.specs.Barring.{barred-by}
 use Rattle.master.proofs.barring.barred_number.Statement.{statement}
 use Rattle.master.proofs.barring.barred_number.Tie as tie

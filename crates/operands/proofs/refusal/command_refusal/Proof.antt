@@ -1,7 +1,7 @@
 -- `command_refusal` is the definition: the first of its two refusals.
 use mathlib.Core.Bool.{cond, not}
 use Rattle.machine.specs.Load.{known-command}
-use Rattle.operands.specs.Tests.{cond-not, first-refusal}
+use Rattle.refusals.specs.FirstRefusal.{cond-not, first-refusal}
 use Rattle.operands.specs.Refusals.{command-number, placed}
 use borrow.Author.Needs.{needs}
 use Rattle.operands.proofs.refusal.command_refusal.Statement.{statement}

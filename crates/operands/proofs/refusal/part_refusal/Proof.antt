@@ -1,7 +1,7 @@
 -- `part_refusal` is the definition: the first of its two refusals.
 use mathlib.Core.Bool.{cond, not}
 use lib.Dec.{leb}
-use Rattle.operands.specs.Tests.{cond-not, first-refusal}
+use Rattle.refusals.specs.FirstRefusal.{cond-not, first-refusal}
 use Rattle.operands.specs.Refusals.{part-number, operands-known}
 use borrow.Author.Needs.{needs}
 use Rattle.operands.proofs.refusal.part_refusal.Statement.{statement}

@@ -2,7 +2,7 @@
 use mathlib.Core.Bool.{cond}
 use lib.Dec.{eqb, leb}
 use Rattle.machine.specs.Kind.{ports}
-use Rattle.operands.specs.Tests.{above, cond-not, first-refusal}
+use Rattle.refusals.specs.FirstRefusal.{above, cond-not, first-refusal}
 use Rattle.operands.specs.Refusals.{port-number}
 use Rattle.machine.specs.Load.{wired}
 use borrow.Author.Needs.{needs}

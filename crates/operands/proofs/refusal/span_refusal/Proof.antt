@@ -1,7 +1,7 @@
 -- `span_refusal` is the definition: the first of its three refusals.
 use mathlib.Core.Bool.{cond, not}
 use lib.Dec.{leb}
-use Rattle.operands.specs.Tests.{above, cond-not, first-refusal}
+use Rattle.refusals.specs.FirstRefusal.{above, cond-not, first-refusal}
 use Rattle.operands.specs.Refusals.{span-number}
 use Rattle.machine.specs.Kind.{is-positive}
 use borrow.Author.Needs.{needs}

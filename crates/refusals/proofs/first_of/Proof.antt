@@ -1,7 +1,7 @@
 -- `first_of` makes the definition's test.
 use borrow.Author.Tests.{eq-eqb, ne-eqb}
-use Rattle.operands.proofs.refusal.first_of.Statement.{statement}
-use Rattle.operands.proofs.refusal.first_of.Tie as tie
+use Rattle.refusals.proofs.first_of.Statement.{statement}
+use Rattle.refusals.proofs.first_of.Tie as tie
 
 returns : tie.Need-returns
 returns c = rw (eq-eqb _ _ (c .if1 .taken))

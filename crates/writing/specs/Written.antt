@@ -5,7 +5,7 @@ use mathlib.Core.List.{List, _++_}
 use Prim.Native.Nat.{ℕ}
 use lib.ListN.{length, drop}
 use lib.Dec.{leb}
-use Rattle.lines.specs.declared.line.Written.{Written}
+use Rattle.writing.specs.declared.written.Written.{Written}
 
 -- the number of a call whose buffer is too short
 abbrev pub too-short : ℕ

@@ -6,7 +6,7 @@ use mathlib.Core.Path.{_≡_, refl, sym, _∙_}
 use mathlib.Core.List.{List, [], _∷_, _++_, append-assoc, append-nil}
 use lib.ListN.{length, take, drop, set, length-append}
 use lib.Seq.{take-suc-set, drop-set-lt, drop-drop}
-use Rattle.lines.specs.Put.{Put}
+use Rattle.writing.specs.Put.{Put}
 
 -- nothing
 pub put-nothing : (at : ℕ) (l : List ℕ) → Put 0 [] at l l at

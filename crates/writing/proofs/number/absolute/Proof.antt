@@ -1,4 +1,4 @@
--- `magnitude` is the value's distance from 0. For a negative value, −(n + 1), the code computes −(v + 1), which is n, and adds 1: each step fits,
+-- `absolute` is the number's distance from 0. For a negative one, −(n + 1), the code computes −(v + 1), which is n, and adds 1: each step fits,
 -- at the least value too. A signed local holds bits, so each result is read back from them by `toZ-ofZ`.
 use Prim.Native.Nat.{ℕ, zero, suc, _+_}
 use native.Mathlib.Numerals.{add-one}
@@ -13,8 +13,8 @@ use mir.Val.{Fits, SFits, ofZ, toZ}
 use mir.ValLaws.{toZ-ofZ}
 use borrow.Author.Needs.{needs}
 use Rattle.laws.specs.Signed.{negative, not-negative}
-use Rattle.lines.proofs.text.magnitude.Statement.{statement}
-use Rattle.lines.proofs.text.magnitude.Tie as tie
+use Rattle.writing.proofs.number.absolute.Statement.{statement}
+use Rattle.writing.proofs.number.absolute.Tie as tie
 
 -- one above −(n + 1) fits, and is n negated
 above-fits : (n : ℕ) → SFits w64 (negsuc n) → SFits w64 (negsuc n +ℤ pos 1)
@@ -25,7 +25,7 @@ above : (n : ℕ) → pos 0 -ℤ (negsuc n +ℤ pos 1) ≡ pos n
 above zero = refl
 above (suc n) = rw (+ℤ-one (negsuc (suc n))) (+ℤ-idl (pos (suc n)))
 
--- what the code computes for a negative value, and that it is one less than the magnitude
+-- what the code computes for a negative value, and that it is one less than the absolute value
 module _ (v : ℤ) (fits : SFits w64 v) (taken : ltZ (toZ w64 (ofZ w64 v)) (pos 0) ≡ true) where
   below : v ≡ negsuc (mag v)
   below = negative v (rw (toZ-ofZ w64 v fits) at taken)
@@ -86,7 +86,7 @@ cast-result-2 c =
 returns-2 : tie.Need-returns-2
 returns-2 c = search needs
 
-pub magnitude-spec : {M : Type 1} → statement M
-magnitude-spec =
+pub absolute-spec : {M : Type 1} → statement M
+absolute-spec =
     tie.close
     (tie.spec add-result sub-result cast-result add-result-2 returns cast-result-2 returns-2)

@@ -7,10 +7,10 @@ use mathlib.Core.List.{List, [], _∷_}
 use lib.ListN.{length, getD, take, length-take}
 use lib.Seq.{take-suc, take-all}
 use borrow.Author.Needs.{needs}
-use Rattle.lines.specs.Put.{Put}
-use Rattle.lines.specs.Pieces.{put-nothing, put-then, put-as}
-use Rattle.lines.proofs.text.put_text.Statement.{statement}
-use Rattle.lines.proofs.text.put_text.Tie as tie
+use Rattle.writing.specs.Put.{Put}
+use Rattle.writing.specs.Pieces.{put-nothing, put-then, put-as}
+use Rattle.writing.proofs.put.put_text.Statement.{statement}
+use Rattle.writing.proofs.put.put_text.Tie as tie
 
 -- one byte more
 byte-more : (text : List ℕ) {l₀ l₁ l₂ : List ℕ} {i at p q : ℕ} → i < length text → Put i (take i text) at l₀ l₁ p → Put 1 (getD text i 0 ∷ []) p l₁ l₂ q →

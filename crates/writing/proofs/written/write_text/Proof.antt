@@ -6,10 +6,10 @@ use mathlib.Core.List.{List, _++_}
 use lib.ListN.{length, drop, take-append-drop}
 use borrow.Author.Needs.{needs}
 use borrow.Author.Tests.{le-leb, lt-leb}
-use Rattle.lines.specs.Put.{Put}
-use Rattle.lines.specs.Written.{WrittenAs, too-short}
-use Rattle.lines.proofs.line.write_text.Statement.{statement}
-use Rattle.lines.proofs.line.write_text.Tie as tie
+use Rattle.writing.specs.Put.{Put}
+use Rattle.writing.specs.Written.{WrittenAs, too-short}
+use Rattle.writing.proofs.written.write_text.Statement.{statement}
+use Rattle.writing.proofs.written.write_text.Tie as tie
 
 -- a text that does not fit
 left-out : (text buf : List ℕ) → length buf < length text → WrittenAs text buf buf (record { number = too-short; length = length text })

@@ -1,8 +1,8 @@
 -- `put_byte` stores the byte at its place in the line, and returns the place behind it.
 use borrow.Author.Needs.{needs}
-use Rattle.lines.specs.Pieces.{put-one}
-use Rattle.lines.proofs.text.put_byte.Statement.{statement}
-use Rattle.lines.proofs.text.put_byte.Tie as tie
+use Rattle.writing.specs.Pieces.{put-one}
+use Rattle.writing.proofs.put.put_byte.Statement.{statement}
+use Rattle.writing.proofs.put.put_byte.Tie as tie
 
 slice-write-line : tie.Need-slice-write-line
 slice-write-line c = search needs

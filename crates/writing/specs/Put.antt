@@ -1,9 +1,8 @@
--- What the functions that put a piece into a line or a line into a buffer promise. Assumes nothing.
+-- What the functions that put a byte, a text or a line into a buffer promise. Assumes nothing.
 use mathlib.Core.Path.{_≡_}
-use mathlib.Core.List.{List, _∷_, _++_}
+use mathlib.Core.List.{List, _++_}
 use Prim.Native.Nat.{ℕ, _+_, _≤_}
 use lib.ListN.{length, take, drop}
-use Rattle.machine.specs.Rehearse.{blank, decimal}
 
 -- A text of at most `most` characters was put at position `at` of a line, and `next` is the position after it: what lay before it is kept, the text
 -- follows, and what lay behind it is kept.
@@ -12,8 +11,3 @@ pub record Put (most : ℕ) (text : List ℕ) (at : ℕ) (before after : List �
   pub line : take next after ≡ take at before ++ text
   pub behind : drop next after ≡ drop next before
   pub short : length text ≤ most
-
--- the numbers that begin the line of a committed advance
-unfoldable pub numbers-text : ℕ → ℕ → ℕ → ℕ → ℕ → List ℕ
-numbers-text t n step rounds revisions =
-    decimal t ++ (blank ∷ (decimal n ++ (blank ∷ (decimal step ++ (blank ∷ (decimal rounds ++ (blank ∷ decimal revisions)))))))

@@ -1,0 +1,2 @@
+-- The laws of a refusal with another behind it.
+pub mod FirstRefusal
