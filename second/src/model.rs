@@ -113,16 +113,10 @@ impl Kind {
         }
     }
 
-    /// Operand a, which is where the held number starts; 0 where the kind names none.
-    pub fn a(&self) -> i32 {
+    /// Where the held number starts: at operand a of the kinds that integrate. The others hold no number; theirs is 0.
+    pub fn first_held(&self) -> i32 {
         match *self {
-            Kind::Constant { a }
-            | Kind::Gain { a }
-            | Kind::Square { a, .. }
-            | Kind::Pulse { a, .. }
-            | Kind::Integrator { a }
-            | Kind::ResetIntegrator { a }
-            | Kind::Drive { a, .. } => a,
+            Kind::Integrator { a } | Kind::ResetIntegrator { a } | Kind::Drive { a, .. } => a,
             _ => 0,
         }
     }
@@ -175,7 +169,7 @@ impl Part {
             ratio: 1,
             local: 0,
             output: None,
-            held: kind.a(),
+            held: kind.first_held(),
             kept: None,
             side: None,
             mark: None,

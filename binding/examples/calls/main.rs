@@ -29,16 +29,18 @@ mod seen;
 #[allow(dead_code)]
 #[path = "../../../second/src/bin/differ/swept.rs"]
 mod swept;
+mod wanted;
 mod words;
 
-use alter::{Then, BILLION, LAST_TICK, SORTS};
+use alter::{Then, SORTS};
 use dozhumek::{ANSWER_BYTES, LOADED_BYTES, MODEL_BYTES};
 use random::Random;
-use second::{Kind, Model};
+use second::Model;
 use seen::Seen;
 use std::process::ExitCode;
 use std::time::Instant;
-use words::{Words, COUNT, KIND, P, RATIO, T};
+use wanted::wanted;
+use words::Words;
 
 /// The number of a model that is not sound.
 const NOT_SOUND: u64 = 24;
@@ -87,18 +89,6 @@ fn expected(given: &Words, w: u64) -> Result<Expected, String> {
     Ok(Expected { counts, model, by_rule: false })
 }
 
-/// A fresh model in which the kinds that integrate nothing hold 0, as the machine's definitions say (`first-state` in
-/// `crates/machine/specs/Fresh.antt`). The document gives these kinds no held number, nothing ever reads it, and the second
-/// implementation, whose parts all have the field, starts it at operand a.
-fn with_held_numbers(mut model: Model) -> Model {
-    for part in &mut model.parts {
-        if !matches!(part.kind, Kind::Integrator { .. } | Kind::ResetIntegrator { .. } | Kind::Drive { .. }) {
-            part.held = 0;
-        }
-    }
-    model
-}
-
 /// What a call of the library writes where it has room for `length` bytes and sometimes a few more, all `fill` before.
 fn written(
     name: &str,
@@ -136,7 +126,7 @@ fn load(stream: &[u8], random: &mut Random, seen: &mut Seen) -> Result<Option<Mo
     seen.loads += 1;
     let out = written("load", LOADED_BYTES, fill, random, |out| raw_load(stream, out))?;
     let (number, position, loaded) = match second::load(stream) {
-        Ok(accepted) => (0, accepted.end as u64, Some(with_held_numbers(accepted.model))),
+        Ok(accepted) => (0, accepted.end as u64, Some(accepted.model)),
         Err(refusal) => (u64::from(refusal.number), refusal.position as u64, None),
     };
     if [word(&out, 0), word(&out, 1)] != [number, position] {
@@ -225,27 +215,6 @@ fn same_words(got: &Words, want: &Words) -> Result<(), String> {
     match (0..words::WORDS).find(|&at| got.0[at] != want.0[at]) {
         None => Ok(()),
         Some(at) => Err(format!("word {at} of the model is {} instead of {}", got.0[at], want.0[at])),
-    }
-}
-
-/// A wanted step: of the sizes that matter to some part or to the last tick, or any number of 64 bits.
-fn wanted(words: &Words, random: &mut Random) -> u64 {
-    match random.below(24) {
-        0..=2 => random.pick(&[0, 1, BILLION, BILLION + 1, BILLION - 1, 1 << 32, (1 << 32) + 1, 1 << 63, u64::MAX]),
-        3 => alter::any(random) >> random.below(64),
-        4 => u64::MAX - random.below(3) as u64,
-        5..=9 if words.0[T] <= LAST_TICK && LAST_TICK - words.0[T] <= BILLION => {
-            (LAST_TICK - words.0[T] + random.below(3) as u64).saturating_sub(1)
-        }
-        5..=9 => random.of_any_size(BILLION),
-        10..=14 if (1..=32).contains(&words.0[COUNT]) => {
-            let part = words.part(random.below(words.count()));
-            let count = if matches!(part[KIND], 3 | 4 | 8) { part[P] } else { part[words::FIRST_SPAN] };
-            let telling = count.saturating_mul(part[RATIO]).clamp(1, BILLION);
-            (telling * random.between(1, 3) as u64 + random.below(3) as u64 - 1).clamp(1, BILLION)
-        }
-        15 => BILLION,
-        _ => 1 + random.below(40) as u64,
     }
 }
 

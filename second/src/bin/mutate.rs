@@ -1,14 +1,24 @@
 //! Builds the program with each fault of `mutations.txt` in turn and tells how soon `differ` sees it.
 //!
 //!     mutate [NAME]
+//!     mutate --sample N [--seed S]
 //!
-//! Run in the package's directory after a release build; NAME takes only the faults whose names hold it. The status is
-//! 0 if every fault that was tried was seen.
+//! Run in the package's directory after a release build. NAME takes only the faults whose names hold it, --sample N of
+//! them that the seed picks. Whatever is tried, the lines of every fault have to be found in its file. The status is 0 if
+//! every fault that was tried was seen.
 
+#[path = "differ/options.rs"]
+mod options;
+#[allow(dead_code)]
+#[path = "differ/random.rs"]
+mod random;
+
+use random::Random;
 use std::error::Error;
 use std::fs;
 use std::path::Path;
 use std::process::{Command, ExitCode};
+use std::time::Instant;
 
 const PLACE: &str = "target/mutants";
 
@@ -38,16 +48,22 @@ fn mutations(text: &str) -> Vec<Mutation> {
     all
 }
 
+impl Mutation {
+    /// The file's text with the fault in it.
+    fn made(&self) -> Result<String, Box<dyn Error>> {
+        let text = fs::read_to_string(Path::new("src").join(&self.file))?;
+        if text.matches(&self.old).count() != 1 {
+            return Err(format!("{}: the lines to take out do not occur once", self.name).into());
+        }
+        Ok(text.replace(&self.old, &self.new))
+    }
+}
+
 /// What `differ` says of the program with this fault, or none if it sees nothing.
 fn seen(mutation: &Mutation) -> Result<Option<String>, Box<dyn Error>> {
     let source = Path::new(PLACE).join("src");
     copy("src", &source)?;
-    let file = source.join(&mutation.file);
-    let text = fs::read_to_string(&file)?;
-    if text.matches(&mutation.old).count() != 1 {
-        return Err(format!("{}: the lines to take out do not occur once", mutation.name).into());
-    }
-    fs::write(&file, text.replace(&mutation.old, &mutation.new))?;
+    fs::write(source.join(&mutation.file), mutation.made()?)?;
     let build = Command::new("cargo")
         .args(["build", "--quiet", "--offline", "-j1", "--release", "--bin", "rehearse-second"])
         .args(["--config", "profile.release.lto=false", "--config", "profile.release.opt-level=1"])
@@ -77,29 +93,70 @@ fn copy(from: impl AsRef<Path>, to: &Path) -> Result<(), Box<dyn Error>> {
     Ok(())
 }
 
-fn run() -> Result<bool, Box<dyn Error>> {
-    let wanted = std::env::args().nth(1).unwrap_or_default();
+/// Which of the faults are tried.
+enum Tried {
+    Named(String),
+    Sample(usize, u64),
+}
+
+fn arguments() -> Option<Tried> {
+    let given: Vec<String> = std::env::args().skip(1).collect();
+    match &given[..] {
+        [] => Some(Tried::Named(String::new())),
+        [name] if !name.starts_with("--") => Some(Tried::Named(name.clone())),
+        _ => {
+            let [sample, seed] = options::numbers(given.into_iter(), ["--sample", "--seed"])?;
+            Some(Tried::Sample(usize::try_from(sample?).ok()?, seed.unwrap_or(1)))
+        }
+    }
+}
+
+/// The faults that are tried, in the order of the file.
+fn picked(all: &[Mutation], tried: &Tried) -> Vec<usize> {
+    let mut numbers: Vec<usize> = (0..all.len()).collect();
+    match tried {
+        Tried::Named(part) => numbers.retain(|&number| all[number].name.contains(part)),
+        Tried::Sample(size, seed) => {
+            Random::of_case(*seed, 0).shuffle(&mut numbers);
+            numbers.truncate(*size);
+            numbers.sort_unstable();
+        }
+    }
+    numbers
+}
+
+fn run(tried: &Tried) -> Result<bool, Box<dyn Error>> {
+    let start = Instant::now();
     fs::create_dir_all(PLACE)?;
     fs::copy("Cargo.toml", Path::new(PLACE).join("Cargo.toml"))?;
     fs::copy("Cargo.lock", Path::new(PLACE).join("Cargo.lock"))?;
-    let mut all_seen = true;
-    for mutation in mutations(&fs::read_to_string("mutations.txt")?) {
-        if !mutation.name.contains(&wanted) {
-            continue;
-        }
-        match seen(&mutation)? {
+    let all = mutations(&fs::read_to_string("mutations.txt")?);
+    for mutation in &all {
+        mutation.made()?;
+    }
+    let numbers = picked(&all, tried);
+    let mut missed = 0;
+    for &number in &numbers {
+        let mutation = &all[number];
+        match seen(mutation)? {
             Some(said) => println!("seen: {}: {said}", mutation.name),
             None => {
                 println!("NOT SEEN: {}", mutation.name);
-                all_seen = false;
+                missed += 1;
             }
         }
     }
-    Ok(all_seen)
+    let (tried, seconds) = (numbers.len(), start.elapsed().as_secs());
+    println!("mutate: {tried} of {} faults tried in {seconds} s, {missed} not seen", all.len());
+    Ok(missed == 0 && tried > 0)
 }
 
 fn main() -> ExitCode {
-    match run() {
+    let Some(tried) = arguments() else {
+        eprintln!("usage: mutate [NAME] | mutate --sample N [--seed S]");
+        return ExitCode::from(2);
+    };
+    match run(&tried) {
         Ok(true) => ExitCode::SUCCESS,
         Ok(false) => ExitCode::FAILURE,
         Err(error) => {

@@ -1,0 +1,100 @@
+//! The lines of a script: their words, the registers that they name, and the answers as they are printed.
+
+use crate::alterations::{alter, number};
+use crate::implementations::Calls;
+use dozhumek::{Answer, Model, PARTS};
+use std::collections::BTreeMap;
+use std::fmt::Write;
+use std::marker::PhantomData;
+
+/// The models by the names of their registers; a register that was never set holds no model.
+pub struct Registers<C> {
+    models: BTreeMap<String, Model>,
+    calls: PhantomData<C>,
+}
+
+impl<C> Default for Registers<C> {
+    fn default() -> Self {
+        Registers { models: BTreeMap::new(), calls: PhantomData }
+    }
+}
+
+impl<C: Calls> Registers<C> {
+    /// The answer to a line; none to a comment and to a blank line.
+    pub fn answer(&mut self, line: &[u8]) -> Option<String> {
+        if line.starts_with(b"#") || line.iter().all(u8::is_ascii_whitespace) {
+            return None;
+        }
+        let known = std::str::from_utf8(line).ok().and_then(|line| {
+            let words: Vec<&str> = line.split(' ').collect();
+            self.call(&words)
+        });
+        Some(known.unwrap_or_else(|| "unknown".to_string()))
+    }
+
+    /// Makes the call that these words say; none where they say none that is known, and then nothing is changed.
+    fn call(&mut self, words: &[&str]) -> Option<String> {
+        match *words {
+            ["load", name, stream] => {
+                let (name, stream) = (register(name)?, bytes(stream)?);
+                let loaded = C::load(&stream);
+                self.models.insert(name, loaded.model);
+                Some(format!("load {} {}", loaded.number, loaded.position))
+            }
+            ["advance", name, wanted] => {
+                let (name, wanted) = (register(name)?, number(wanted)?);
+                let answer = C::advance(&self.model(&name), wanted);
+                let said = format!("advance {}", said(&answer));
+                self.models.insert(name, answer.model);
+                Some(said)
+            }
+            ["alter", name, ref field @ .., value] => {
+                let name = register(name)?;
+                let mut model = self.model(&name);
+                alter(&mut model, field, value)?;
+                self.models.insert(name, model);
+                Some("altered".to_string())
+            }
+            _ => None,
+        }
+    }
+
+    /// What a register holds.
+    pub fn model(&self, name: &str) -> Model {
+        self.models.get(name).cloned().unwrap_or_else(|| Model::from_bytes(&[]))
+    }
+}
+
+/// A register's name: small letters and digits.
+fn register(word: &str) -> Option<String> {
+    let is_name = !word.is_empty() && word.bytes().all(|c| c.is_ascii_lowercase() || c.is_ascii_digit());
+    is_name.then(|| word.to_string())
+}
+
+/// The bytes that a word spells: pairs of hexadecimal digits, or `.` for none.
+fn bytes(word: &str) -> Option<Vec<u8>> {
+    if word == "." {
+        return Some(Vec::new());
+    }
+    let digit = |c: u8| char::from(c).to_digit(16).map(|digit| digit as u8);
+    let (pairs, odd) = word.as_bytes().as_chunks();
+    if pairs.is_empty() || !odd.is_empty() {
+        return None;
+    }
+    pairs.iter().map(|&[high, low]| Some(16 * digit(high)? + digit(low)?)).collect()
+}
+
+/// An answer as a script prints it: outputs by part number, none of them where there are more parts than room for them.
+fn said(answer: &Answer) -> String {
+    let Answer { number, step, rounds, revisions, ceiling, model } = answer;
+    let mut said = format!("{number} {step} {rounds} {revisions} {ceiling} at {} {} outputs", model.t, model.n);
+    let count = usize::try_from(model.count).ok().filter(|&count| count <= PARTS).unwrap_or(0);
+    for part in &model.parts[..count] {
+        // A string takes every write.
+        let _ = match part.output {
+            Some(value) => write!(said, " {value}"),
+            None => write!(said, " -"),
+        };
+    }
+    said
+}

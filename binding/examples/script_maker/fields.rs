@@ -1,0 +1,79 @@
+//! The fields of a model by the names and values that a script's alterations have.
+
+use crate::words::*;
+
+/// The names, without the numbers of parts, places and spans.
+pub const NAMES: [&str; 21] = [
+    "magnitude",
+    "count",
+    "tick",
+    "microstep",
+    "order",
+    "kind",
+    "preference",
+    "a",
+    "b",
+    "p",
+    "spans",
+    "span",
+    "port0",
+    "port1",
+    "ratio",
+    "local",
+    "held",
+    "signal",
+    "output",
+    "side",
+    "mark",
+];
+
+/// Which of the names a field has.
+pub fn sort_of(field: &str) -> &str {
+    let mut words = field.split(' ');
+    match words.next() {
+        Some("part") => words.nth(1).unwrap_or(""),
+        first => first.unwrap_or(""),
+    }
+}
+
+/// The fields in use and their values, of a model in normal words. Where it claims more parts than there is room for, `parts`
+/// are in use.
+pub fn of(words: &Words, parts: usize) -> Vec<(String, String)> {
+    let count = if words.0[COUNT] <= PARTS as u64 { words.count() } else { parts };
+    let mut fields: Vec<(String, String)> = [("magnitude", MAGNITUDE), ("count", COUNT), ("tick", T), ("microstep", N)]
+        .map(|(name, at)| (name.to_string(), words.0[at].to_string()))
+        .to_vec();
+    for number in 0..count {
+        fields.push((format!("order {number}"), words.0[ORDER + number].to_string()));
+        let of_part = of_part(words.part(number));
+        fields.extend(of_part.into_iter().map(|(name, value)| (format!("part {number} {name}"), value)));
+    }
+    fields
+}
+
+fn of_part(part: &[u64]) -> Vec<(String, String)> {
+    let plain = |at: usize| part[at].to_string();
+    let signed = |at: usize| (part[at] as i64).to_string();
+    let port = |at: usize| if part[at] == 0 { "-".to_string() } else { (part[at] - 1).to_string() };
+    let signal = |at: usize| if part[at] == 0 { "-".to_string() } else { signed(at + 1) };
+    let spans = part[SPAN_COUNT].min(SPANS as u64) as usize;
+    let spans = (0..spans).map(|at| (format!("span {at}"), plain(FIRST_SPAN + at)));
+    let others = [
+        ("kind", plain(KIND)),
+        ("preference", plain(PREFERENCE)),
+        ("a", signed(A)),
+        ("b", signed(B)),
+        ("p", plain(P)),
+        ("spans", plain(SPAN_COUNT)),
+        ("port0", port(PORT)),
+        ("port1", port(PORT + 1)),
+        ("ratio", plain(RATIO)),
+        ("local", plain(LOCAL)),
+        ("held", signed(HELD)),
+        ("signal", signal(SIGNAL)),
+        ("output", signal(OUTPUT)),
+        ("side", ["unset", "negative", "positive"][part[SIDE] as usize].to_string()),
+        ("mark", ["none", "1", "-1"][part[MARK] as usize].to_string()),
+    ];
+    others.into_iter().map(|(name, value)| (name.to_string(), value)).chain(spans).collect()
+}

@@ -1,0 +1,173 @@
+//! Makes a call script in which something happens, and prints it.
+//!
+//!     script_maker [--cases N] [--seed S]
+//!
+//! Each case loads a stream of `second/src/bin/differ` into one of a few registers, plays some steps, and then alters the
+//! model in the ways of `examples/calls`, plays on, and mostly takes the alteration back. The second implementation tells what
+//! the registers hold meanwhile. The bytes of unused places are free, so none comes into use that was not written by a line
+//! before. The status is 1, and what is missing is said, where a number, a field or a sort was not reached.
+
+#[allow(dead_code)]
+#[path = "../calls/alter.rs"]
+mod alter;
+#[allow(dead_code)]
+#[path = "../script/alterations.rs"]
+mod alterations;
+#[allow(dead_code)]
+#[path = "../../../second/src/bin/differ/damage.rs"]
+mod damage;
+#[allow(dead_code)]
+#[path = "../../../second/src/bin/differ/draft.rs"]
+mod draft;
+mod fields;
+#[allow(dead_code)]
+#[path = "../../../second/src/bin/differ/generate.rs"]
+mod generate;
+#[allow(dead_code)]
+#[path = "../script/implementations.rs"]
+mod implementations;
+#[path = "../../../second/src/bin/differ/options.rs"]
+mod options;
+#[allow(dead_code)]
+#[path = "../../../second/src/bin/differ/random.rs"]
+mod random;
+#[path = "../script/registers.rs"]
+mod registers;
+#[allow(dead_code)]
+#[path = "../../../second/src/bin/differ/swept.rs"]
+mod swept;
+#[path = "../calls/wanted.rs"]
+mod wanted;
+#[allow(dead_code)]
+#[path = "../calls/words.rs"]
+mod words;
+
+use alter::{Then, SORTS};
+use implementations::Second;
+use random::Random;
+use registers::Registers;
+use std::collections::BTreeSet;
+use std::process::ExitCode;
+use wanted::wanted;
+use words::Words;
+
+const NAMES: [&str; 4] = ["m0", "m1", "drum", "7"];
+
+/// The numbers of a load and of an advance.
+const LOADS: [u64; 12] = [0, 1, 2, 3, 5, 6, 7, 8, 9, 10, 11, 12];
+const ADVANCES: [u64; 6] = [0, 20, 21, 22, 23, 24];
+
+/// A script, what its registers hold at its end, and what it reached.
+#[derive(Default)]
+struct Made {
+    script: String,
+    registers: Registers<Second>,
+    reached: BTreeSet<String>,
+}
+
+impl Made {
+    /// Puts a line behind the others. The number that it is answered, of a load or an advance.
+    fn line(&mut self, line: &str) -> Option<u64> {
+        self.script.push_str(line);
+        self.script.push('\n');
+        let answer = self.registers.answer(line.as_bytes())?;
+        let mut words = answer.split(' ');
+        let (call, number) = (words.next()?, words.next()?);
+        self.reached.insert(format!("{call} {number}"));
+        number.parse().ok()
+    }
+
+    /// What a register holds.
+    fn words(&self, name: &str) -> Words {
+        Words::from_bytes(&self.registers.model(name).bytes())
+    }
+
+    /// Advances a model by some step, up to `most` times. The last number.
+    fn play(&mut self, name: &str, most: usize, random: &mut Random) -> Option<u64> {
+        let mut number = None;
+        for _ in 0..1 + random.below(most) {
+            let w = wanted(&self.words(name), random);
+            number = self.line(&format!("advance {name} {w}"));
+        }
+        number
+    }
+
+    /// Alters a model into this one, field by field; `parts` is how many parts it has.
+    fn alter_into(&mut self, name: &str, to: &Words, parts: usize) {
+        let from: BTreeSet<_> = fields::of(&self.words(name), parts).into_iter().collect();
+        for (field, value) in fields::of(to, parts).into_iter().filter(|named| !from.contains(named)) {
+            self.line(&format!("alter {name} {field} {value}"));
+            self.reached.insert(format!("field {}", fields::sort_of(&field)));
+        }
+    }
+
+    /// Alters a sound model, plays on and, unless it is sound still and the case goes on with it, takes that back.
+    fn play_altered(&mut self, name: &str, random: &mut Random) {
+        let before = self.words(name);
+        let (sort, _, alteration) = random.pick(SORTS);
+        let mut altered = before.clone();
+        // Some faults are far from the start.
+        let first = random.pick(&SORTS[..10]);
+        if first.1 != Then::Sound || !random.once_in(3) || !first.2(&mut altered, random) {
+            altered = before.clone();
+        }
+        if !alteration(&mut altered, random) {
+            return;
+        }
+        self.alter_into(name, &altered.normal(), before.count());
+        let number = self.play(name, 3, random);
+        self.reached.insert(format!("sort {sort}"));
+        if number == Some(24) || random.once_in(2) {
+            self.alter_into(name, &before, before.count());
+        }
+    }
+
+    fn case(&mut self, random: &mut Random) {
+        let name = random.pick(&NAMES);
+        let mut stream = generate::case(random);
+        if let Ok(accepted) = second::load(&stream) {
+            // The score is played by the lines, and its bytes are seldom needed.
+            stream.truncate(accepted.end + random.pick(&[0, 0, 0, 1, 10]));
+        }
+        let hex: String = stream.iter().map(|byte| format!("{byte:02x}")).collect();
+        let number = self.line(&format!("load {name} {}", if hex.is_empty() { "." } else { &hex }));
+        if number != Some(0) && !random.once_in(4) {
+            return;
+        }
+        if self.play(name, 8, random) == Some(24) {
+            return;
+        }
+        for _ in 0..random.below(6) {
+            self.play_altered(name, random);
+        }
+    }
+
+    /// What was not reached and should have been.
+    fn missing(&self) -> Vec<String> {
+        let loads = LOADS.iter().map(|number| format!("load {number}"));
+        let advances = ADVANCES.iter().map(|number| format!("advance {number}"));
+        let named = fields::NAMES.iter().map(|field| format!("field {field}"));
+        let sorts = SORTS.iter().filter(|sort| sort.0 != "as it was").map(|sort| format!("sort {}", sort.0));
+        loads.chain(advances).chain(named).chain(sorts).filter(|what| !self.reached.contains(what)).collect()
+    }
+}
+
+fn main() -> ExitCode {
+    let Some([cases, seed]) = options::numbers(std::env::args().skip(1), ["--cases", "--seed"]) else {
+        eprintln!("usage: script_maker [--cases N] [--seed S]");
+        return ExitCode::from(2);
+    };
+    let (cases, seed) = (cases.unwrap_or(1000), seed.unwrap_or(1));
+    let mut made = Made::default();
+    for number in 0..cases {
+        made.script.push_str(&format!("# case {number} of seed {seed}\n"));
+        made.case(&mut Random::of_case(seed, number));
+    }
+    print!("{}", made.script);
+    let missing = made.missing();
+    if !missing.is_empty() {
+        eprintln!("script_maker: {cases} cases of seed {seed} reached too little: {}", missing.join("; "));
+        return ExitCode::FAILURE;
+    }
+    ExitCode::SUCCESS
+}
