@@ -17,3 +17,4 @@ pub mod WholeList
 pub mod Score
 pub mod Rehearse
 pub mod Played
+pub mod Rehearsals
