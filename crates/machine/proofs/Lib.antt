@@ -1,6 +1,7 @@
--- What is proved of the definitions themselves: `played`, the ten marked examples, `chained`, an example of a chain of calls, and `kind-table`, the table of
--- kinds line by line.
+-- What is proved of the definitions themselves: `played`, the ten marked examples, `rehearsals`, what is printed of refused and of long streams,
+-- `chained`, an example of a chain of calls, and `kind-table`, the table of kinds line by line.
 pub mod Computing
 pub mod Played
+pub mod Rehearsals
 pub mod Chained
 pub mod KindTable

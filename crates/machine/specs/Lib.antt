@@ -17,4 +17,5 @@ pub mod WholeList
 pub mod Score
 pub mod Rehearse
 pub mod Played
+pub mod Rehearsals
 pub mod KindTable

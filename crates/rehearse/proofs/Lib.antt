@@ -1,2 +1,4 @@
--- The lines of a score, split where the buffer is written.
+-- The lines of a score, split where the buffer is written; the batches that are made of them; and the batches of the empty input, an example.
 mod Lines
+mod Batching
+pub mod EmptyInput

@@ -17,14 +17,14 @@ use Rattle.machine.specs.Model.{trimmed, trimmed-answer}
 use Rattle.machine.specs.Calls.{Advanced}
 use Rattle.machine.specs.Score.{score-command, score-at}
 use Rattle.machine.specs.Load.{byte-at}
-use Rattle.machine.specs.Rehearse.{answer-line, refused-at-line, lines-from}
+use Rattle.machine.specs.Rehearse.{answer-line, refused-at-line, lines-from, loaded-lines}
 use Rattle.laws.specs.Bools.{cond-cases}
 use Rattle.printing.specs.Fuel.{score-later, lines-enough}
 use Rattle.writing.specs.declared.written.Written.{Written}
 use Rattle.writing.specs.Put.{Put}
 use Rattle.writing.specs.Written.{WrittenAs}
-use Rattle.rehearse.specs.declared.play.Played.{Played}
-use Rattle.rehearse.specs.Playing.{lines-at, to-come, PlayedOne}
+use Rattle.rehearse.specs.declared.play.Rehearsing.{Rehearsing}
+use Rattle.rehearse.specs.Playing.{lines-at, unprinted, PlayedOne}
 
 -- what a written text's answer and buffer are, where the text fits
 fits-length : {text before after : List ℕ} {w : Written} → WrittenAs text before after w → w .length ≡ length text
@@ -79,13 +79,13 @@ score-inside bs at =
     (λ past. tt)
 
 -- all lines after one command more of a score that did not end there
-lines-go-on : (bs : List ℕ) (r : Played) → r .ended ≡ false → to-come bs r ≡ lines-at bs (r .at) (r .model)
-unfolding to-come
-lines-go-on bs r e = rw e refl
+pub lines-go-on : (bs : List ℕ) (r : Rehearsing) → r .ended ≡ false → r .number ≡ 0 → unprinted bs r ≡ lines-at bs (r .at) (r .model)
+unfolding unprinted loaded-lines lines-at
+lines-go-on bs r goes loaded = rw (goes, loaded) refl
 
-pub played-on : {bs before after all : List ℕ} {at used : ℕ} {m : Model} {r : Played} → r .ended ≡ false → all ≡ take used before ++ lines-at bs at m →
+pub played-on : {bs before after all : List ℕ} {at used : ℕ} {m : Model} {r : Rehearsing} → r .ended ≡ false → all ≡ take used before ++ lines-at bs at m →
     PlayedOne bs at m before used after r → all ≡ take (r .used) after ++ lines-at bs (r .at) (r .model)
-played-on {bs = bs} {r = r} e so-far one = so-far ∙ (rw (lines-go-on bs r e) at (one .lines))
+played-on {bs = bs} {r = r} e so-far one = so-far ∙ (rw (lines-go-on bs r e (one .loaded)) at (one .lines))
 
 module _ (bs : List ℕ) (at : ℕ) where
   wanted-later : (w next : ℕ) → score-at bs at ≡ Wanted w next → (at < next) × (at < length bs)
@@ -113,29 +113,31 @@ module _ (bs : List ℕ) (at : ℕ) where
 
   -- one command played, by what the score holds there
   pub played-end : (m : Model) (buffer : List ℕ) (used : ℕ) → score-at bs at ≡ End → used ≤ length buffer →
-      PlayedOne bs at m buffer used buffer (record { ended = true; at = at; used = used; model = m })
-  unfolding to-come
+      PlayedOne bs at m buffer used buffer (record { ended = true; number = 0; at = at; used = used; model = m })
+  unfolding unprinted
   played-end m buffer used e room =
-      record { lines = rw (lines-end m e) refl; room = room; later = λ goes. absurd (true≢false goes) }
+      record { lines = rw (lines-end m e) refl; room = room; loaded = refl; later = λ goes. absurd (true≢false goes) }
 
   pub played-refused : (m : Model) (number position used end : ℕ) (before after : List ℕ) → score-at bs at ≡ Refused number position →
       Put 1024 (refused-at-line number position) used before after end → end ≤ length after →
-      PlayedOne bs at m before used after (record { ended = true; at = at; used = end; model = m })
-  unfolding to-come
+      PlayedOne bs at m before used after (record { ended = true; number = 0; at = at; used = end; model = m })
+  unfolding unprinted
   played-refused m number position used end before after e put room =
       record {
         lines = rw (lines-refused m number position e, append-nil, put .line) refl;
         room = room;
+        loaded = refl;
         later = λ goes. absurd (true≢false goes);
       }
 
   pub played-wanted : (m : Model) (w next used end : ℕ) (before after : List ℕ) (r : Answer) → score-at bs at ≡ Wanted w next → Advanced m w r →
       Put 1024 (answer-line (trimmed-answer r)) used before after end → end ≤ length after →
-      PlayedOne bs at m before used after (record { ended = false; at = next; used = end; model = r .model })
-  unfolding to-come
+      PlayedOne bs at m before used after (record { ended = false; number = 0; at = next; used = end; model = r .model })
+  unfolding unprinted loaded-lines lines-at
   played-wanted m w next used end before after r e advanced put room =
       record {
         lines = rw (lines-wanted m w next r e advanced, put .line) (sym (append-assoc (take used before) _ _));
         room = room;
+        loaded = refl;
         later = λ goes. wanted-later w next e;
       }

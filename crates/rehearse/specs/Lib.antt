@@ -1,2 +1,4 @@
--- What playing a score promises: the machine's lines, those in the buffer and those still to come.
+-- What playing a score and each batch of a rehearsal promise, the machine's lines in the buffer and those still to come; and what all batches print together.
 pub mod Playing
+pub mod Batches
+pub mod WholeRehearsal

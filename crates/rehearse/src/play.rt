@@ -14,19 +14,21 @@ ghost use Rattle.writing.specs.Put.{Put};
 ghost use Rattle.rehearse.specs.Playing.{PlayedOne, PlayedSome};
 
 // How many bytes have room for any line.
-const LINE: usize = 1024;
+pub(crate) const LINE: usize = 1024;
 
-// How far a score was played: whether it ended, the next command's position, how many bytes the lines take, and
-// the model.
-pub struct Played {
+// Where a rehearsal stands: whether it ended; the load's number, 0 where it was accepted; the position of the next
+// score command, or of the load's refusal; how many bytes the lines take that were put into a buffer last; and the
+// model.
+pub struct Rehearsing {
     pub ended: bool,
+    pub number: u64,
     pub at: usize,
     pub used: usize,
     pub model: Model,
 }
 
-// The line of a score refusal, behind the first `used` bytes.
-fn put_refused_at(number: u64, position: usize, lines: &mut [u8], used: usize) -> usize
+// The line of a load or score refusal, behind the first `used` bytes.
+pub(crate) fn put_refused_at(number: u64, position: usize, lines: &mut [u8], used: usize) -> usize
     requires { ⌜ used + 1024 ≤ length (now lines) ⌝ }
     ensures { λ r. ⌜ Put 1024 (refused-at-line number position) used (now (lines .entry)) (now (lines .exit)) r ⌝ }
 {
@@ -44,14 +46,15 @@ fn put_answer(answer: Answer, lines: &mut [u8], used: usize) -> usize
 }
 
 // One score command, with its line behind the first `used` bytes.
-fn play_one(stream: &[u8], at: usize, model: Model, lines: &mut [u8], used: usize) -> Played
+fn play_one(stream: &[u8], at: usize, model: Model, lines: &mut [u8], used: usize) -> Rehearsing
     requires { ⌜ used + 1024 ≤ length (now lines) ⌝ }
     ensures { λ r. ⌜ PlayedOne (now (stream .entry)) at model (now (lines .entry)) used (now (lines .exit)) r ⌝ }
 {
     let s = score_at(stream, at);
     match s {
-        Score::End => Played {
+        Score::End => Rehearsing {
             ended: true,
+            number: 0,
             at: at,
             used: used,
             model: model,
@@ -60,19 +63,21 @@ fn play_one(stream: &[u8], at: usize, model: Model, lines: &mut [u8], used: usiz
             let answer = advance(model, wanted);
             let end = put_answer(answer, lines, used);
             let after = answer.model;
-            Played {
+            Rehearsing {
                 ended: false,
+                number: 0,
                 at: next,
                 used: end,
                 model: after,
             }
         }
         Score::Refused(number, position) => {
-            let end = put_refused_at(number, position, lines, used);
-            Played {
+            let last = put_refused_at(number, position, lines, used);
+            Rehearsing {
                 ended: true,
+                number: 0,
                 at: at,
-                used: end,
+                used: last,
                 model: model,
             }
         }
@@ -80,7 +85,7 @@ fn play_one(stream: &[u8], at: usize, model: Model, lines: &mut [u8], used: usiz
 }
 
 // The score commands from `from` on, as long as there is room for another line.
-pub(crate) fn play_some(stream: &[u8], from: usize, model: Model, lines: &mut [u8]) -> Played
+pub(crate) fn play_some(stream: &[u8], from: usize, model: Model, lines: &mut [u8]) -> Rehearsing
     ensures { λ r. ⌜ PlayedSome (now (stream .entry)) from model (now (lines .exit)) r ⌝ }
 {
     let mut at = from;
@@ -96,8 +101,9 @@ pub(crate) fn play_some(stream: &[u8], from: usize, model: Model, lines: &mut [u
         let next = played.model;
         now = next;
     }
-    Played {
+    Rehearsing {
         ended: false,
+        number: 0,
         at: at,
         used: used,
         model: now,

@@ -6,7 +6,8 @@ use mathlib.Core.Path.{_≡_, refl, sym, _∙_}
 use mathlib.Core.Bool.{true≢false}
 use mathlib.Core.List.{_++_}
 use lib.ListN.{length, take}
-use Rattle.rehearse.specs.Playing.{lines-at, to-come}
+use Rattle.machine.specs.Rehearse.{loaded-lines}
+use Rattle.rehearse.specs.Playing.{lines-at, unprinted}
 use Rattle.rehearse.proofs.Lines.{played-on}
 use Rattle.rehearse.proofs.play.play_some.Statement.{statement}
 use Rattle.rehearse.proofs.play.play_some.Tie as tie
@@ -65,7 +66,7 @@ same-length-2 : tie.Need-same-length-2 Inv-loop μ-loop
 same-length-2 c = omega arith
 
 returns-2 : tie.Need-returns-2 Inv-loop μ-loop
-unfolding to-come
+unfolding unprinted loaded-lines lines-at
 returns-2 c =
     let turn = c .before in
     record {

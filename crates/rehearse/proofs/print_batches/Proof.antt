@@ -1,0 +1,78 @@
+-- `print_batches` ends, and what it writes at each turn is the batch's text. The invariant: the buffer keeps its length, and what was printed so far with what is to come
+-- is what is rehearsed, where printed is the text of each batch behind the others, as handed to `write_all` (`one-batch-more`). The measure is what is left of the
+-- input, since a batch that is not the last moves on.
+use native.Mathlib.Omega.{arith}
+use Prim.Native.Nat.{_-_}
+use mathlib.Core.Path.{_≡_}
+use lib.ListN.{length, length-take}
+use Rattle.rehearse.specs.Batches.{SoFar}
+use Rattle.rehearse.proofs.Batching.{nothing-so-far, one-batch-more}
+use Rattle.rehearse.proofs.print_batches.Statement.{statement}
+use Rattle.rehearse.proofs.print_batches.Tie as tie
+
+abbrev Inv-loop : tie.InvT-loop
+Inv-loop input lines₀ now₀ lines now = (length lines ≡ 65536) × SoFar input now
+
+abbrev μ-loop : tie.MeasureT-loop
+μ-loop input lines₀ now₀ lines now = length input - now .at
+
+large-buffer-requires : tie.Need-large-buffer-requires Inv-loop μ-loop
+large-buffer-requires c κs = tt
+
+begun-requires : tie.Need-begun-requires Inv-loop μ-loop
+begun-requires c κs = tt
+
+loop-holds : tie.Need-loop-holds Inv-loop μ-loop
+loop-holds c = (omega arith, nothing-so-far _ (c .begun .result) (c .begun .ensures))
+
+slice-aggregate-batch : tie.Need-slice-aggregate-batch Inv-loop μ-loop
+slice-aggregate-batch c = omega arith
+
+batch-requires : tie.Need-batch-requires Inv-loop μ-loop
+batch-requires c κs = tt
+
+array-share-prefix-lines : tie.Need-array-share-prefix-lines Inv-loop μ-loop
+array-share-prefix-lines c = omega arith
+
+slice-aggregate-write-all : tie.Need-slice-aggregate-write-all Inv-loop μ-loop
+slice-aggregate-write-all c = simp length-take (omega arith)
+
+write-all-requires : tie.Need-write-all-requires Inv-loop μ-loop
+write-all-requires c κs = tt
+
+returns : tie.Need-returns Inv-loop μ-loop
+returns c = tt
+
+returns-2 : tie.Need-returns-2 Inv-loop μ-loop
+returns-2 c = tt
+
+loop-less : tie.Need-loop-less Inv-loop μ-loop
+loop-less c =
+    let made = c .before .before .before .before .before in
+    let later = made .batch .ensures .later (c .if2 .left) (omega arith) in
+    omega (arith, later .0, later .1)
+
+loop-again : tie.Need-loop-again Inv-loop μ-loop
+loop-again c =
+    let made = c .before .before .before .before .before in
+    let turn = made .before .before in
+    (omega arith, one-batch-more (turn .loop .inv .1) (made .batch .ensures))
+
+pub print-batches-spec : {M : Type 1} → statement M
+print-batches-spec =
+    tie.close
+    (tie.spec
+    Inv-loop
+    μ-loop
+    large-buffer-requires
+    begun-requires
+    loop-holds
+    slice-aggregate-batch
+    batch-requires
+    array-share-prefix-lines
+    slice-aggregate-write-all
+    write-all-requires
+    returns
+    returns-2
+    loop-less
+    loop-again)
