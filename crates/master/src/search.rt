@@ -4,9 +4,10 @@
 use crate::asking::any_due_of;
 use crate::asking::any_objects_of;
 use crate::asking::round_of;
+use crate::past::leads_past;
 use machine::model::Answer;
 use machine::model::Model;
-use machine::time::Point;
+use machine::time::Ticks;
 use steps::step::made;
 ghost use mathlib.Core.Path.{_≡_};
 ghost use mathlib.Core.Bool.{true};
@@ -27,7 +28,7 @@ fn refusal_of(m: Model, h: u64) -> u64
     }
     if any_due_of(m) {
         let now = m.point;
-        if now.n == Point::LAST.n {
+        if leads_past(now, Ticks(0)) {
             return 21;
         }
         return 0;
