@@ -19,11 +19,11 @@ ghost use Rattle.machine.specs.Sound.{sound};
 ghost use Rattle.master.specs.Searching.{Searched, refusal};
 
 // The number of the refusal of a step of `h` that all parts accept, 0 where it is made on trial.
-fn refusal_of(m: Model, h: u64) -> u64
+fn refusal_of(m: Model, h: Ticks) -> u64
     requires { ⌜ sound (trimmed m) ≡ true ⌝ }
-    ensures { λ r. ⌜ r ≡ refusal (trimmed m) h ⌝ }
+    ensures { λ r. ⌜ r ≡ refusal (trimmed m) (h .0) ⌝ }
 {
-    if h != 0 {
+    if h.0 != 0 {
         return 0;
     }
     if any_due_of(m) {

@@ -17,16 +17,16 @@ ghost use Rattle.machine.specs.Step.{step-made};
 // The model after a step of `h`. Compiled, it copies about seven models' worth of bytes, none in a loop: `m` is kept
 // for the delays, moved, and taken on to the new point; both are then handed to the call that fills and settles. What
 // is required rules out a step past the time.
-pub fn made(m: Model, h: u64) -> Model
+pub fn made(m: Model, h: Ticks) -> Model
     requires { ⌜ sound (trimmed m) ≡ true ⌝ }
-    requires { ⌜ h ≤ 1_000_000_000 ⌝ }
-    requires { ⌜ tick (m .point) + h ≤ last-tick ⌝ }
-    requires { ⌜ (h ≡ 0 → m .point .n < last-microstep) ⌝ }
-    ensures { λ r. ⌜ trimmed r ≡ step-made (trimmed m) h ⌝ }
+    requires { ⌜ h .0 ≤ 1_000_000_000 ⌝ }
+    requires { ⌜ tick (m .point) + h .0 ≤ last-tick ⌝ }
+    requires { ⌜ (h .0 ≡ 0 → m .point .n < last-microstep) ⌝ }
+    ensures { λ r. ⌜ trimmed r ≡ step-made (trimmed m) (h .0) ⌝ }
     ensures { λ r. ⌜ SameUnused m r ⌝ }
 {
     let from = m.point;
-    let Stepped::To(now) = from.step(Ticks(h)) else {
+    let Stepped::To(now) = from.step(h) else {
         return m;
     };
     let mut next = all_moved(m, h);
