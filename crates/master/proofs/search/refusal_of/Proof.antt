@@ -11,7 +11,7 @@ use Rattle.master.proofs.search.refusal_of.Tie as tie
 
 returns : tie.Need-returns
 unfolding refusal
-returns c = rw (ne-eqb (c .before .args .h) 0 (c .if1 .taken))
+returns c = rw (ne-eqb (c .before .before .args .h .0) 0 (c .if1 .taken))
 
 any-due-of-requires : tie.Need-any-due-of-requires
 any-due-of-requires c κs = search needs
@@ -24,10 +24,10 @@ abbrev tests-of : tie.After-leads-past → tie.Then2
 tests-of past = past .before .before
 
 -- the microstep is the last where a step of 0 leads past the time
-last-by : (past : tie.After-leads-past) → eqb (tests-of past .before .before .before .args .m .point .n) last-microstep ≡ past .leads-past .result
+last-by : (past : tie.After-leads-past) → eqb (tests-of past .before .before .before .before .args .m .point .n) last-microstep ≡ past .leads-past .result
 unfolding trimmed
 last-by past =
-    let start = tests-of past .before .before .before in sym (past .leads-past .ensures ∙ last-past (trimmed (start .args .m)) (start .pre))
+    let start = tests-of past .before .before .before .before in sym (past .leads-past .ensures ∙ last-past (trimmed (start .args .m)) (start .pre))
 
 returns-2 : tie.Need-returns-2
 unfolding refusal trimmed
@@ -35,7 +35,7 @@ returns-2 c =
     let tests = tests-of (c .before) in
     let zeros = tests .before .before in
     rw (
-      eq-eqb (zeros .before .args .h) 0 (zeros .if1 .left),
+      eq-eqb (zeros .before .before .args .h .0) 0 (zeros .if1 .left),
       sym (tests .before .any-due-of .ensures) ∙ tests .if2 .taken,
       last-by (c .before) ∙ c .if3 .taken,
     )
@@ -46,7 +46,7 @@ returns-3 c =
     let tests = tests-of (c .before) in
     let zeros = tests .before .before in
     rw (
-      eq-eqb (zeros .before .args .h) 0 (zeros .if1 .left),
+      eq-eqb (zeros .before .before .args .h .0) 0 (zeros .if1 .left),
       sym (tests .before .any-due-of .ensures) ∙ tests .if2 .taken,
       last-by (c .before) ∙ c .if3 .left,
     )
@@ -54,7 +54,7 @@ returns-3 c =
 returns-4 : tie.Need-returns-4
 unfolding refusal
 returns-4 c =
-    rw (eq-eqb (c .before .before .before .args .h) 0 (c .before .before .if1 .left), sym (c .before .any-due-of .ensures) ∙ c .if2 .left)
+    rw (eq-eqb (c .before .before .before .before .args .h .0) 0 (c .before .before .if1 .left), sym (c .before .any-due-of .ensures) ∙ c .if2 .left)
 
 pub refusal-of-spec : {M : Type 1} → statement M
 refusal-of-spec = tie.close (tie.spec returns any-due-of-requires leads-past-requires returns-2 returns-3 returns-4)

@@ -27,7 +27,7 @@ all-moved-requires c κs = search needs
 settled-model-requires : tie.Need-settled-model-requires
 settled-model-requires c κs =
     let s = c .before .before .before .before .before .before in
-    made-fillable (s .args .m) (c .all-moved .result) _ (s .args .h) (s .pre .0) (c .all-moved .ensures)
+    made-fillable (s .args .m) (c .all-moved .result) _ (s .args .h .0) (s .pre .0) (c .all-moved .ensures)
 
 returns-2 : tie.Need-returns-2
 returns-2 c =
@@ -40,7 +40,7 @@ returns-2 c =
     let r = c .settled-model .result in
     let now = told .now .given .0 .0 in
     let to = leads-to (m .point) now _ (s .pre .1 .1 .0) (s .pre .1 .1 .1) (sym (leads .step .ensures) ∙ told .now .given .1) in (
-      made-is m a r now (s .args .h) to (moves .all-moved .ensures) (c .settled-model .ensures),
+      made-is m a r now (s .args .h .0) to (moves .all-moved .ensures) (c .settled-model .ensures),
       made-unused m a r now _ _ (moves .all-moved .ensures) (c .settled-model .ensures),
     )
 
