@@ -127,7 +127,7 @@ pub fn with_output(p: Part, out: Signal) -> Part
     with_state(p, next)
 }
 
-// The local ticks that a step adds which leads to the local count `end`.
+// The local ticks d that a step adds, by the local count `end` that it leads to.
 pub fn gain_of(p: Part, end: LocalTicks) -> LocalTicks
     requires { ⌜ p .state .local .0 ≤ end .0 ⌝ }
     ensures { λ r. ⌜ r .0 ≡ end .0 - p .state .local .0 ⌝ }

@@ -1,4 +1,4 @@
--- A step made of moving, filling and settling: what each asks of the model that the one before it gives, and what they come to. Assumes nothing.
+-- A step made of moving, filling and settling: where it leads, what each asks of the model that the one before it gives, and what they come to. Assumes nothing.
 use Prim.Native.Nat.{ℕ, _+_, _≤_, _<_}
 use native.Mathlib.Omega.{arith}
 use mathlib.Core.Path.{_≡_, refl, sym, ap, subst, _∙_}
