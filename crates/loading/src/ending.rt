@@ -66,11 +66,12 @@ fn unfilled_model(read: TableRead, ending: Ending) -> Model
     let parts = read.parts;
     let first = first_parts(parts, read.count, ending.magnitude);
     let order = ending.order;
+    let start = Point::start();
     Model {
         magnitude: read.magnitude,
         count: read.count,
         order: order,
-        point: Point::START,
+        point: start,
         parts: first,
     }
 }

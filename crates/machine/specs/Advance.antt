@@ -7,8 +7,6 @@ use lib.Dec.{eqb, leb, ltb}
 use Rattle.machine.specs.declared.part.Part.{Part}
 use Rattle.machine.specs.declared.model.Model.{Model}
 use Rattle.machine.specs.declared.model.Answer.{Answer}
-use Rattle.machine.specs.declared.model.Turn.{Turn}
-use Rattle.machine.specs.declared.model.Turn.the-variants.{Lower, Halve, Commit, Refuse}
 use Rattle.machine.specs.Lists.{any}
 use Rattle.machine.specs.Time.{last-tick, last-microstep, tick}
 use Rattle.machine.specs.Kind.{period, marked}
@@ -45,6 +43,13 @@ objects h p = objects-as (class-of p) h p
 -- some part of the trial objects
 unfoldable pub any-objects : ℕ → Model → Bool
 any-objects h trial = any (objects h) (trial .parts)
+
+-- what a round at h comes to: a lower h, or where it changed nothing a revision to half of h, the step committed, or a refusal with its number
+pub data Turn : Type 0 where
+  Lower : ℕ → Turn
+  Halve : Turn
+  Commit : Turn
+  Refuse : ℕ → Turn
 
 -- "If h is then 0 and no part is due: refusal 22. If h is 0, one is due and n is 999: refusal 21. Otherwise the step is made on trial"
 unfoldable pub tried : Model → ℕ → Turn

@@ -1,4 +1,4 @@
-// A model, what loading and advancing answer, and what one round of an advance comes to.
+// A model, and what loading, advancing and the score answer.
 use crate::part::Part;
 use crate::time::Point;
 
@@ -30,15 +30,6 @@ pub struct Answer {
     pub rounds: u64,
     pub revisions: u64,
     pub ceiling: u64,
-}
-
-// What a round at h comes to: a lower h, or where it changed nothing a revision to half of h, the step
-// committed, or a refusal with document 01's number.
-pub enum Turn {
-    Lower(u64),
-    Halve,
-    Commit,
-    Refuse(u64),
 }
 
 // What the score holds at a position: its end, a wanted step with the position after it, or a refusal

@@ -1,6 +1,8 @@
 // Superdense time: master ticks and local ticks, the points (t, n), how points compare and where a
-// step leads. Master ticks and local ticks are types of their own, so that no sum of the two can be
-// written; `Ticks::local` alone takes one and gives the other.
+// step leads. Master ticks and local ticks are types of their own, so that neither passes for the other.
+// The ratio conversion, `Ticks::local`, is the only function that takes one and gives the other. No
+// function goes back: where a step asks for master ticks of what a table counts in local ticks, a p or a
+// drive's span, the table's plain number is multiplied by the ratio.
 //
 // Its contracts cite `specs/Time.antt`.
 ghost use mathlib.Core.Path.{_≡_};
@@ -87,30 +89,39 @@ impl Point {
         Comparison::Same
     }
 
-    // The point that a step of `h` leads to, where that is a point of the time.
-    pub fn step(self, h: u64) -> Stepped
-        ensures { λ r. ⌜ r ≡ stepped self h ⌝ }
+    // The point that a step of `h` leads to, where that is a point of the time: a step of 0 leads to none from
+    // the last microstep of a tick on, and another step to none that is later than the last point.
+    pub fn step(self, h: Ticks) -> Stepped
+        ensures { λ r. ⌜ r ≡ stepped self (h .0) ⌝ }
     {
         let t = self.t.0;
         let n = self.n;
         if t > Point::LAST.t.0 {
             return Stepped::Past;
         }
-        if h == 0 {
-            if n >= Point::LAST.n {
+        if h.0 > Point::LAST.t.0 {
+            return Stepped::Past;
+        }
+        if h.0 == 0 {
+            let end = Point {
+                t: Ticks(t),
+                n: Point::LAST.n,
+            };
+            let Comparison::Earlier = self.compare(end) else {
                 return Stepped::Past;
-            }
+            };
             return Stepped::To(Point {
                 t: Ticks(t),
                 n: n + 1,
             });
         }
-        if h > Point::LAST.t.0 - t {
-            return Stepped::Past;
-        }
-        Stepped::To(Point {
-            t: Ticks(t + h),
+        let to = Point {
+            t: Ticks(t + h.0),
             n: 0,
-        })
+        };
+        let Comparison::Later = to.compare(Point::last()) else {
+            return Stepped::To(to);
+        };
+        Stepped::Past
     }
 }

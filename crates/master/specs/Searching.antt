@@ -4,17 +4,16 @@ use Prim.Native.Nat.{ℕ, suc, _+_, _/_, _≤_, _<_}
 use native.Mathlib.Omega.{arith}
 use mathlib.Core.Path.{_≡_, refl, sym, ap, _∙_}
 use mathlib.Core.Bool.{Bool, true, false, cond, not, _&&_}
-use lib.Dec.{eqb}
-use borrow.Author.Tests.{eq-eqb, ne-eqb, eqb-false}
+use lib.Dec.{eqb, leb}
+use borrow.Author.Tests.{eq-eqb, ne-eqb, eqb-true, eqb-false, le-leb, lt-leb}
+use Rattle.machine.specs.declared.time.Point.{Point}
 use Rattle.machine.specs.declared.model.Model.{Model}
 use Rattle.machine.specs.declared.model.Answer.{Answer}
-use Rattle.machine.specs.declared.model.Turn.{Turn}
-use Rattle.machine.specs.declared.model.Turn.the-variants.{Lower, Halve, Commit, Refuse}
-use Rattle.machine.specs.Time.{last-microstep}
+use Rattle.machine.specs.Time.{in-time, last-microstep, last-tick, led-to, tick}
 use Rattle.machine.specs.Model.{trimmed, trimmed-answer, SameUnused}
 use Rattle.machine.specs.Step.{step-made}
 use Rattle.machine.specs.Sound.{sound}
-use Rattle.machine.specs.Advance.{followed, search-from, searched, turn, tried, round, any-due, any-objects, answer-with}
+use Rattle.machine.specs.Advance.{Turn, Lower, Halve, Commit, Refuse, followed, search-from, searched, turn, tried, round, any-due, any-objects, answer-with}
 use Rattle.laws.specs.Bools.{cond-true, cond-false}
 use Rattle.soundness.specs.SoundParts.{sound-time}
 use Rattle.stepsearch.specs.Fuel.{Falls, unrolled}
@@ -35,6 +34,17 @@ number-by is-zero is-due is-last = cond is-zero (cond is-due (cond is-last 21 0)
 
 unfoldable pub refusal : Model → ℕ → ℕ
 refusal m h = number-by (eqb h 0) (any-due m) (eqb (m .point .n) last-microstep)
+
+-- within the time, the microstep is the last where a step of 0 leads past it
+last-by : (b : Bool) (p : Point) → eqb (p .n) last-microstep ≡ b → p .n ≤ last-microstep → not (leb (p .n + 1) last-microstep) ≡ b
+last-by true p e most = let end = eqb-true (p .n) last-microstep e in simp (lt-leb (p .n + 1) last-microstep (omega arith))
+last-by false p e most = let other = eqb-false (p .n) last-microstep e in simp (le-leb (p .n + 1) last-microstep (omega arith))
+
+pub last-past : (m : Model) → sound m ≡ true → not (in-time (led-to (m .point) 0)) ≡ eqb (m .point .n) last-microstep
+unfolding in-time led-to
+last-past m is-sound =
+    let time = sound-time m is-sound in
+    rw (le-leb (tick (m .point)) last-tick (time .0)) (last-by (eqb (m .point .n) last-microstep) (m .point) refl (time .1))
 
 -- the turn by the same tests, `other` where there is no refusal
 abbrev turn-by : Bool → Bool → Bool → Turn → Turn

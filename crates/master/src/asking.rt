@@ -3,6 +3,7 @@
 //
 // Its contracts cite `machine`'s `specs/Advance.antt`.
 use machine::model::Model;
+use machine::time::Ticks;
 use replies::due::due_of;
 use replies::longest::longest_of;
 use replies::objection::objects_of;
@@ -17,20 +18,20 @@ ghost use Rattle.machine.specs.Sound.{sound};
 ghost use Rattle.machine.specs.Advance.{any-due, any-objects, round};
 
 // The smaller of two steps.
-fn smaller(a: u64, b: u64) -> u64
-    ensures { λ r. ⌜ r ≡ min a b ⌝ }
+fn smaller(a: Ticks, b: Ticks) -> Ticks
+    ensures { λ r. ⌜ r .0 ≡ min (a .0) (b .0) ⌝ }
 {
-    if a < b {
+    if a.0 < b.0 {
         return a;
     }
     b
 }
 
 // A round at `h`: the least of the longest steps of at most `h` that the parts accept.
-pub(crate) fn round_of(m: Model, h: u64) -> u64
+pub(crate) fn round_of(m: Model, h: Ticks) -> Ticks
     requires { ⌜ sound (trimmed m) ≡ true ⌝ }
-    requires { ⌜ tick (m .point) + h ≤ last-tick ⌝ }
-    ensures { λ r. ⌜ r ≡ round (trimmed m) h ⌝ }
+    requires { ⌜ tick (m .point) + h .0 ≤ last-tick ⌝ }
+    ensures { λ r. ⌜ r .0 ≡ round (trimmed m) (h .0) ⌝ }
 {
     let now = m.point;
     let mut best = h;
@@ -76,9 +77,9 @@ pub(crate) fn any_due_of(m: Model) -> bool
 }
 
 // Whether some part of the trial objects to the step of `h` that led there.
-pub(crate) fn any_objects_of(h: u64, trial: Model) -> bool
+pub(crate) fn any_objects_of(h: Ticks, trial: Model) -> bool
     requires { ⌜ sound (trimmed trial) ≡ true ⌝ }
-    ensures { λ r. ⌜ r ≡ any-objects h (trimmed trial) ⌝ }
+    ensures { λ r. ⌜ r ≡ any-objects (h .0) (trimmed trial) ⌝ }
 {
     let mut i: usize = 0;
     while i < trial.count {

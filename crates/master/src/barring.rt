@@ -2,14 +2,15 @@
 // none.
 //
 // Its contracts cite this crate's `specs/Barring.antt`.
+use crate::past::leads_past;
 use machine::time::Point;
+use machine::time::Ticks;
 use refusals::first_of;
 use refusals::refusal;
 ghost use mathlib.Core.Path.{_≡_};
 ghost use mathlib.Core.Bool.{_&&_};
 ghost use lib.Dec.{leb};
-ghost use Prim.Native.Nat.{_+_};
-ghost use Rattle.machine.specs.Time.{last-tick};
+ghost use Rattle.machine.specs.Time.{tick};
 ghost use Rattle.machine.specs.Advance.{longest-wanted};
 ghost use Rattle.master.specs.Barring.{barred-by};
 
@@ -23,23 +24,13 @@ fn may_be_wanted(w: u64) -> bool
     w <= 1_000_000_000
 }
 
-// Whether a step of `w` from the tick t stays within the time, whatever t and w are.
-fn stays_in_time(t: u64, w: u64) -> bool
-    ensures { λ r. ⌜ r ≡ leb (t + w) last-tick ⌝ }
-{
-    if t > Point::LAST.t.0 {
-        return false;
-    }
-    w <= Point::LAST.t.0 - t
-}
-
 // The number that bars a call with the wanted step `w`, of a model that is sound or not and stands at the
-// tick t.
-pub(crate) fn barred_number(sound: bool, t: u64, w: u64) -> u64
-    ensures { λ r. ⌜ r ≡ barred-by sound t w ⌝ }
+// point `now`. A step of 0 is out of its range, wherever it leads.
+pub(crate) fn barred_number(sound: bool, now: Point, w: u64) -> u64
+    ensures { λ r. ⌜ r ≡ barred-by sound (tick now) w ⌝ }
 {
     let unsound = refusal(!sound, 24);
     let range = refusal(!may_be_wanted(w), 20);
-    let time = refusal(!stays_in_time(t, w), 23);
+    let time = refusal(leads_past(now, Ticks(w)), 23);
     first_of(unsound, first_of(range, time))
 }

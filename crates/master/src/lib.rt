@@ -9,6 +9,7 @@ ghost use Rattle.machine.specs.Calls.{Advanced};
 
 mod asking;
 mod barring;
+mod past;
 mod search;
 
 // One advance of a model by at most `w`, whatever they are: the tests 24, 20 and 23 in that order, then the
@@ -25,7 +26,7 @@ pub fn advance(m: Model, w: u64) -> Answer
     ensures { λ r. ⌜ Advanced m w r ⌝ }
 {
     let now = m.point;
-    let number = barred_number(is_sound(m), now.t.0, w);
+    let number = barred_number(is_sound(m), now, w);
     if number != 0 {
         return Answer {
             model: m,

@@ -3,6 +3,7 @@
 //
 // Its contracts cite `machine`'s `specs/Signal.antt`.
 use machine::signal::Signal;
+use machine::time::LocalTicks;
 ghost use mathlib.Core.Path.{_≡_};
 ghost use mathlib.Core.Bool.{true};
 ghost use Prim.Native.Nat.{_≤_};
@@ -52,15 +53,15 @@ pub(crate) fn total_of(x: Signal, y: Signal) -> Signal
 }
 
 // What a held number becomes over `d` local ticks.
-pub(crate) fn integral_of(held: i64, x: Signal, d: u64) -> i64
+pub(crate) fn integral_of(held: i64, x: Signal, d: LocalTicks) -> i64
     requires { ⌜ is-value held ≡ true ⌝ }
     requires { ⌜ is-signal x ≡ true ⌝ }
-    requires { ⌜ d ≤ 1_000_000_000 ⌝ }
-    ensures { λ r. ⌜ r ≡ integral held x d ⌝ }
+    requires { ⌜ d .0 ≤ 1_000_000_000 ⌝ }
+    ensures { λ r. ⌜ r ≡ integral held x (d .0) ⌝ }
 {
     match x {
         Signal::Absent => clamped(held),
-        Signal::Value(v) => clamped(held + v * (d as i64)),
+        Signal::Value(v) => clamped(held + v * (d.0 as i64)),
     }
 }
 

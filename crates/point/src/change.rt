@@ -12,10 +12,11 @@ use machine::part::Part;
 use machine::part::Side;
 use machine::part::State;
 use machine::signal::Signal;
+use machine::time::LocalTicks;
 use machine::time::Ticks;
 ghost use mathlib.Core.Path.{_≡_};
 ghost use mathlib.Core.Bool.{cond, true};
-ghost use Prim.Native.Nat.{_≤_};
+ghost use Prim.Native.Nat.{_-_, _≤_};
 ghost use Rattle.machine.specs.Signal.{integral, is-signal, is-value};
 ghost use Rattle.machine.specs.Kind.{integrates, mark-between, side-after};
 ghost use Rattle.machine.specs.Model.{with-state};
@@ -126,23 +127,21 @@ pub fn with_output(p: Part, out: Signal) -> Part
     with_state(p, next)
 }
 
-// The local ticks that a step of `h` from the tick `t` adds.
-pub fn gain_of(p: Part, t: Ticks, h: u64) -> u64
-    requires { ⌜ StepFits (t .0) h p ⌝ }
-    ensures { λ r. ⌜ r ≡ gain-of (t .0) h p ⌝ }
+// The local ticks d that a step adds, by the local count `end` that it leads to.
+pub fn gain_of(p: Part, end: LocalTicks) -> LocalTicks
+    requires { ⌜ p .state .local .0 ≤ end .0 ⌝ }
+    ensures { λ r. ⌜ r .0 ≡ end .0 - p .state .local .0 ⌝ }
 {
     let s = p.state;
-    let end = Ticks(t.0 + h);
-    let count = end.local(p.ratio);
-    count.0 - s.local.0
+    LocalTicks(end.0 - s.local.0)
 }
 
 // A held number once a part of the kind has moved by `d` local ticks; `x` is the reading of port 0.
-fn held_after(kind: Kind, held: i64, x: Signal, d: u64) -> i64
+fn held_after(kind: Kind, held: i64, x: Signal, d: LocalTicks) -> i64
     requires { ⌜ is-value held ≡ true ⌝ }
     requires { ⌜ is-signal x ≡ true ⌝ }
-    requires { ⌜ d ≤ 1_000_000_000 ⌝ }
-    ensures { λ r. ⌜ r ≡ cond (integrates kind) (integral held x d) held ⌝ }
+    requires { ⌜ d .0 ≤ 1_000_000_000 ⌝ }
+    ensures { λ r. ⌜ r ≡ cond (integrates kind) (integral held x (d .0)) held ⌝ }
 {
     if holds_number(kind) {
         return integral_of(held, x, d);
@@ -151,19 +150,20 @@ fn held_after(kind: Kind, held: i64, x: Signal, d: u64) -> i64
 }
 
 // The part moved by a step of `h` from the tick `t`: its local count and its held number.
-pub fn moved_part(p: Part, t: Ticks, h: u64, x: Signal) -> Part
+pub fn moved_part(p: Part, t: Ticks, h: Ticks, x: Signal) -> Part
     requires { ⌜ InRange p ⌝ }
-    requires { ⌜ StepFits (t .0) h p ⌝ }
-    requires { ⌜ gain-of (t .0) h p ≤ 1_000_000_000 ⌝ }
+    requires { ⌜ StepFits (t .0) (h .0) p ⌝ }
+    requires { ⌜ gain-of (t .0) (h .0) p ≤ 1_000_000_000 ⌝ }
     requires { ⌜ is-signal x ≡ true ⌝ }
-    ensures { λ r. ⌜ r ≡ moved (t .0) h x p ⌝ }
+    ensures { λ r. ⌜ r ≡ moved (t .0) (h .0) x p ⌝ }
 {
-    let d = gain_of(p, t, h);
+    let end = Ticks(t.0 + h.0);
+    let d = gain_of(p, end.local(p.ratio));
     let c = p.component;
     let kind = c.kind;
     let mut s = p.state;
     let held = held_after(kind, s.held, x, d);
-    let count = s.local.0 + d;
+    let count = s.local.0 + d.0;
     s.local.0 = count;
     s.held = held;
     with_state(p, s)

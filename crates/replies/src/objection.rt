@@ -5,6 +5,7 @@ use crate::due::marked_of;
 use machine::part::Kind;
 use machine::part::Mark;
 use machine::part::Part;
+use machine::time::Ticks;
 use point::wave::period_of;
 ghost use mathlib.Core.Path.{_≡_};
 ghost use mathlib.Core.Bool.{_&&_};
@@ -15,19 +16,19 @@ ghost use Rattle.machine.specs.Kind.{marked, period};
 ghost use Rattle.machine.specs.Advance.{objects};
 
 // Whether a detector objects to a step of `h`, by the mark that it has set where the step led.
-fn detector_objects(mark: Mark, period: u64, h: u64) -> bool
-    ensures { λ r. ⌜ r ≡ marked mark && ltb period h ⌝ }
+fn detector_objects(mark: Mark, period: Ticks, h: Ticks) -> bool
+    ensures { λ r. ⌜ r ≡ marked mark && ltb (period .0) (h .0) ⌝ }
 {
     if marked_of(mark) {
-        return period < h;
+        return period.0 < h.0;
     }
     false
 }
 
 // Whether the part of a trial objects to the step of `h` that led there.
-pub fn objects_of(p: Part, h: u64) -> bool
+pub fn objects_of(p: Part, h: Ticks) -> bool
     requires { ⌜ period p ≤ last-tick ⌝ }
-    ensures { λ r. ⌜ r ≡ objects h p ⌝ }
+    ensures { λ r. ⌜ r ≡ objects (h .0) p ⌝ }
 {
     let c = p.component;
     let s = p.state;

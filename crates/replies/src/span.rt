@@ -3,6 +3,7 @@
 //
 // Its contracts cite `machine`'s `specs/Accept.antt`.
 use machine::part::SPANS;
+use machine::time::LocalTicks;
 ghost use mathlib.Core.Path.{_≡_};
 ghost use mathlib.Core.Bool.{cond};
 ghost use Prim.Native.Nat.{_≤_, max};
@@ -12,18 +13,18 @@ ghost use Rattle.machine.specs.Model.{most-spans};
 ghost use Rattle.machine.specs.Accept.{allowed, largest-below};
 
 // Whether `d` is the span.
-fn is_span(d: u64, span: u32) -> bool
-    ensures { λ r. ⌜ r ≡ eqb d span ⌝ }
+fn is_span(d: LocalTicks, span: u32) -> bool
+    ensures { λ r. ⌜ r ≡ eqb (d .0) span ⌝ }
 {
-    d == span as u64
+    d.0 == span as u64
 }
 
 // Whether `d` is 0 or a span.
-pub(crate) fn allowed(spans: [u32; SPANS], count: usize, d: u64) -> bool
+pub(crate) fn allowed(spans: [u32; SPANS], count: usize, d: LocalTicks) -> bool
     requires { ⌜ count ≤ most-spans ⌝ }
-    ensures { λ r. ⌜ r ≡ allowed (take count spans) d ⌝ }
+    ensures { λ r. ⌜ r ≡ allowed (take count spans) (d .0) ⌝ }
 {
-    if d == 0 {
+    if d.0 == 0 {
         return true;
     }
     let mut i = 0;
@@ -38,11 +39,11 @@ pub(crate) fn allowed(spans: [u32; SPANS], count: usize, d: u64) -> bool
 }
 
 // What one span makes of the largest below `d` so far.
-fn larger_below(largest: u64, span: u32, d: u64) -> u64
-    ensures { λ r. ⌜ r ≡ cond (ltb span d) (max largest span) largest ⌝ }
+fn larger_below(largest: u64, span: u32, d: LocalTicks) -> u64
+    ensures { λ r. ⌜ r ≡ cond (ltb span (d .0)) (max largest span) largest ⌝ }
 {
     let s = span as u64;
-    if d <= s {
+    if d.0 <= s {
         return largest;
     }
     if largest < s {
@@ -51,10 +52,10 @@ fn larger_below(largest: u64, span: u32, d: u64) -> u64
     largest
 }
 
-// The largest of 0 and the spans that lies below `d`.
-pub(crate) fn largest_below(spans: [u32; SPANS], count: usize, d: u64) -> u64
+// The largest of 0 and the spans that lies below `d`, as the table's plain number.
+pub(crate) fn largest_below(spans: [u32; SPANS], count: usize, d: LocalTicks) -> u64
     requires { ⌜ count ≤ most-spans ⌝ }
-    ensures { λ r. ⌜ r ≡ largest-below (take count spans) d ⌝ }
+    ensures { λ r. ⌜ r ≡ largest-below (take count spans) (d .0) ⌝ }
 {
     let mut largest = 0;
     let mut i = 0;

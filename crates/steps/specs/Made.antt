@@ -1,15 +1,19 @@
--- A step made of moving, filling and settling: what each asks of the model that the one before it gives, and what they come to. Assumes nothing.
-use Prim.Native.Nat.{ℕ, _≤_, _<_}
+-- A step made of moving, filling and settling: where it leads, what each asks of the model that the one before it gives, and what they come to. Assumes nothing.
+use Prim.Native.Nat.{ℕ, _+_, _≤_, _<_}
+use native.Mathlib.Omega.{arith}
 use mathlib.Core.Path.{_≡_, refl, sym, ap, subst, _∙_}
-use mathlib.Core.Bool.{true}
+use mathlib.Core.Bool.{Bool, true, false}
 use mathlib.Core.List.{List, map}
+use lib.Dec.{eqb}
 use lib.ListN.{length}
+use borrow.Author.Tests.{eqb-true, le-leb}
 use Rattle.machine.specs.declared.time.Point.{Point}
+use Rattle.machine.specs.declared.time.Stepped.the-variants.{To, Past}
 use Rattle.machine.specs.declared.part.Component.{Component}
 use Rattle.machine.specs.declared.part.Part.{Part}
 use Rattle.machine.specs.declared.model.Model.{Model}
 use Rattle.machine.specs.Lists.{All}
-use Rattle.machine.specs.Time.{last-tick, tick, led-to}
+use Rattle.machine.specs.Time.{in-time, last-microstep, last-tick, led-to, stepped, tick}
 use Rattle.machine.specs.Kind.{period}
 use Rattle.machine.specs.Model.{with-parts, reading0, trimmed, spare-spans, SameUnused}
 use Rattle.machine.specs.Table.{table-of, part-order}
@@ -78,6 +82,23 @@ moved-unused : (m a : Model) (now : Point) (ps : List Part) → Changed m ps a �
 unfolding spare-spans
 moved-unused m a now ps moves =
     record { orders = moves .unused .orders; parts = moves .unused .parts; spans = moves .unused .spans }
+
+-- a step within the time leads to a point of it
+leads-by : (b : Bool) (p : Point) (h : ℕ) → eqb h 0 ≡ b → tick p + h ≤ last-tick → (h ≡ 0 → p .n < last-microstep) → stepped p h ≡ To (led-to p h)
+unfolding stepped in-time led-to
+leads-by true p h e within before =
+    let zero = before (eqb-true h 0 e) in simp (e, le-leb (tick p) last-tick (omega arith), le-leb (p .n + 1) last-microstep (omega arith))
+leads-by false p h e within before = simp (e, le-leb (tick p + h) last-tick within)
+
+leads : (p : Point) (h : ℕ) → tick p + h ≤ last-tick → (h ≡ 0 → p .n < last-microstep) → stepped p h ≡ To (led-to p h)
+leads p h within before = leads-by (eqb h 0) p h refl within before
+
+-- so it is not past the time, and where it leads is the definition's point
+pub never-past : (p : Point) (h : ℕ) → tick p + h ≤ last-tick → (h ≡ 0 → p .n < last-microstep) → stepped p h ≡ Past → ⊥
+never-past p h within before past = let e = leads p h within before in let z : _≡_ {A = ℕ} 0 1 = cc in omega arith
+
+pub leads-to : (p q : Point) (h : ℕ) → tick p + h ≤ last-tick → (h ≡ 0 → p .n < last-microstep) → stepped p h ≡ To q → q ≡ led-to p h
+leads-to p q h within before to = let e = leads p h within before in cc
 
 -- moved, filled and settled, a model has made the step
 pub made-is :

@@ -4,6 +4,7 @@
 use crate::port::heard_of;
 use crate::port::source_index;
 use machine::model::Model;
+use machine::time::Ticks;
 use point::change::moved_part;
 ghost use mathlib.Core.Path.{_≡_};
 ghost use mathlib.Core.Bool.{true};
@@ -15,11 +16,11 @@ ghost use Rattle.machine.specs.Step.{all-moved};
 ghost use Rattle.steps.specs.Trimmed.{Changed};
 
 // All parts moved by a step of `h`, one after the other in place: moving changes no stored output.
-pub(crate) fn all_moved(m: Model, h: u64) -> Model
+pub(crate) fn all_moved(m: Model, h: Ticks) -> Model
     requires { ⌜ sound (trimmed m) ≡ true ⌝ }
-    requires { ⌜ h ≤ 1_000_000_000 ⌝ }
-    requires { ⌜ tick (m .point) + h ≤ last-tick ⌝ }
-    ensures { λ r. ⌜ Changed m (all-moved (tick (m .point)) h (trimmed m .parts)) r ⌝ }
+    requires { ⌜ h .0 ≤ 1_000_000_000 ⌝ }
+    requires { ⌜ tick (m .point) + h .0 ≤ last-tick ⌝ }
+    ensures { λ r. ⌜ Changed m (all-moved (tick (m .point)) (h .0) (trimmed m .parts)) r ⌝ }
 {
     let now = m.point;
     let t = now.t;

@@ -3,8 +3,7 @@
 use Prim.Native.Nat.{ℕ, _≤_, _<_}
 use mathlib.Core.Path.{_≡_}
 use mathlib.Core.Logic.{_⊎_}
-use Rattle.machine.specs.declared.model.Turn.{Turn}
-use Rattle.machine.specs.declared.model.Turn.the-variants.{Lower, Halve, Commit, Refuse}
+use Rattle.machine.specs.Advance.{Turn, Lower, Halve, Commit, Refuse}
 use Rattle.stepsearch.specs.Fuel.{Falls}
 
 -- such a turn is fair

@@ -5,9 +5,7 @@ use Prim.Native.Nat.{ℕ, zero, suc, _+_, _/_, _^_, _≤_, _<_}
 use native.Mathlib.Omega.{arith}
 use mathlib.Core.Path.{_≡_, refl}
 use mathlib.Core.Logic.{_⊎_, inl, inr, ⊎-elim}
-use Rattle.machine.specs.declared.model.Turn.{Turn}
-use Rattle.machine.specs.declared.model.Turn.the-variants.{Lower, Halve, Commit, Refuse}
-use Rattle.machine.specs.Advance.{Outcome, followed, search-from, longest-wanted}
+use Rattle.machine.specs.Advance.{Turn, Lower, Halve, Commit, Refuse, Outcome, followed, search-from, longest-wanted}
 use Rattle.stepsearch.specs.Fair.{Fair}
 
 -- what holds of the outcome o of a search that was asked for w

@@ -4,9 +4,7 @@
 use Prim.Native.Nat.{ℕ, zero, suc, _+_, _/_, _≤_, _<_}
 use native.Mathlib.Omega.{arith}
 use mathlib.Core.Path.{_≡_, refl}
-use Rattle.machine.specs.declared.model.Turn.{Turn}
-use Rattle.machine.specs.declared.model.Turn.the-variants.{Lower, Halve, Commit, Refuse}
-use Rattle.machine.specs.Advance.{Outcome, followed, search-from}
+use Rattle.machine.specs.Advance.{Turn, Lower, Halve, Commit, Refuse, Outcome, followed, search-from}
 
 -- every turn that goes on goes on below h: a lower h, or half of an h that is at least 2
 pub record Falls (turn : ℕ → Turn) : Type 0 where

@@ -10,14 +10,12 @@ use lib.Dec.{eqb, ltb}
 use borrow.Author.Tests.{eqb-true, eqb-false, ltb-true, eq-eqb}
 use Rattle.machine.specs.declared.part.Part.{Part}
 use Rattle.machine.specs.declared.model.Model.{Model}
-use Rattle.machine.specs.declared.model.Turn.{Turn}
-use Rattle.machine.specs.declared.model.Turn.the-variants.{Lower, Halve, Commit, Refuse}
 use Rattle.machine.specs.Time.{last-microstep}
 use Rattle.machine.specs.Kind.{period, marked}
 use Rattle.machine.specs.Model.{part-at, blank-part}
 use Rattle.machine.specs.Step.{step-made}
 use Rattle.machine.specs.Accept.{Class, waiting, delaying, detecting, driving, free, class-of}
-use Rattle.machine.specs.Advance.{round, any-due, objects-as, objects, any-objects, tried, turn}
+use Rattle.machine.specs.Advance.{Turn, Lower, Halve, Commit, Refuse, round, any-due, objects-as, objects, any-objects, tried, turn}
 use Rattle.machine.specs.WholeList.{AllAccept}
 use Rattle.laws.specs.Bools.{and-left, and-right, cond-cases}
 use Rattle.laws.specs.Lists.{any-one}

@@ -11,13 +11,12 @@ use lib.Dec.{eqb, leb}
 use borrow.Author.Tests.{eqb-true}
 use Rattle.machine.specs.declared.model.Model.{Model}
 use Rattle.machine.specs.declared.model.Answer.{Answer}
-use Rattle.machine.specs.declared.model.Turn.the-variants.{Commit}
 use Rattle.machine.specs.Time.{tick, last-tick, last-microstep}
 use Rattle.machine.specs.Signal.{is-signal}
 use Rattle.machine.specs.Model.{part-at, trimmed, trimmed-answer}
 use Rattle.machine.specs.Step.{step-made}
 use Rattle.machine.specs.Sound.{sound}
-use Rattle.machine.specs.Advance.{Outcome, longest-wanted, barred, outcome, answer-with, advance}
+use Rattle.machine.specs.Advance.{Commit, Outcome, longest-wanted, barred, outcome, answer-with, advance}
 use Rattle.machine.specs.Calls.{Advanced}
 use Rattle.machine.specs.WholeList.{most-rounds, most-revisions}
 use Rattle.laws.specs.Bools.{cond-cases}

@@ -11,14 +11,18 @@ use Rattle.loading.proofs.ending.unfilled_model.Tie as tie
 first-parts-requires : tie.Need-first-parts-requires
 first-parts-requires c κs = search needs
 
+start-requires : tie.Need-start-requires
+start-requires c κs = search needs
+
 returns : tie.Need-returns
 unfolding trimmed
 returns c =
-    let start = c .before .before .before in
+    let start = c .before .before .before .before in
     let read = start .args .read in
     let acceptable = start .pre in
     let few : read .count ≤ length (read .parts) = omega (arith, acceptable .few, simp length-map at (start .good .0)) in
-    unfilled-is read few (start .args .ending) (c .before .first-parts .result) acceptable (c .before .first-parts .ensures)
+    let firsts = c .before .before .first-parts in
+    rw (c .start .ensures) (unfilled-is read few (start .args .ending) (firsts .result) acceptable (firsts .ensures))
 
 pub unfilled-model-spec : {M : Type 1} → statement M
-unfilled-model-spec = tie.close (tie.spec first-parts-requires returns)
+unfilled-model-spec = tie.close (tie.spec first-parts-requires start-requires returns)

@@ -12,7 +12,7 @@ use Rattle.master.proofs.asking.any_objects_of.Statement.{statement}
 use Rattle.master.proofs.asking.any_objects_of.Tie as tie
 
 abbrev Inv-loop : tie.InvT-loop
-Inv-loop h trial i₀ i = (i ≤ trial .count) × (any (objects h) (drop i (trimmed trial .parts)) ≡ any-objects h (trimmed trial))
+Inv-loop h trial i₀ i = (i ≤ trial .count) × (any (objects (h .0)) (drop i (trimmed trial .parts)) ≡ any-objects (h .0) (trimmed trial))
 
 abbrev μ-loop : tie.MeasureT-loop
 μ-loop h trial i₀ i = trial .count - i
@@ -34,10 +34,10 @@ place test =
 answers :
     (asked : tie.After-objects-of Inv-loop μ-loop) →
     let s = start-of (test-of asked) in
-    objects (s .args .h) (trimmed-part (part-at (s .args .t2 .parts) (test-of asked .before .loop .i))) ≡ asked .objects-of .result
+    objects (s .args .h .0) (trimmed-part (part-at (s .args .t2 .parts) (test-of asked .before .loop .i))) ≡ asked .objects-of .result
 answers asked =
     let s = start-of (test-of asked) in
-    objects-trimmed (s .args .h) (part-at (s .args .t2 .parts) (test-of asked .before .loop .i)) ∙ sym (asked .objects-of .ensures)
+    objects-trimmed (s .args .h .0) (part-at (s .args .t2 .parts) (test-of asked .before .loop .i)) ∙ sym (asked .objects-of .ensures)
 
 loop-holds : tie.Need-loop-holds Inv-loop μ-loop
 unfolding any-objects
@@ -60,7 +60,7 @@ returns c =
     let asked = c .before in
     let test = test-of asked in
     let s = start-of test in
-    sym (any-hit (s .args .t2) (s .pre) (objects (s .args .h)) (test .before .loop .i) (test .loop-test .taken) (answers asked ∙ c .if1 .taken)) ∙
+    sym (any-hit (s .args .t2) (s .pre) (objects (s .args .h .0)) (test .before .loop .i) (test .loop-test .taken) (answers asked ∙ c .if1 .taken)) ∙
     test .before .loop .inv .1
 
 add-i : tie.Need-add-i Inv-loop μ-loop
@@ -79,14 +79,14 @@ loop-again c =
     let test = test-of asked in
     let s = start-of test in (
       omega (arith, test .loop-test .taken),
-      sym (any-miss (s .args .t2) (s .pre) (objects (s .args .h)) (test .before .loop .i) (test .loop-test .taken) (answers asked ∙ c .if1 .left)) ∙
+      sym (any-miss (s .args .t2) (s .pre) (objects (s .args .h .0)) (test .before .loop .i) (test .loop-test .taken) (answers asked ∙ c .if1 .left)) ∙
           test .before .loop .inv .1,
     )
 
 returns-2 : tie.Need-returns-2 Inv-loop μ-loop
 returns-2 c =
     let s = c .before .before in
-    sym (any-end (s .args .t2) (s .pre) (objects (s .args .h)) (c .before .loop .i) (c .loop-test .left)) ∙ c .before .loop .inv .1
+    sym (any-end (s .args .t2) (s .pre) (objects (s .args .h .0)) (c .before .loop .i) (c .loop-test .left)) ∙ c .before .loop .inv .1
 
 pub any-objects-of-spec : {M : Type 1} → statement M
 any-objects-of-spec =

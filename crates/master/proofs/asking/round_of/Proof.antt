@@ -14,7 +14,7 @@ use Rattle.master.proofs.asking.round_of.Statement.{statement}
 use Rattle.master.proofs.asking.round_of.Tie as tie
 
 abbrev Inv-loop : tie.InvT-loop
-Inv-loop h m now best₀ i₀ best i = (i ≤ m .count) × (least (trimmed m) h best (drop i (trimmed m .parts)) ≡ round (trimmed m) h)
+Inv-loop h m now best₀ i₀ best i = (i ≤ m .count) × (least (trimmed m) (h .0) (best .0) (drop i (trimmed m .parts)) ≡ round (trimmed m) (h .0))
 
 abbrev μ-loop : tie.MeasureT-loop
 μ-loop h m now best₀ i₀ best i = m .count - i
@@ -51,16 +51,16 @@ replies :
     let s = start-of (test-of-asked asked) in
     let m = s .args .t1 in
     let p = part-at (m .parts) (test-of-asked asked .before .loop .i) in
-    asked .longest-of .result ≡ longest (trimmed-part p) (m .point) (reading0 (m .parts) p) (s .args .h)
+    asked .longest-of .result .0 ≡ longest (trimmed-part p) (m .point) (reading0 (m .parts) p) (s .args .h .0)
 replies asked =
     let hears = asked .before in
     let source = source-of hears in
     let s = start-of (test-of source) in
     let m = s .args .t1 in
     let p = part-at (m .parts) (test-of source .before .loop .i) in
-    asked .longest-of .ensures ∙
-    ap (λ (x : Signal). longest (trimmed-part p) (m .point) x (s .args .h))
-    (heard0 (m .parts) p (source .source-index .result) (hears .heard-of .result) (source .source-index .ensures) (hears .heard-of .ensures))
+    _∙_ {b = longest (trimmed-part p) (m .point) (hears .heard-of .result) (s .args .h .0)} (asked .longest-of .ensures)
+    (ap (λ (x : Signal). longest (trimmed-part p) (m .point) x (s .args .h .0))
+    (heard0 (m .parts) p (source .source-index .result) (hears .heard-of .result) (source .source-index .ensures) (hears .heard-of .ensures)))
 
 loop-holds : tie.Need-loop-holds Inv-loop μ-loop
 unfolding round
@@ -88,7 +88,7 @@ longest-of-requires : tie.Need-longest-of-requires Inv-loop μ-loop
 longest-of-requires c κs =
     let test = test-of (source-of c) in
     let s = start-of test in
-    askable (s .args .t1) (s .pre .0) (s .args .h) (test .before .loop .i) (s .pre .1) (test .loop-test .taken)
+    askable (s .args .t1) (s .pre .0) (s .args .h .0) (test .before .loop .i) (s .pre .1) (test .loop-test .taken)
 
 smaller-requires : tie.Need-smaller-requires Inv-loop μ-loop
 smaller-requires c κs = tt
@@ -109,18 +109,18 @@ loop-again c =
     let test = test-of-asked asked in
     let s = start-of test in
     let m = s .args .t1 in
-    let h = s .args .h in
+    let h = s .args .h .0 in
     let i = test .before .loop .i in (
       omega (arith, test .loop-test .taken),
       ap (λ (z : ℕ). least (trimmed m) h z (drop (i + 1) (trimmed m .parts))) (c .smaller .ensures) ∙
-          sym (least-from m (s .pre .0) h (test .before .loop .best) (asked .longest-of .result) i (test .loop-test .taken) (replies asked)) ∙
+          sym (least-from m (s .pre .0) h (test .before .loop .best .0) (asked .longest-of .result .0) i (test .loop-test .taken) (replies asked)) ∙
           test .before .loop .inv .1,
     )
 
 returns : tie.Need-returns Inv-loop μ-loop
 returns c =
     let s = c .before .before .before in
-    sym (least-end (s .args .t1) (s .pre .0) (s .args .h) (c .before .loop .best) (c .before .loop .i) (c .loop-test .left)) ∙ c .before .loop .inv .1
+    sym (least-end (s .args .t1) (s .pre .0) (s .args .h .0) (c .before .loop .best .0) (c .before .loop .i) (c .loop-test .left)) ∙ c .before .loop .inv .1
 
 pub round-of-spec : {M : Type 1} → statement M
 round-of-spec =

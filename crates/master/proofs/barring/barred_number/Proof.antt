@@ -1,12 +1,11 @@
--- `barred_number` is the definition: the first of its three refusals.
-use Prim.Native.Nat.{_+_}
+-- `barred_number` is the definition: the first of its three refusals, the last of them by where the wanted step leads.
 use mathlib.Core.Bool.{cond, not, _&&_}
 use lib.Dec.{leb}
 use borrow.Author.Needs.{needs}
-use Rattle.machine.specs.Time.{last-tick}
+use Rattle.machine.specs.Time.{in-time, led-to}
 use Rattle.machine.specs.Advance.{longest-wanted}
 use Rattle.refusals.specs.FirstRefusal.{cond-not, first-refusal}
-use Rattle.master.specs.Barring.{barred-by}
+use Rattle.master.specs.Barring.{barred-past}
 use Rattle.master.proofs.barring.barred_number.Statement.{statement}
 use Rattle.master.proofs.barring.barred_number.Tie as tie
 
@@ -19,8 +18,8 @@ may-be-wanted-requires c κs = search needs
 refusal-requires-2 : tie.Need-refusal-requires-2
 refusal-requires-2 c κs = search needs
 
-stays-in-time-requires : tie.Need-stays-in-time-requires
-stays-in-time-requires c κs = search needs
+leads-past-requires : tie.Need-leads-past-requires
+leads-past-requires c κs = search needs
 
 refusal-requires-3 : tie.Need-refusal-requires-3
 refusal-requires-3 c κs = search needs
@@ -32,18 +31,17 @@ first-of-requires-2 : tie.Need-first-of-requires-2
 first-of-requires-2 c κs = search needs
 
 returns : tie.Need-returns
-unfolding barred-by
 returns c =
     let range = c .before .before .before .before in
     let unsound = range .before .before in
     let args = unsound .before .args in
     let wanted = leb 1 (args .w) && leb (args .w) longest-wanted in
-    let timed = leb (args .t + args .w) last-tick in
+    let timed = in-time (led-to (args .now) (args .w)) in
     rw (
       c .first-of2 .ensures,
       c .before .first-of .ensures,
       c .before .before .refusal3 .ensures,
-      c .before .before .before .stays-in-time .ensures,
+      c .before .before .before .leads-past .ensures,
       range .refusal2 .ensures,
       range .before .may-be-wanted .ensures,
       unsound .refusal .ensures,
@@ -53,6 +51,7 @@ returns c =
       first-refusal (not (args .sound)) 23 (cond wanted (cond timed 0 23) 20),
       cond-not (args .sound) 24 (cond wanted (cond timed 0 23) 20),
     )
+    (barred-past (args .sound) (args .now) (args .w))
 
 pub barred-number-spec : {M : Type 1} → statement M
 barred-number-spec =
@@ -61,7 +60,7 @@ barred-number-spec =
     refusal-requires
     may-be-wanted-requires
     refusal-requires-2
-    stays-in-time-requires
+    leads-past-requires
     refusal-requires-3
     first-of-requires
     first-of-requires-2

@@ -59,14 +59,14 @@ changed :
     round (model-of at) (at .loop .h) ≡ at .loop .h → ⊥
 changed c same =
     let rounds = c .before .before in
-    eqb-false (rounds .round-of .result) (rounds .before .loop .h) (sym (c .before .changed-nothing .ensures) ∙ c .if1 .left)
+    eqb-false (rounds .round-of .result .0) (rounds .before .loop .h) (sym (c .before .changed-nothing .ensures) ∙ c .if1 .left)
     (rounds .round-of .ensures ∙ same)
 
 -- lowered it
 lowers :
     (c : tie.Else1 Inv-loop μ-loop Inv-ceilings μ-ceilings) →
     let rounds = c .before .before in
-    rounds .round-of .result < rounds .before .loop .h
+    rounds .round-of .result .0 < rounds .before .loop .h
 lowers c =
     let rounds = c .before .before in
     let at = rounds .before in
@@ -81,7 +81,7 @@ kept refuses =
     let tests = refuses .before .before in
     let rounds = tests .before in
     sym (rounds .round-of .ensures) ∙
-    eqb-true (rounds .round-of .result) (rounds .before .loop .h) (sym (tests .changed-nothing .ensures) ∙ refuses .before .if1 .taken)
+    eqb-true (rounds .round-of .result .0) (rounds .before .loop .h) (sym (tests .changed-nothing .ensures) ∙ refuses .before .if1 .taken)
 
 -- the step is not refused
 not-refused :

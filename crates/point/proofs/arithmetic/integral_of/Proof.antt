@@ -17,8 +17,8 @@ use Rattle.point.proofs.arithmetic.integral_of.Tie as tie
 v-back : (c : tie.After-known-told) → let v = c .before .x .given .0 .0 in toZ w64 (ofZ w64 v) ≡ v
 v-back c = toZ-ofZ w64 (c .before .x .given .0 .0) (record { sfits = c .known-told .given .0 .1 })
 
-d-back : (c : tie.After-known-told) → let d = c .before .before .before .args .d in toZ w64 d ≡ pos d
-d-back c = toZ-pos w64 (c .before .before .before .args .d) (omega arith)
+d-back : (c : tie.After-known-told) → let d = c .before .before .before .args .d .0 in toZ w64 d ≡ pos d
+d-back c = toZ-pos w64 (c .before .before .before .args .d .0) (omega arith)
 
 -- v is a value
 v-most : (c : tie.After-known-told) → natAbs (c .before .x .given .0 .0) ≤ largest-value
@@ -40,17 +40,19 @@ cast-clamped c = search needs
 
 mul-clamped : tie.Need-mul-clamped
 mul-clamped c =
-    let start = c .before .before .before in
-    let v = c .before .x .given .0 .0 in
-    rw (v-back c, d-back c) (product-fits v (pos (start .args .d)) (v-most c) (start .pre .1 .1))
+    let told = c .before in
+    let start = told .before .before .before in
+    let v = told .before .x .given .0 .0 in
+    rw (v-back told, d-back told) (product-fits v (pos (start .args .d .0)) (v-most told) (start .pre .1 .1))
 
 add-clamped : tie.Need-add-clamped
 add-clamped c =
-    let start = c .before .before .before in
+    let told = c .before in
+    let start = told .before .before .before in
     let held = start .args .held in
-    let v = c .before .x .given .0 .0 in
-    rw (toZ-ofZ w64 _ (mul-clamped c), toZ-ofZ w64 held (start .fits .held), v-back c, d-back c)
-    (sum-fits held _ (value-most held (start .pre .0)) (product-most v (pos (start .args .d)) (v-most c) (start .pre .1 .1)))
+    let v = told .before .x .given .0 .0 in
+    rw (toZ-ofZ w64 _ (mul-clamped c), toZ-ofZ w64 held (start .fits .held), v-back told, d-back told)
+    (sum-fits held _ (value-most held (start .pre .0)) (product-most v (pos (start .args .d .0)) (v-most told) (start .pre .1 .1)))
 
 clamped-requires-2 : tie.Need-clamped-requires-2
 clamped-requires-2 c κs = search needs
@@ -64,24 +66,25 @@ returns c =
       c .clamped .ensures,
       toZ-ofZ w64 (start .args .held) (start .fits .held),
       c .before .enum-told .given .1,
-      zero-*ℤ (pos (start .args .d)),
+      zero-*ℤ (pos (start .args .d .0)),
       +ℤ-idr (start .args .held),
     )
 
 returns-2 : tie.Need-returns-2
 unfolding integral
 returns-2 c =
-    let x-known = c .before in
-    let start = x-known .before .before .before in
+    let d-known = c .before in
+    let told = d-known .before in
+    let start = told .before .before .before in
     rw (
       toZ-ofZ w64 (c .clamped2 .result) (record { sfits = c .clamped2 .ok }),
       c .clamped2 .ensures,
-      toZ-ofZ w64 _ (add-clamped x-known),
-      toZ-ofZ w64 _ (mul-clamped x-known),
+      toZ-ofZ w64 _ (add-clamped d-known),
+      toZ-ofZ w64 _ (mul-clamped d-known),
       toZ-ofZ w64 (start .args .held) (start .fits .held),
-      v-back x-known,
-      d-back x-known,
-      x-known .before .x .given .1,
+      v-back told,
+      d-back told,
+      told .before .x .given .1,
     )
 
 pub integral-of-spec : {M : Type 1} → statement M

@@ -35,7 +35,7 @@ one-passed-at P now h = one-passed P (tick now) (tick now / P) refl (and-right (
 
 returns : tie.Need-returns
 unfolding half-waves
-returns c = rw (c .if1 .taken, div-zero) (none-passed (at-multiple 0 (c .before .args .now)))
+returns c = rw (c .if1 .taken, div-zero) (none-passed (at-multiple 0 (c .before .before .args .now)))
 
 at-multiple-of-requires : tie.Need-at-multiple-of-requires
 at-multiple-of-requires c κs = search needs
@@ -45,19 +45,20 @@ div-result c = search needs
 
 sub-result : tie.Need-sub-result
 sub-result c =
-    let args = c .before .before .before .before .args in
-    one-passed-at (args .period) (args .now) (sym (c .before .before .at-multiple-of .ensures) ∙ c .before .if2 .taken)
+    let asked = c .before .before in
+    let args = asked .before .before .before .before .args in
+    one-passed-at (args .period .0) (args .now) (sym (asked .before .at-multiple-of .ensures) ∙ asked .if2 .taken)
 
 returns-2 : tie.Need-returns-2
 unfolding half-waves
-returns-2 c = simp (sym (c .before .before .at-multiple-of .ensures) ∙ c .before .if2 .taken)
+returns-2 c = simp (sym (c .before .before .before .at-multiple-of .ensures) ∙ c .before .before .if2 .taken)
 
 div-result-2 : tie.Need-div-result-2
 div-result-2 c = search needs
 
 returns-3 : tie.Need-returns-3
 unfolding half-waves
-returns-3 c = simp (sym (c .before .before .at-multiple-of .ensures) ∙ c .before .if2 .left)
+returns-3 c = simp (sym (c .before .before .before .at-multiple-of .ensures) ∙ c .before .before .if2 .left)
 
 pub half-waves-of-spec : {M : Type 1} → statement M
 half-waves-of-spec =

@@ -14,8 +14,9 @@ returns c = simp (c .if1 .taken)
 returns-2 : tie.Need-returns-2
 unfolding positive-multiple
 returns-2 c =
-    let t = c .before .before .args .t in
-    simp (c .if2 .taken, mod-zero, ne-eqb t 0 (c .before .if1 .left), lt-ltb 0 t (omega arith))
+    let first = c .before .before in
+    let t = first .before .before .args .t .0 in
+    simp (c .if2 .taken, mod-zero, ne-eqb t 0 (first .if1 .left), lt-ltb 0 t (omega arith))
 
 rem-result : tie.Need-rem-result
 rem-result c = search needs
@@ -23,7 +24,7 @@ rem-result c = search needs
 returns-3 : tie.Need-returns-3
 unfolding positive-multiple
 returns-3 c =
-    let t = c .before .before .args .t in
+    let t = c .before .before .before .before .before .before .args .t .0 in
     simp (lt-ltb 0 t (omega arith))
 
 pub multiple-of-spec : {M : Type 1} → statement M

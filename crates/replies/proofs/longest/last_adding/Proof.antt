@@ -8,20 +8,20 @@ use Rattle.machine.specs.Accept.{last-adding}
 use Rattle.replies.proofs.longest.last_adding.Statement.{statement}
 use Rattle.replies.proofs.longest.last_adding.Tie as tie
 
-add-result : tie.Need-add-result
-add-result c = omega (arith, le-mul-of-pos-right (c .args .v + 1) (c .pre .0))
+add-h : tie.Need-add-h
+add-h c = omega (arith, le-mul-of-pos-right (c .args .v + 1) (c .pre .0))
 
-mul-result : tie.Need-mul-result
-mul-result c = search needs
+mul-h : tie.Need-mul-h
+mul-h c = search needs
 
-sub-result : tie.Need-sub-result
-sub-result c = search needs
+sub-h : tie.Need-sub-h
+sub-h c = search needs
 
-rem-result : tie.Need-rem-result
-rem-result c = search needs
+rem-h : tie.Need-rem-h
+rem-h c = search needs
 
-sub-result-2 : tie.Need-sub-result-2
-sub-result-2 c = omega (arith, mod-lt (c .args .t) (c .pre .0))
+sub-h-2 : tie.Need-sub-h-2
+sub-h-2 c = omega (arith, mod-lt (c .before .args .t .0) (c .before .pre .0))
 
 returns : tie.Need-returns
 unfolding last-adding
@@ -29,4 +29,4 @@ returns c = refl
 
 pub last-adding-spec : {M : Type 1} → statement M
 last-adding-spec =
-    tie.close (tie.spec add-result mul-result sub-result rem-result sub-result-2 returns)
+    tie.close (tie.spec add-h mul-h sub-h rem-h sub-h-2 returns)

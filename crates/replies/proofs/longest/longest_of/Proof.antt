@@ -1,28 +1,22 @@
--- `longest_of` is `longest` of the part trimmed. Trimming changes the spans alone, so that the part is due where the trimmed one is, and its P and its
--- gain are the same; a due part accepts 0 only, and another is asked by its kind. The gain, in master ticks, is at most the tick that the step
--- leads to.
-use Prim.Native.Nat.{ℕ, _+_, _-_, _*_, _/_, _≤_, min}
-use native.Mathlib.Nat.{div-mul-le-self, le-trans, mul-le-mul-right}
-use native.Mathlib.Omega.{arith}
+-- `longest_of` is `longest` of the part trimmed. Trimming changes the spans alone, so that the part is due where the trimmed one is, and its P is the same;
+-- a due part accepts 0 only, and another is asked by its kind.
+use Prim.Native.Nat.{ℕ, _-_, min}
 use mathlib.Core.Path.{_≡_, _∙_, refl, sym, ap}
-use mathlib.Core.Bool.{true, false, cond}
+use mathlib.Core.Bool.{true, false}
 use mathlib.Core.List.{List, [], _∷_}
 use denote.Enum.Declared.{tagOf}
 use types.Run.{OneOf}
-use lib.ListN.{take}
 use borrow.Author.Needs.{needs}
 use Rattle.machine.proofs.part.Kind as tags
 use Rattle.machine.specs.declared.time.Point.{Point}
 use Rattle.machine.specs.declared.signal.Signal.{Signal}
 use Rattle.machine.specs.declared.part.Kind.{Kind}
 use Rattle.machine.specs.declared.part.Part.{Part}
-use Rattle.machine.specs.Time.{gained, last-tick, local-count, tick}
+use Rattle.machine.specs.Time.{tick}
 use Rattle.machine.specs.Kind.{kind-of, period}
 use Rattle.machine.specs.Model.{trimmed-component, trimmed-part}
-use Rattle.machine.specs.Step.{gain-of}
-use Rattle.machine.specs.Accept.{Class, waiting, driving, class, class-of, due, next-multiple, allowed, largest-below, last-adding, longest-as, longest}
+use Rattle.machine.specs.Accept.{Class, waiting, driving, class, class-of, due, next-multiple, longest-as, longest}
 use Rattle.laws.specs.Kinds.{of-kinds-left}
-use Rattle.point.specs.Ranges.{StepFits}
 use Rattle.replies.specs.Trimmed.{due-trimmed}
 use Rattle.replies.proofs.longest.longest_of.Statement.{statement}
 use Rattle.replies.proofs.longest.longest_of.Tie as tie
@@ -47,18 +41,6 @@ unfolding longest-as trimmed-part trimmed-component
 waiting-longest p now x h P r not-due waits is-period is =
     class-longest waiting p now x h r not-due waits (is ∙ ap (λ (n : ℕ). min h (next-multiple n (tick now) - tick now)) is-period)
 
--- of a drive
-driving-longest :
-    (p : Part) (now : Point) (x : Signal) (h d r : ℕ) → due p now x ≡ false → class-of p ≡ driving → d ≡ gain-of (tick now) h p →
-    (let spans = take (p .component .«span_count») (p .component .spans) in
-    r ≡ cond (allowed spans d) h (last-adding (p .ratio) (tick now) (largest-below spans d))) →
-    r ≡ longest (trimmed-part p) now x h
-unfolding longest-as trimmed-part trimmed-component gain-of
-driving-longest p now x h d r not-due drives is-gain is =
-    let spans = take (p .component .«span_count») (p .component .spans) in
-    class-longest driving p now x h r not-due drives
-    (is ∙ ap (λ (n : ℕ). cond (allowed spans n) h (last-adding (p .ratio) (tick now) (largest-below spans n))) is-gain)
-
 -- the numbers of the kinds that accept every step where they are not due
 abbrev accepting : List ℕ
 accepting = 0 ∷ 1 ∷ 2 ∷ 5 ∷ 6 ∷ 7 ∷ 8 ∷ 9 ∷ 10 ∷ []
@@ -68,20 +50,13 @@ whole : (k : Kind) (p : Part) (t h : ℕ) → OneOf accepting (tagOf tags.the-ty
 unfolding longest-as kind-of
 whole k p t h one = of-kinds-left (λ (j : Kind). longest-as (class j) p t h) h accepting k refl one
 
--- the gain, in master ticks, is at most the tick that the step leads to
-gain-fits : (t h d : ℕ) (p : Part) → StepFits t h p → d ≡ gain-of t h p → d * p .ratio ≤ last-tick
-unfolding gain-of gained local-count
-gain-fits t h d p fits e =
-    let few : d ≤ (t + h) / p .ratio = omega arith in
-    le-trans (mul-le-mul-right (p .ratio) few) (le-trans (div-mul-le-self (t + h) (p .ratio)) (fits .time))
-
 -- where the kind is asked: the arguments, and what is asked of them
 abbrev start : tie.After-t → tie.Start
-start c = c .before .before .before .before .before
+start c = c .before .before .before .before
 
 -- there the part is not due
 not-due : (c : tie.After-t) → let args = start c .args in due (args .p) (args .now) (args .x) ≡ false
-not-due c = let asked = c .before .before .before in sym (asked .before .due-of .ensures) ∙ asked .if1 .left
+not-due c = let asked = c .before .before in sym (asked .before .due-of .ensures) ∙ asked .if1 .left
 
 due-of-requires : tie.Need-due-of-requires
 due-of-requires c κs = search needs
@@ -89,7 +64,7 @@ due-of-requires c κs = search needs
 returns : tie.Need-returns
 returns c =
     let args = c .before .before .args in
-    due-longest (args .p) (args .now) (args .x) (args .h) (sym (c .before .due-of .ensures) ∙ c .if1 .taken)
+    due-longest (args .p) (args .now) (args .x) (args .h .0) (sym (c .before .due-of .ensures) ∙ c .if1 .taken)
 
 enum-told : tie.Need-enum-told
 enum-told c = search needs
@@ -114,43 +89,37 @@ up-to-multiple-requires-2 c κs =
 enum-told-3 : tie.Need-enum-told-3
 enum-told-3 c = search needs
 
-gain-of-requires : tie.Need-gain-of-requires
-gain-of-requires c κs = search needs
-
 longest-of-drive-requires : tie.Need-longest-of-drive-requires
-longest-of-drive-requires c κs =
-    let asks = start (c .before .before .before) .pre in
-    let args = start (c .before .before .before) .args in
-    (asks .places, (asks .ratio, gain-fits (tick (args .now)) (args .h) _ (args .p) (asks .step) (c .gain-of .ensures)))
+longest-of-drive-requires c κs = start (c .before .before) .pre
 
 returns-2 : tie.Need-returns-2
 returns-2 c =
     let kind-asked = c .before .before .before .before in
     let args = start kind-asked .args in
-    waiting-longest (args .p) (args .now) (args .x) (args .h) _ _ (not-due kind-asked) (ap class (c .before .before .enum-told .given .1))
+    waiting-longest (args .p) (args .now) (args .x) (args .h .0) _ _ (not-due kind-asked) (ap class (c .before .before .enum-told .given .1))
     (c .before .period-of .ensures) (c .up-to-multiple .ensures)
 
 returns-3 : tie.Need-returns-3
 returns-3 c =
     let kind-asked = c .before .before .before .before in
     let args = start kind-asked .args in
-    waiting-longest (args .p) (args .now) (args .x) (args .h) _ _ (not-due kind-asked) (ap class (c .before .before .enum-told2 .given .1))
+    waiting-longest (args .p) (args .now) (args .x) (args .h .0) _ _ (not-due kind-asked) (ap class (c .before .before .enum-told2 .given .1))
     (c .before .period-of2 .ensures) (c .up-to-multiple2 .ensures)
 
 returns-4 : tie.Need-returns-4
 returns-4 c =
-    let kind-asked = c .before .before .before .before in
+    let kind-asked = c .before .before .before in
     let args = start kind-asked .args in
-    driving-longest (args .p) (args .now) (args .x) (args .h) _ _ (not-due kind-asked) (ap class (c .before .before .enum-told3 .given .1))
-    (c .before .gain-of .ensures) (c .longest-of-drive .ensures)
+    class-longest driving (args .p) (args .now) (args .x) (args .h .0) _ (not-due kind-asked) (ap class (c .before .enum-told3 .given .1))
+    (c .longest-of-drive .ensures)
 
 returns-5 : tie.Need-returns-5
 returns-5 c =
     let kind-asked = c .before in
     let args = start kind-asked .args in
     let kind = args .p .component .kind in
-    class-longest (class kind) (args .p) (args .now) (args .x) (args .h) (args .h) (not-due kind-asked) refl
-    (whole kind (trimmed-part (args .p)) (tick (args .now)) (args .h) (c .match .keys4))
+    class-longest (class kind) (args .p) (args .now) (args .x) (args .h .0) (args .h .0) (not-due kind-asked) refl
+    (whole kind (trimmed-part (args .p)) (tick (args .now)) (args .h .0) (c .match .keys4))
 
 pub longest-of-spec : {M : Type 1} → statement M
 longest-of-spec =
@@ -165,7 +134,6 @@ longest-of-spec =
     period-of-requires-2
     up-to-multiple-requires-2
     enum-told-3
-    gain-of-requires
     longest-of-drive-requires
     returns-2
     returns-3

@@ -17,13 +17,17 @@ rem-left : tie.Need-rem-left
 rem-left c = search needs
 
 sub-left : tie.Need-sub-left
-sub-left c = omega (arith, mod-lt (c .args .t) (c .pre))
+sub-left c = omega (arith, mod-lt (c .before .before .before .args .t .0) (c .before .before .before .pre))
 
 returns : tie.Need-returns
-returns c = rw (left-over (c .before .args .period) (c .before .args .t) (c .before .pre)) (omega arith)
+returns c =
+    let start = c .before .before .before .before .before in
+    rw (left-over (start .args .period .0) (start .args .t .0) (start .pre)) (omega arith)
 
 returns-2 : tie.Need-returns-2
-returns-2 c = rw (left-over (c .before .args .period) (c .before .args .t) (c .before .pre)) (omega arith)
+returns-2 c =
+    let start = c .before .before .before .before .before in
+    rw (left-over (start .args .period .0) (start .args .t .0) (start .pre)) (omega arith)
 
 pub up-to-multiple-spec : {M : Type 1} → statement M
 up-to-multiple-spec = tie.close (tie.spec rem-left sub-left returns returns-2)

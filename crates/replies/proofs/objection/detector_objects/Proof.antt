@@ -8,7 +8,7 @@ marked-of-requires : tie.Need-marked-of-requires
 marked-of-requires c κs = search needs
 
 returns : tie.Need-returns
-returns c = simp (sym (c .before .marked-of .ensures) ∙ c .if1 .taken)
+returns c = simp (sym (c .before .before .before .marked-of .ensures) ∙ c .before .before .if1 .taken)
 
 returns-2 : tie.Need-returns-2
 returns-2 c = search needs

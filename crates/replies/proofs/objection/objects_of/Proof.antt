@@ -43,7 +43,7 @@ returns-2 : tie.Need-returns-2
 unfolding objects
 returns-2 c =
     let args = c .before .before .before .before .args in
-    never (args .p .component .kind) (args .h) (args .p) (c .match .keys2)
+    never (args .p .component .kind) (args .h .0) (args .p) (c .match .keys2)
 
 pub objects-of-spec : {M : Type 1} → statement M
 objects-of-spec =

@@ -36,14 +36,14 @@ none-is d count i spans few all some none =
     rw (same, ne-eqb d 0 some, none)
 
 abbrev Inv-loop : tie.InvT-loop
-Inv-loop count d spans i₀ i = (i ≤ count) × (member d (take i spans) ≡ false)
+Inv-loop count d spans i₀ i = (i ≤ count) × (member (d .0) (take i spans) ≡ false)
 
 abbrev μ-loop : tie.MeasureT-loop
 μ-loop count d spans i₀ i = count - i
 
 returns : tie.Need-returns Inv-loop μ-loop
 unfolding allowed
-returns c = rw (eq-eqb (c .before .args .d) 0 (c .if1 .taken))
+returns c = rw (eq-eqb (c .before .before .args .d .0) 0 (c .if1 .taken))
 
 loop-holds : tie.Need-loop-holds Inv-loop μ-loop
 unfolding member any
@@ -62,9 +62,9 @@ returns-2 : tie.Need-returns-2 Inv-loop μ-loop
 returns-2 c =
     let turn = c .before .before in
     let i = turn .before .loop .i in
-    let args = turn .before .before .before .args in
+    let args = turn .before .before .before .before .args in
     let inside : i < length (args .t1) = omega arith in
-    found (args .d) (args .count) i (args .t1) (turn .loop-test .taken) inside (sym (c .before .is-span .ensures) ∙ c .if2 .taken)
+    found (args .d .0) (args .count) i (args .t1) (turn .loop-test .taken) inside (sym (c .before .is-span .ensures) ∙ c .if2 .taken)
 
 add-i : tie.Need-add-i Inv-loop μ-loop
 add-i c = search needs
@@ -77,17 +77,17 @@ unfolding member
 loop-again c =
     let turn = c .before .before in
     let loop = turn .before .loop in
-    let args = turn .before .before .before .args in
+    let args = turn .before .before .before .before .args in
     let inside : loop .i < length (args .t1) = omega arith in (
       omega arith,
-      any-further (eqb (args .d)) (args .t1) (loop .i) 0 inside (loop .inv .1) (sym (c .before .is-span .ensures) ∙ c .if2 .left),
+      any-further (eqb (args .d .0)) (args .t1) (loop .i) 0 inside (loop .inv .1) (sym (c .before .is-span .ensures) ∙ c .if2 .left),
     )
 
 returns-3 : tie.Need-returns-3 Inv-loop μ-loop
 returns-3 c =
     let loop = c .before .loop in
-    let args = c .before .before .before .args in
-    none-is (args .d) (args .count) (loop .i) (args .t1) (loop .inv .0) (c .loop-test .left) (c .before .before .if1 .left) (loop .inv .1)
+    let args = c .before .before .before .before .args in
+    none-is (args .d .0) (args .count) (loop .i) (args .t1) (loop .inv .0) (c .loop-test .left) (c .before .before .if1 .left) (loop .inv .1)
 
 pub allowed-spec : {M : Type 1} → statement M
 allowed-spec =

@@ -24,7 +24,7 @@ further spans d i largest next inside before made =
     sym (foldl-further (λ (v s : ℕ). cond (ltb s d) (max v s) v) 0 spans i 0 inside)
 
 abbrev Inv-loop : tie.InvT-loop
-Inv-loop count d spans largest₀ i₀ largest i = (i ≤ count) × (largest ≡ largest-below (take i spans) d)
+Inv-loop count d spans largest₀ i₀ largest i = (i ≤ count) × (largest ≡ largest-below (take i spans) (d .0))
 
 abbrev μ-loop : tie.MeasureT-loop
 μ-loop count d spans largest₀ i₀ largest i = count - i
@@ -53,7 +53,7 @@ loop-again c =
     let loop = c .before .before .loop in
     let args = c .before .before .before .args in
     let inside : loop .i < length (args .t1) = omega arith in
-    (omega arith, further (args .t1) (args .d) (loop .i) (loop .largest) _ inside (loop .inv .1) (c .larger-below .ensures))
+    (omega arith, further (args .t1) (args .d .0) (loop .i) (loop .largest) _ inside (loop .inv .1) (c .larger-below .ensures))
 
 returns : tie.Need-returns Inv-loop μ-loop
 returns c =

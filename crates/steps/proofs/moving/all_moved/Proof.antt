@@ -14,7 +14,7 @@ use Rattle.steps.proofs.moving.all_moved.Statement.{statement}
 use Rattle.steps.proofs.moving.all_moved.Tie as tie
 
 abbrev Inv-loop : tie.InvT-loop
-Inv-loop h t next₀ i₀ next i = (i ≤ next₀ .count) × Changed next₀ (changed-to (moved (t .0) h) next₀ i) next
+Inv-loop h t next₀ i₀ next i = (i ≤ next₀ .count) × Changed next₀ (changed-to (moved (t .0) (h .0)) next₀ i) next
 
 abbrev μ-loop : tie.MeasureT-loop
 μ-loop h t next₀ i₀ next i = next₀ .count - i
@@ -36,12 +36,12 @@ wired s = sound-wired (trimmed (s .args .m)) (s .pre .0)
 -- the turn at the loop's test
 turn-at :
     (test : tie.In-loop Inv-loop μ-loop) →
-    Turn (moved (tick (start-of test .args .m .point)) (start-of test .args .h)) (start-of test .args .m) (test .before .loop .next) (test .before .loop .i)
+    Turn (moved (tick (start-of test .args .m .point)) (start-of test .args .h .0)) (start-of test .args .m) (test .before .loop .next) (test .before .loop .i)
 turn-at test =
     let s = start-of test in
     let m = s .args .m in
     let t = tick (m .point) in
-    let h = s .args .h in
+    let h = s .args .h .0 in
     let loop = test .before .loop in
     turn (moved t h) (moving t h) m (wired s) (loop .next) (loop .i) (loop .inv .1) (test .loop-test .taken)
 
@@ -76,8 +76,8 @@ moved-part-requires c κs =
     let loop = test .before .loop in
     let at = turn-at test in
     let can =
-    movable-untrimmed (tick (m .point)) (s .args .h) (part-at (loop .next .parts) (loop .i))
-    (rw (at .unchanged) (movable (trimmed m) (s .pre .0) (s .args .h) (loop .i) (at .inside) (s .pre .1 .0) (s .pre .1 .1))) in
+    movable-untrimmed (tick (m .point)) (s .args .h .0) (part-at (loop .next .parts) (loop .i))
+    (rw (at .unchanged) (movable (trimmed m) (s .pre .0) (s .args .h .0) (loop .i) (at .inside) (s .pre .1 .0) (s .pre .1 .1))) in
     let reads = at .reads (source .source-index .result) (c .heard-of .result) (source .source-index .ensures) (c .heard-of .ensures) in
     (can .ranges, (can .fits, (can .gain, rw reads (movable-reading (trimmed m) (s .pre .0) (part-at (trimmed m .parts) (loop .i))))))
 
@@ -113,7 +113,7 @@ returns c =
     let s = c .before .before .before .before in
     let m = s .args .m in
     let loop = c .before .loop in
-    all-changed (moved (tick (m .point)) (s .args .h)) m (wired s) (loop .next) (loop .i) (loop .inv .1) (c .loop-test .left)
+    all-changed (moved (tick (m .point)) (s .args .h .0)) m (wired s) (loop .next) (loop .i) (loop .inv .1) (c .loop-test .left)
 
 pub all-moved-spec : {M : Type 1} → statement M
 all-moved-spec =
