@@ -5,6 +5,7 @@ use mathlib.Core.List.{List}
 use lib.ListN.{length}
 use lib.Dec.{leb}
 use Rattle.machine.specs.Load.{Read, ended, refused, unless-refused}
+use Rattle.operands.specs.Operands.{cut-number}
 use Rattle.reading.specs.declared.command.Step.{Step}
 use Rattle.reading.specs.Progress.{reading-of}
 
@@ -12,6 +13,6 @@ use Rattle.reading.specs.Progress.{reading-of}
 unfoldable pub step-of : List (List ℕ) → ℕ → Step → Read
 step-of rows at r = unless-refused (r .number) at (r .next) (reading-of (r .progress) rows)
 
--- a command of so many bytes, where the stream has them
+-- a command of so many bytes, where the stream has them; else it is cut
 unfoldable pub uncut : List ℕ → (at width : ℕ) → Read → Read
-uncut bs at width r = cond (leb (at + width) (length bs)) r (ended (refused 1 at))
+uncut bs at width r = cond (leb (at + width) (length bs)) r (ended (refused cut-number at))

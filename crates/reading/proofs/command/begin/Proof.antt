@@ -6,6 +6,7 @@ use mathlib.Core.List.{List}
 use lib.ListN.{length}
 use borrow.Author.Tests.{le-leb, lt-leb}
 use Rattle.machine.specs.Load.{byte-at, begin-command, begin-refusal, begun-with, unless-refused}
+use Rattle.operands.specs.Operands.{byte-cases}
 use Rattle.reading.specs.Steps.{step-of, uncut}
 use borrow.Author.Needs.{needs}
 use Rattle.reading.proofs.command.begin.Statement.{statement}
@@ -32,7 +33,7 @@ enum-told c = search needs
 returns : tie.Need-returns
 unfolding step-of uncut
 returns c =
-    let cut = rw (c .enum-told .given .1) at (c .before .before .byte .ensures) in
+    let cut = rw (c .enum-told .given .1) at (byte-cases (c .before .before .byte .ensures)) in
     let args = c .before .before .before .before .args in
     let short : length (args .s .now) < args .at + 2 = omega arith in (
       λ rows. rw (lt-leb (args .at + 2) (length (args .s .now)) short),
@@ -46,7 +47,7 @@ returns-2 : tie.Need-returns-2
 returns-2 c =
     let found = c .before .before in
     let args = found .before .before .before .before .args in
-    let got = rw (found .e .given .1) at (found .before .before .byte .ensures) in (
+    let got = rw (found .e .given .1) at (byte-cases (found .before .before .byte .ensures)) in (
       λ rows. c .begin-step .ensures .0 rows (args .at) ∙ begin-as (args .s .now) (args .at) _ _ (omega arith) (got .1) (omega arith),
       omega arith,
     )

@@ -11,6 +11,7 @@ use Rattle.reading.specs.declared.progress.Progress.{Progress}
 use Rattle.reading.specs.Progress.{reading-of}
 use Rattle.reading.specs.Rows.{length-reading}
 use Rattle.reading.specs.Spanned.{last-place, spanned-reading}
+use Rattle.operands.specs.Operands.{word-cases}
 use Rattle.reading.specs.Steps.{step-of, uncut}
 use borrow.Author.Needs.{needs}
 use Rattle.reading.proofs.command.span.Statement.{statement}
@@ -44,7 +45,7 @@ enum-told c = search needs
 returns : tie.Need-returns
 unfolding step-of uncut
 returns c =
-    let cut = rw (c .enum-told .given .1) at (c .before .before .word .ensures) in
+    let cut = rw (c .enum-told .given .1) at (word-cases (c .before .before .word .ensures)) in
     let args = c .before .before .before .before .args in
     let short : length (args .s .now) < args .at + 5 = omega arith in (
       λ rows beside. rw (lt-leb (args .at + 5) (length (args .s .now)) short),
@@ -59,7 +60,7 @@ returns-2 c =
     let found = c .before .before in
     let start = found .before .before .before .before in
     let args = start .args in
-    let got = rw (found .v .given .1) at (found .before .before .word .ensures) in
+    let got = rw (found .v .given .1) at (word-cases (found .before .before .word .ensures)) in
     let many : length (args .progress .parts) ≡ 32 = omega (arith, simp length-map at (start .good .1 .1 .0)) in
     let few : args .progress .count ≤ length (args .progress .parts) = omega arith in (
       λ rows beside.
