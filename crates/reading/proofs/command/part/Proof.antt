@@ -1,10 +1,10 @@
 -- `part` is cut where its operands are; else they make the definition's component, and the step is the definition's.
 use Prim.Native.Nat.{ℕ, _+_, _≤_, _<_}
 use native.Mathlib.Omega.{arith}
-use mathlib.Core.Path.{_≡_, _∙_, ap}
+use mathlib.Core.Path.{_≡_, _∙_, ap, refl}
 use mathlib.Core.List.{List}
 use lib.ListN.{length, length-map, length-take}
-use borrow.Author.Tests.{le-leb, lt-leb}
+use borrow.Author.Tests.{le-leb}
 use Rattle.machine.specs.Load.{byte-at, word-at, part-read, part-refusal, part-command, unless-refused, with-part}
 use Rattle.operands.specs.declared.operands.PartOperands.{PartOperands}
 use Rattle.reading.specs.declared.progress.Progress.{Progress}
@@ -13,7 +13,7 @@ use Rattle.operands.specs.Operands.{part-at, part-cases}
 use Rattle.reading.specs.Progress.{reading-of}
 use Rattle.operands.specs.Refusals.{operands-judged, part-number}
 use Rattle.reading.specs.Rows.{length-joined}
-use Rattle.reading.specs.Steps.{step-of, uncut}
+use Rattle.reading.specs.Steps.{cut-as, refused-left, uncut}
 use Rattle.operands.specs.Tests.{at-least-min}
 use borrow.Author.Needs.{needs}
 use Rattle.reading.proofs.command.part.Statement.{statement}
@@ -64,14 +64,17 @@ enum-known-o c = search needs
 enum-told : tie.Need-enum-told
 enum-told c = search needs
 
+refused-step-requires : tie.Need-refused-step-requires
+refused-step-requires c κs = search needs
+
 returns : tie.Need-returns
-unfolding step-of uncut
 returns c =
-    let cut = rw (c .enum-told .given .1) at (part-cases (c .before .before .part-operands .ensures)) in
-    let args = c .before .before .before .before .args in
-    let short : length (args .s .now) < args .at + 15 = omega arith in (
-      λ rows. rw (lt-leb (args .at + 15) (length (args .s .now)) short),
-      omega arith,
+    let told = c .before in
+    let short = rw (told .enum-told .given .1) at (part-cases (told .before .before .part-operands .ensures)) in
+    let start = told .before .before .before .before in
+    let refused = c .refused-step in (
+      λ rows. cut-as (refused .result) _ _ _ (refused .ensures) (start .args .s .now) 15 rows _ refl (omega arith),
+      refused-left (refused .result) _ _ _ (refused .ensures) (start .pre .1),
     )
 
 part-step-requires : tie.Need-part-step-requires
@@ -85,9 +88,9 @@ returns-2 c =
     let got = rw (found .o .given .1) at (part-cases (found .before .before .part-operands .ensures)) in
     let many : length (args .progress .parts) ≡ 32 = omega (arith, simp length-map at (start .good .1 .1 .0)) in (
       λ rows.
-          c .part-step .ensures .0 rows (args .at) ∙
+          c .part-step .ensures .0 rows ∙
           part-as (args .s .now) (args .at) (args .progress) _ _ rows many (omega arith) (got .1) (omega arith),
-      omega arith,
+      c .part-step .ensures .1,
     )
 
 pub part-spec : {M : Type 1} → statement M
@@ -98,6 +101,7 @@ part-spec =
     part-operands-requires
     enum-known-o
     enum-told
+    refused-step-requires
     returns
     part-step-requires
     returns-2)

@@ -1,10 +1,9 @@
 -- `span_step` is refused as the definition, by the last part's count and last span, and else has one span more; a span that is not refused has room.
 use Prim.Native.Nat.{ℕ, _<_, _≤_}
 use native.Mathlib.Omega.{arith}
-use mathlib.Core.Path.{_≡_, _∙_, sym}
+use mathlib.Core.Path.{_≡_, _∙_, refl, sym}
 use mathlib.Core.List.{List, []}
 use lib.ListN.{length, getD, length-map, length-take}
-use borrow.Author.Tests.{ne-eqb}
 use Rattle.machine.specs.Table.{component-at}
 use Rattle.machine.specs.Load.{last-span, span-refusal}
 use Rattle.reading.specs.declared.progress.Progress.{Progress}
@@ -12,7 +11,7 @@ use Rattle.reading.specs.Progress.{with-row, reading-of}
 use Rattle.operands.specs.Refusals.{span-number}
 use Rattle.reading.specs.Rows.{reading-at}
 use Rattle.reading.specs.Spanned.{last-of, last-place, span-count, Beside}
-use Rattle.reading.specs.Steps.{step-of}
+use Rattle.reading.specs.Steps.{step-of, refused-as, refused-left}
 use Rattle.operands.specs.Tests.{at-least-min, room-left}
 use borrow.Author.Needs.{needs}
 use Rattle.reading.proofs.command.span_step.Statement.{statement}
@@ -64,12 +63,16 @@ element-copy-out-c c = search needs
 span-refusal-requires : tie.Need-span-refusal-requires
 span-refusal-requires c κs = search needs
 
+refused-step-requires : tie.Need-refused-step-requires
+refused-step-requires c κs = search needs
+
 returns : tie.Need-returns
-unfolding step-of
-returns c = (
-  λ rows at beside. rw (number-as (c .before) rows beside, ne-eqb _ _ (c .if1 .taken)),
-  omega arith,
-)
+returns c =
+    let found = c .before .before in
+    let refused = c .refused-step in (
+      λ rows beside. refused-as (refused .result) _ _ _ (refused .ensures) _ _ _ _ (c .before .if1 .taken) (sym (number-as found rows beside)),
+      refused-left (refused .result) _ _ _ (refused .ensures) (found .before .before .pre .1),
+    )
 
 with-span-counted-requires : tie.Need-with-span-counted-requires
 with-span-counted-requires c κs =
@@ -84,14 +87,14 @@ returns-2 c =
     let progress = start .args .t1 in
     let number = c .before .before .span-refusal in
     let room = span-room (span-count progress) (start .args .last) (start .args .v) (sym (number .ensures) ∙ c .before .if1 .left) in (
-      λ rows at beside.
+      λ rows beside.
           let inside : span-count progress < length (getD rows (last-place progress) []) = rw (beside .eight) room in
           rw (
             number-as (c .before .before) rows beside,
             c .before .if1 .left,
             c .with-span-counted .ensures .0 rows (start .args .v) (beside .there) inside,
           ),
-      omega arith,
+      record { few = omega arith; refused = λ some. absurd (some refl) },
     )
 
 pub span-step-spec : {M : Type 1} → statement M
@@ -102,6 +105,7 @@ span-step-spec =
     mul-c
     element-copy-out-c
     span-refusal-requires
+    refused-step-requires
     returns
     with-span-counted-requires
     returns-2)

@@ -28,7 +28,7 @@ span-requires c κs = search needs
 returns : tie.Need-returns
 returns c =
     let last = c .before .last-span .ensures in
-    (c .span .ensures .0 _ (record { there = omega arith; eight = last .eight; final = last .is }), omega arith)
+    (c .span .ensures .0 _ (record { there = omega arith; eight = last .eight; final = last .is }), c .span .ensures .1)
 
 pub span-beside-spec : {M : Type 1} → statement M
 span-beside-spec =
