@@ -37,7 +37,7 @@ ghost use Rattle.reading.specs.Wired.{wired-reading};
 const CUT: u64 = 1;
 
 // What a command comes to: its refusal's number, 0 meaning none, and the position and the progress behind it; those of a refusal are the
-// command's own position and the progress before it. Free are the unused places of a progress alone (`progress.rt`).
+// command's own position and the progress before it. Free are the unused places of a progress (`progress.rt`).
 pub struct Step {
     pub number: u64,
     pub next: usize,

@@ -35,7 +35,7 @@ fn blank_component() -> Component
     }
 }
 
-// Where reading begins: nothing was read.
+// Where reading begins: nothing was read. Free are a progress's unused places.
 fn nothing_read() -> Progress
     ensures { λ r. ⌜ ((rows : List (List ℕ)) → reading-of r rows ≡ nothing-read) ⌝ }
     ensures few { λ r. ⌜ r .count ≤ 32 ⌝ }
@@ -58,7 +58,7 @@ fn no_spans() -> [[u32; SPANS]; PARTS]
     [[0u32; SPANS]; PARTS]
 }
 
-// The parts with their rows of spans.
+// The parts with their rows of spans. Free are the places of a row that no span is in.
 fn with_rows(parts: [Component; PARTS], rows: [[u32; SPANS]; PARTS]) -> [Component; PARTS]
     ensures { λ r. ⌜ ((count : ℕ) → map trimmed-component (take count r) ≡ joined (take count parts) rows) ⌝ }
 {
@@ -99,7 +99,7 @@ fn refused_read(number: u64, at: usize) -> TableRead
     }
 }
 
-// End at a position, behind the progress and its rows.
+// End at a position, behind the progress and its rows. Free are the bytes of unused places.
 fn ended_read(at: usize, progress: Progress, rows: [[u32; SPANS]; PARTS]) -> TableRead
     requires { ⌜ progress .count ≤ 32 ⌝ }
     ensures { λ r. ⌜ EndedRead at (reading-of progress rows .table) r ⌝ }
