@@ -24,12 +24,12 @@ ghost use Prim.Native.Nat.{ℕ, _<_, _≤_};
 ghost use mathlib.Core.Path.{_≡_};
 ghost use mathlib.Core.List.{List};
 ghost use lib.ListN.{length};
-ghost use Rattle.machine.specs.Table.{component-at};
-ghost use Rattle.machine.specs.Load.{begin-command, begin-refusal, begun-with, part-command, span-command, span-refusal, unless-refused, wire-command, wire-refusal, with-part};
+ghost use Rattle.machine.specs.Load.{begin-command, begin-refusal, begun-with, part-command, unless-refused, wire-command, wire-refusal, with-part};
+ghost use Rattle.reading.specs.Beside.{span-stepped};
 ghost use Rattle.reading.specs.Made.{component-of};
 ghost use Rattle.reading.specs.Progress.{reading-of};
-ghost use Rattle.operands.specs.Refusals.{part-number};
-ghost use Rattle.reading.specs.Spanned.{Beside, last-place, row-with, span-count, spanned-reading};
+ghost use Rattle.operands.specs.Refusals.{part-number, span-number};
+ghost use Rattle.reading.specs.Spanned.{RowThere, last-place, row-with, span-count, spanned-reading};
 ghost use Rattle.reading.specs.Steps.{SpanLeft, StepLeft, refused-step, step-of, uncut};
 ghost use Rattle.reading.specs.Wired.{wired-reading};
 
@@ -159,9 +159,9 @@ pub struct SpanStep {
 // A Span with the value v, from a position up to the position `next`, the last part's last span being given.
 fn span_step(progress: Progress, last: u32, v: u32, at: usize, next: usize) -> Step
     requires { ⌜ (0 < progress .count) × (progress .count ≤ 32) ⌝ }
-    ensures { λ r. ⌜ ((rows : List (List ℕ)) → Beside progress rows last →
+    ensures { λ r. ⌜ ((rows : List (List ℕ)) → RowThere progress rows →
         step-of (row-with rows (last-place progress) (span-count progress) v) at r ≡
-        unless-refused (span-refusal (component-at (reading-of progress rows .table .parts) (last-place progress)) v) at next
+        unless-refused (span-number (span-count progress) last v) at next
         (spanned-reading (reading-of progress rows) (last-place progress) v)) ⌝ }
     ensures left { λ r. ⌜ StepLeft at progress r ⌝ }
 {
@@ -179,12 +179,12 @@ fn span_step(progress: Progress, last: u32, v: u32, at: usize, next: usize) -> S
     }
 }
 
-// The Span at a position.
+// The Span at a position, the last part's last span being given.
 pub fn span(s: &[u8], at: usize, progress: Progress, last: u32) -> SpanStep
     requires { ⌜ (at < length (now s)) × (0 < progress .count) × (progress .count ≤ 32) ⌝ }
-    ensures { λ r. ⌜ ((rows : List (List ℕ)) → Beside progress rows last →
+    ensures { λ r. ⌜ ((rows : List (List ℕ)) → RowThere progress rows →
         step-of (row-with rows (last-place progress) (span-count progress) (r .span)) at (r .step) ≡
-        uncut (now (s .entry)) at 5 (span-command (now (s .entry)) at (reading-of progress rows))) ⌝ }
+        uncut (now (s .entry)) at 5 (span-stepped (now (s .entry)) at progress last rows)) ⌝ }
     ensures left { λ r. ⌜ SpanLeft at progress r ⌝ }
 {
     let WordRead::Got(v, c) = word(s, Cursor { at: at + 1 }) else {
