@@ -2,7 +2,7 @@
 -- components, and the places behind are as they were. The measure is what is left of the count.
 use Prim.Native.Nat.{_-_, _≤_, _<_}
 use native.Mathlib.Omega.{arith}
-use mathlib.Core.Path.{_≡_, refl, ap, ap₂, _∙_}
+use mathlib.Core.Path.{_≡_, refl, ap₂, _∙_}
 use mathlib.Core.List.{List, map, _++_}
 use lib.ListN.{length, set, take, drop}
 use Rattle.machine.specs.declared.part.Part.{Part}

@@ -1,11 +1,11 @@
 -- `part` is cut where its operands are; else they make the definition's component, and the step is the definition's.
-use Prim.Native.Nat.{ℕ, _+_, _≤_, _<_}
+use Prim.Native.Nat.{ℕ, _+_, _≤_}
 use native.Mathlib.Omega.{arith}
 use mathlib.Core.Path.{_≡_, _∙_, ap, refl}
 use mathlib.Core.List.{List}
 use lib.ListN.{length, length-map, length-take}
 use borrow.Author.Tests.{le-leb}
-use Rattle.machine.specs.Load.{byte-at, word-at, part-read, part-refusal, part-command, unless-refused, with-part}
+use Rattle.machine.specs.Load.{byte-at, part-read, part-refusal, part-command, unless-refused, with-part}
 use Rattle.operands.specs.declared.operands.PartOperands.{PartOperands}
 use Rattle.reading.specs.declared.progress.Progress.{Progress}
 use Rattle.reading.specs.Made.{component-of}

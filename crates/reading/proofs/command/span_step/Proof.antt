@@ -1,18 +1,13 @@
 -- `span_step` is refused by the last part's count and last span, and else has one span more; a span that is not refused has room.
-use Prim.Native.Nat.{ℕ, _<_, _≤_}
+use Prim.Native.Nat.{ℕ, _<_}
 use native.Mathlib.Omega.{arith}
 use mathlib.Core.Path.{_≡_, _∙_, refl, sym}
-use mathlib.Core.List.{List, []}
-use lib.ListN.{length, getD, length-map, length-take}
-use Rattle.machine.specs.Table.{component-at}
-use Rattle.machine.specs.Load.{last-span, span-refusal}
-use Rattle.reading.specs.declared.progress.Progress.{Progress}
-use Rattle.reading.specs.Progress.{with-row, reading-of}
+use mathlib.Core.List.{[]}
+use lib.ListN.{length, getD}
 use Rattle.operands.specs.Refusals.{span-number}
-use Rattle.reading.specs.Rows.{reading-at}
-use Rattle.reading.specs.Spanned.{last-of, last-place, span-count, Beside}
+use Rattle.reading.specs.Spanned.{last-place, span-count}
 use Rattle.reading.specs.Steps.{step-of, refused-as, refused-left}
-use Rattle.operands.specs.Tests.{at-least-min, room-left}
+use Rattle.operands.specs.Tests.{room-left}
 use borrow.Author.Needs.{needs}
 use Rattle.reading.proofs.command.span_step.Statement.{statement}
 use Rattle.reading.proofs.command.span_step.Tie as tie

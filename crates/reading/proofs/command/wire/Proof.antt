@@ -1,11 +1,11 @@
 -- `wire` is cut where its operands are; else its step is the definition's.
-use Prim.Native.Nat.{ℕ, _+_, _≤_, _<_}
+use Prim.Native.Nat.{ℕ, _+_, _≤_}
 use native.Mathlib.Omega.{arith}
-use mathlib.Core.Path.{_≡_, _∙_, ap, refl}
+use mathlib.Core.Path.{_≡_, _∙_, refl}
 use mathlib.Core.List.{List}
 use lib.ListN.{length}
 use borrow.Author.Tests.{le-leb}
-use Rattle.machine.specs.Load.{Reading, byte-at, wire-command, wire-refusal, unless-refused}
+use Rattle.machine.specs.Load.{Reading, wire-command, wire-refusal, unless-refused}
 use Rattle.operands.specs.declared.operands.WireOperands.{WireOperands}
 use Rattle.operands.specs.Operands.{wire-at, wire-cases}
 use Rattle.reading.specs.Progress.{reading-of}
