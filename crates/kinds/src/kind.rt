@@ -28,7 +28,7 @@ const KINDS: [Kind; KIND_COUNT] = [
 // The drive's number.
 const DRIVE: u8 = 11;
 
-// What is found at a number: the kind that has it, or that no kind has.
+// What is found at a number: the kind that has it, or that no kind has, which is refused with 5.
 pub enum KindFound {
     Known(Kind),
     Unknown,

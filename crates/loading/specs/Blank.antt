@@ -2,32 +2,19 @@
 use Prim.Native.Nat.{ℕ}
 use mathlib.Core.Path.{_≡_, refl}
 use lib.ListN.{replicate}
-use lib.IntN.{pos}
-use Rattle.machine.specs.declared.part.Kind.the-variants.{Constant}
-use Rattle.machine.specs.declared.part.Source.the-variants.{Unwired}
 use Rattle.machine.specs.declared.part.Part.{Part}
 use Rattle.machine.specs.declared.model.Model.{Model}
 use Rattle.machine.specs.declared.model.Loaded.{Loaded}
 use Rattle.machine.specs.Time.{start}
-use Rattle.machine.specs.Model.{most-parts, most-spans, blank-state, no-model, trimmed, trimmed-loaded}
+use Rattle.machine.specs.Model.{most-parts, blank-state, no-model, trimmed, trimmed-loaded}
 use Rattle.machine.specs.Load.{refused}
+use Rattle.table.specs.Concluded.{empty-component}
 
 -- a part with all of it 0, its places for spans among it
 unfoldable pub blank-place : Part
 blank-place =
     record {
-      component =
-          record {
-            kind = Constant;
-            preference = 0;
-            a = pos 0;
-            b = pos 0;
-            p = 0;
-            «span_count» = 0;
-            spans = replicate most-spans 0;
-            port0 = Unwired;
-            port1 = Unwired;
-          };
+      component = empty-component;
       ratio = 0;
       state = blank-state;
     }

@@ -1,16 +1,16 @@
 -- End judged: the refusals that it alone decides, and that what is accepted is a table that fits. Assumes nothing.
-use Prim.Native.Nat.{ℕ, _+_, _≤_, _<_}
+use Prim.Native.Nat.{ℕ, _+_, _-_, _≤_, _<_}
 use native.Mathlib.Omega.{arith}
 use mathlib.Core.Path.{_≡_, refl, sym, ap, _∙_}
 use mathlib.Core.Bool.{Bool, true, cond}
 use mathlib.Core.List.{List, map}
-use lib.ListN.{length, take}
+use lib.ListN.{length, replicate, take, drop}
 use lib.Dec.{eqb, leb}
 use borrow.Author.Tests.{leb-true, eq-eqb, ne-eqb}
 use Rattle.machine.specs.declared.part.Part.{Part}
 use Rattle.machine.specs.declared.model.Model.{Model}
 use Rattle.machine.specs.Time.{last-magnitude, magnitude-known, start}
-use Rattle.machine.specs.Model.{trimmed-part}
+use Rattle.machine.specs.Model.{most-parts, trimmed-part}
 use Rattle.machine.specs.Table.{Table, magnitude-of, periods-fit, part-order, ordered}
 use Rattle.machine.specs.Load.{accepted, end-refusal, refused}
 use Rattle.machine.specs.Sound.{component-fits, table-fits}
@@ -34,11 +34,17 @@ last-position = 18446744073709551615
 unfoldable pub end-number : (count : ℕ) → Bool → (placed : ℕ) → ℕ
 end-number count fit placed = cond (eqb count 0) 9 (cond fit (cond (leb count placed) 0 11) 10)
 
--- what End comes to behind the table that was read
+-- places for a part order with this one in them, and 0 in those behind
+pub record OrderPlaces (order places : List ℕ) : Type 0 where
+  pub first : take (length order) places ≡ order
+  pub rest : drop (length order) places ≡ replicate (most-parts - length order) 0
+
+-- what End comes to behind the table that was read: also where it is refused, the part order has all parts that could be placed
 pub record Judged (read : TableRead) (r : Ending) : Type 0 where
   pub number : r .number ≡ end-refusal (table-read read)
   pub magnitude : r .magnitude ≡ magnitude-of (table-read read)
   pub order : r .number ≡ 0 → take (read .count) (r .order) ≡ part-order (table-read read .parts)
+  pub placed : OrderPlaces (part-order (table-read read .parts)) (r .order)
 
 -- a table that was read and is not refused, with the position after its End within the numbers of a word
 pub record Acceptable (read : TableRead) (e : Ending) : Type 0 where
@@ -100,6 +106,12 @@ module _ (read : TableRead) (few : read .count ≤ length (read .parts)) where
       f ∙ ap (λ (e : ℕ). periods-within e (table-read read .parts)) m ∙ sym (periods-by (table-read read)) in
       let orders : placed .count ≡ length (part-order (table-read read .parts)) = p .counted ∙ ap length (sym read-order) in
       n ∙ rw (end-by (table-read read), read-count, periods, orders)
+
+  -- the parts that could be placed are in its part order
+  pub judged-places : (placed : Placed) → InOrder (read .parts) (read .count) placed → OrderPlaces (part-order (table-read read .parts)) (placed .order)
+  judged-places placed p =
+      let counted : length (part-order (table-read read .parts)) ≡ placed .count = ap length read-order ∙ sym (p .counted) in
+      record { first = rw counted (p .is ∙ sym read-order); rest = rw counted (p .rest) }
 
   -- where it is not refused, all parts are placed, in its part order
   pub judged-order :

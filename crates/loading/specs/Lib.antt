@@ -1,6 +1,6 @@
 -- The places of a table's parts, no model, what End comes to, positions; and what `load`'s contract comes to for a caller (`Owed`).
-pub mod Places
 pub mod Blank
+pub mod Places
 pub mod Ending
 pub mod Position
 pub mod Owed

@@ -5,19 +5,20 @@ use native.Mathlib.Omega.{arith}
 use mathlib.Core.Path.{_≡_, refl, sym, ap, _∙_}
 use mathlib.Core.Bool.{Bool, true, _&&_}
 use mathlib.Core.List.{List, _++_, map, map-map}
-use lib.ListN.{length, length-map, getD, take, drop}
+use lib.ListN.{length, length-map, getD, replicate, take, drop}
 use lib.Dec.{leb}
 use Rattle.machine.specs.declared.part.Component.{Component}
 use Rattle.machine.specs.declared.part.Part.{Part}
 use Rattle.machine.specs.Lists.{every}
 use Rattle.machine.specs.Time.{last-tick, larger, master-magnitude, ratio-of}
-use Rattle.machine.specs.Model.{blank-component, trimmed-component, trimmed-part}
+use Rattle.machine.specs.Model.{most-parts, blank-component, trimmed-component, trimmed-part}
 use Rattle.machine.specs.Table.{Table, component-at, magnitude-of, component-ratio, periods-fit}
 use Rattle.machine.specs.Fresh.{first-state, first-part, first-parts}
 use Rattle.laws.specs.Lists.{getD-map-in}
 use Rattle.laws.specs.Loops.{every-on, every-end}
 use Rattle.laws.specs.Partway.{mapped-at, mapped-front, mapped-length}
 use Rattle.soundness.specs.Magnitude.{magnitude-on}
+use Rattle.loading.specs.Blank.{blank-place}
 
 -- the components in the first `count` places, without their unused places for spans
 unfoldable pub components : ℕ → List Component → List Component
@@ -38,6 +39,10 @@ periods-within magnitude cs = every (λ (c : Component). leb (c .p * ratio-of ma
 -- the first part of a component, by the master's magnitude
 unfoldable pub first-by : ℕ → Component → Part
 first-by magnitude c = record { component = c; ratio = ratio-of magnitude (c .preference); state = first-state c }
+
+-- the places for parts with the first parts of the first `count` components in them; those behind are blank
+unfoldable pub first-places : (magnitude count : ℕ) → List Component → List Part
+first-places magnitude count parts = map (first-by magnitude) (take count parts) ++ drop count (replicate most-parts blank-place)
 
 -- by a table's own magnitude these are the machine's
 pub periods-by : (t : Table) → periods-fit t ≡ periods-within (magnitude-of t) (t .parts)
@@ -99,12 +104,10 @@ module _ (count : ℕ) (parts : List Component) (few : count ≤ length parts) w
       let past : length (components count parts) ≤ i = omega (arith, components-count) in
       every-end _ (components count parts) i past
 
-  -- the first parts of the places, once all are stored, are those of the components
-  pub first-stored :
-      (magnitude : ℕ) (rest : List Part) →
-      map trimmed-part (take count (map (first-by magnitude) (take count parts) ++ rest)) ≡ map (first-by magnitude) (components count parts)
-  unfolding components trimmed-part first-by trimmed-component first-state
-  first-stored magnitude rest =
+  -- the first parts of the places are those of the components
+  pub first-stored : (magnitude : ℕ) → map trimmed-part (take count (first-places magnitude count parts)) ≡ map (first-by magnitude) (components count parts)
+  unfolding first-places components trimmed-part first-by trimmed-component first-state
+  first-stored magnitude =
       let front = take count parts in
-      ap (map trimmed-part) (mapped-front (first-by magnitude) count parts rest few) ∙ map-map trimmed-part (first-by magnitude) front ∙
+      ap (map trimmed-part) (mapped-front (first-by magnitude) count parts _ few) ∙ map-map trimmed-part (first-by magnitude) front ∙
       sym (map-map (first-by magnitude) trimmed-component front)

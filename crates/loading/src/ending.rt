@@ -58,7 +58,7 @@ fn judged(read: TableRead) -> Ending
     }
 }
 
-// The model of a table that was read before its start point is filled, by the master's magnitude and the part order.
+// The model of a table that was read before its start point is filled, by the master's magnitude and the part order. Free are the bytes of unused places.
 fn unfilled_model(read: TableRead, ending: Ending) -> Model
     requires { ⌜ Acceptable read ending ⌝ }
     ensures { λ r. ⌜ trimmed r ≡ unfilled (table-read read) ⌝ }
@@ -76,7 +76,7 @@ fn unfilled_model(read: TableRead, ending: Ending) -> Model
     }
 }
 
-// A table that is accepted, with the fresh model.
+// A table that is accepted, with the fresh model. Free are the bytes of unused places.
 fn accept(read: TableRead, ending: Ending) -> Loaded
     requires { ⌜ Acceptable read ending ⌝ }
     ensures { λ r. ⌜ trimmed-loaded r ≡ accepted (read .position) (table-read read) ⌝ }
@@ -90,7 +90,7 @@ fn accept(read: TableRead, ending: Ending) -> Loaded
     }
 }
 
-// What loading comes to, by what reading the table came to.
+// What loading comes to, by what reading the table came to. Free are the bytes of unused places of a model; of a refusal not even those are.
 pub(crate) fn finished(read: TableRead) -> Loaded
     requires { ⌜ (read .number ≡ 0 → Ended read) ⌝ }
     requires { ⌜ (concluded read .number ≡ 0 → concluded read .position ≤ last-position) ⌝ }

@@ -14,14 +14,11 @@ use machine::signal::Signal;
 use machine::time::LocalTicks;
 ghost use mathlib.Core.Path.{_≡_};
 ghost use mathlib.Core.Bool.{cond};
-ghost use mathlib.Core.List.{map};
 ghost use lib.IntN.{pos};
-ghost use lib.ListN.{take};
 ghost use Prim.Native.Nat.{_≤_};
 ghost use Rattle.machine.specs.Kind.{integrates};
-ghost use Rattle.machine.specs.Model.{trimmed-part};
 ghost use Rattle.machine.specs.Time.{last-magnitude};
-ghost use Rattle.loading.specs.Places.{components, first-by};
+ghost use Rattle.loading.specs.Places.{first-by, first-places};
 
 // The held number of a part of this kind at the start.
 fn first_held(kind: Kind, a: i64) -> i64
@@ -60,7 +57,7 @@ fn first_part(c: Component, magnitude: u8) -> Part
 pub(crate) fn first_parts(parts: [Component; PARTS], count: usize, magnitude: u8) -> [Part; PARTS]
     requires { ⌜ count ≤ 32 ⌝ }
     requires { ⌜ magnitude ≤ last-magnitude ⌝ }
-    ensures { λ r. ⌜ map trimmed-part (take count r) ≡ map (first-by magnitude) (components count parts) ⌝ }
+    ensures { λ r. ⌜ r ≡ first-places magnitude count parts ⌝ }
 {
     let blank = blank_part();
     let mut all = [blank; PARTS];

@@ -1,5 +1,5 @@
 // Operands read from a stream: one byte, and four little-endian. Each reader answers the operand and the
-// cursor behind it, or that the stream is cut. Its contracts cite `specs/Operands.antt`.
+// cursor behind it, or that the stream is cut, which is refused with 1. Its contracts cite `specs/Operands.antt`.
 ghost use Prim.Native.Nat.{_<_};
 ghost use mathlib.Core.Path.{_≡_};
 ghost use Rattle.machine.specs.Load.{signed};

@@ -20,7 +20,7 @@ ghost use mathlib.Core.Path.{_≡_};
 ghost use mathlib.Core.Bool.{cond};
 ghost use lib.Dec.{eqb};
 ghost use Rattle.machine.specs.Load.{begin-refusal, known-command};
-ghost use Rattle.operands.specs.Refusals.{command-number, operands-known, part-number, placed, port-number, span-number};
+ghost use Rattle.operands.specs.Refusals.{command-number, operands-number, part-number, placed, port-number, span-number};
 
 // The bytes of Begin, Part, Span, End and a wanted step; a Wire's, 04h, is the one left where these are told apart.
 pub const BEGIN_BYTE: u8 = 0x01;
@@ -33,6 +33,9 @@ pub const END_BYTE: u8 = 0x05;
 
 pub const WANT_BYTE: u8 = 0x06;
 
+// The number of a kind that is not found.
+const UNKNOWN_KIND: u64 = 5;
+
 // The refusal of a Begin with this magnitude.
 pub fn begin_refusal(e: u8) -> u64
     ensures { λ r. ⌜ r ≡ begin-refusal e ⌝ }
@@ -43,17 +46,18 @@ pub fn begin_refusal(e: u8) -> u64
     5
 }
 
-// Whether a Part's operands are in their ranges, and its kind and preference known.
-fn operands_known(o: PartOperands) -> bool
-    ensures { λ r. ⌜ r ≡ operands-known o ⌝ }
+// The refusal of a Part's operands: its kind or preference is unknown, or an operand is out of its range.
+fn operands_refusal(o: PartOperands) -> u64
+    ensures { λ r. ⌜ r ≡ operands-number o ⌝ }
 {
     let KindFound::Known(kind) = kind_of(o.kind) else {
-        return false;
+        return UNKNOWN_KIND;
     };
     if !preference_known(o.preference) {
-        return false;
+        return 5;
     }
-    operands_fit(kind, signed_of(o.a), signed_of(o.b), o.p)
+    let fit = operands_fit(kind, signed_of(o.a), signed_of(o.b), o.p);
+    refusal(!fit, 5)
 }
 
 // The refusal of a Part behind so many.
@@ -61,7 +65,7 @@ pub fn part_refusal(count: usize, o: PartOperands) -> u64
     ensures { λ r. ⌜ r ≡ part-number count o ⌝ }
 {
     let room = refusal(count >= PARTS, 6);
-    let range = refusal(!operands_known(o), 5);
+    let range = operands_refusal(o);
     first_of(room, range)
 }
 

@@ -5,3 +5,4 @@ pub mod Rows
 pub mod Steps
 pub mod Wired
 pub mod Spanned
+pub mod Beside

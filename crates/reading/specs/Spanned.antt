@@ -32,8 +32,12 @@ last-place progress = progress .count - 1
 abbrev pub span-count : Progress → ℕ
 span-count progress = component-at (progress .parts) (last-place progress) .«span_count»
 
--- the last part's row is there with its eight places, and its last span is this one
-pub record Beside (progress : Progress) (rows : List (List ℕ)) (last : ℕ) : Type 0 where
+-- the last part's row is there with its eight places
+pub record RowThere (progress : Progress) (rows : List (List ℕ)) : Type 0 where
   pub there : last-place progress < length rows
   pub eight : length (getD rows (last-place progress) []) ≡ 8
+
+-- and its last span is this one
+pub record Beside (progress : Progress) (rows : List (List ℕ)) (last : ℕ) : Type 0 where
+  pub row : RowThere progress rows
   pub final : last ≡ last-of (take (span-count progress) (getD rows (last-place progress) []))

@@ -20,7 +20,8 @@ ghost use Rattle.reading.specs.Made.{component-of, made-component};
 // The number of a wire that names an unknown part.
 const UNKNOWN_PART: u64 = 7;
 
-// Whether Begin was read, whether a span may follow, the default magnitude, and the parts: the first `count` places are in use.
+// Whether Begin was read, whether a span may follow, the default magnitude, and the parts: the first `count` places are in use. Free in every progress
+// that is answered: the places behind them, and a component's own places for spans, which its row stands for.
 pub struct Progress {
     pub begun: bool,
     pub spannable: bool,

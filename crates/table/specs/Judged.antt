@@ -2,7 +2,7 @@
 -- for a Span. Assumes nothing.
 use Prim.Native.Nat.{ℕ, _+_, _-_, _≤_, _<_}
 use native.Mathlib.Omega.{arith}
-use mathlib.Core.Path.{_≡_, _∙_, sym, ap}
+use mathlib.Core.Path.{_≡_, _∙_, refl, sym, ap}
 use mathlib.Core.Bool.{Bool, true, false, cond, and-eq-true-iff}
 use mathlib.Core.List.{List}
 use mathlib.Core.Logic.{_⊎_, inl, inr}
@@ -44,6 +44,17 @@ command-byte begun spannable b h = by-tests (either (known-command b)) (either (
         let most = leb-true b 6 (f .1) in
         let other = eqb-false b 6 t in
         (omega arith, omega arith)
+
+-- End is known and in place once Begin was read
+pub end-in-place : (begun spannable : Bool) (b : ℕ) → b ≡ 5 → begun ≡ true → command-number begun spannable b ≡ 0
+unfolding command-number placed known-command
+end-in-place begun spannable b e t = rw (e, t)
+
+-- and only then
+pub end-begun : (begun spannable : Bool) (b : ℕ) → b ≡ 5 → command-number begun spannable b ≡ 0 → begun ≡ true
+unfolding command-number placed known-command
+end-begun true spannable b e none = refl
+end-begun false spannable b e none = absurd (omega (arith, rw e at none))
 
 -- a command that is unknown or out of place is refused
 pub judged-refused : (bs : List ℕ) (at : ℕ) (progress : Progress) (rows : List (List ℕ)) (b n : ℕ) → at < length bs → b ≡ byte-at bs at →

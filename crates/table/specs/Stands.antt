@@ -12,17 +12,19 @@ use Rattle.machine.specs.Load.{Reading, Read, onward, ended, refused, nothing-r
 use Rattle.soundness.specs.Accepted.{Readable, Keeps, kept-nothing, kept-turn}
 use Rattle.soundness.specs.Fuel.{Later, turn-later, read-unrolled}
 use Rattle.operands.specs.Refusals.{command-number, placed}
+use Rattle.table.specs.Concluded.{Reached, at-start, turned-on}
 use Rattle.table.specs.Turning.{sized-command}
 
--- loading is reading from here on
+-- loading is reading from here on, and turns from the start lead here
 pub record Stands (bs : List ℕ) (at : ℕ) (rd : Reading) : Type 0 where
   pub same : load bs ≡ read-from (suc (length bs)) bs at rd
   pub kept : Readable rd
+  pub reached : Reached bs at rd
 
 -- at the start
 pub stands-first : (bs : List ℕ) (rd : Reading) → rd ≡ nothing-read → Stands bs 0 rd
 unfolding load
-stands-first bs rd e = rw e (record { same = refl; kept = kept-nothing })
+stands-first bs rd e = rw e (record { same = refl; kept = kept-nothing; reached = at-start })
 
 -- a turn that ends is what loading comes to
 pub stands-ended : (bs : List ℕ) (at : ℕ) (rd : Reading) (r : Loaded) → Stands bs at rd → read-turn bs at rd ≡ ended r → load bs ≡ r
@@ -40,6 +42,7 @@ stands-on bs at next rd then s e =
       record {
         same = s .same ∙ read-unrolled (suc (length bs)) bs at rd enough ∙ ap (λ (t : Read). read-on t (read-from (suc (length bs)) bs)) e;
         kept = kept;
+        reached = turned-on at next rd then (s .reached) e;
       },
       later,
     )

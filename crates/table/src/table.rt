@@ -12,14 +12,14 @@ ghost use Prim.Native.Nat.{ℕ, _≤_};
 ghost use mathlib.Core.Path.{_≡_};
 ghost use mathlib.Core.List.{List, map};
 ghost use lib.ListN.{replicate, take};
-ghost use Rattle.machine.specs.Model.{blank-component, most-parts, most-spans, trimmed-component};
+ghost use Rattle.machine.specs.Model.{most-parts, most-spans, trimmed-component};
 ghost use Rattle.machine.specs.Load.{load, nothing-read};
 ghost use Rattle.reading.specs.Progress.{joined, reading-of};
-ghost use Rattle.table.specs.Concluded.{Ended, EndedRead, RefusedRead, concluded};
+ghost use Rattle.table.specs.Concluded.{EndedRead, Stopped, concluded, empty-component, refused-table};
 
 // A component with all of it 0.
 fn blank_component() -> Component
-    ensures { λ r. ⌜ trimmed-component r ≡ blank-component ⌝ }
+    ensures { λ r. ⌜ r ≡ empty-component ⌝ }
 {
     let spans = [0u32; SPANS];
     Component {
@@ -35,7 +35,7 @@ fn blank_component() -> Component
     }
 }
 
-// Where reading begins: nothing was read.
+// Where reading begins: nothing was read. Free are a progress's unused places.
 fn nothing_read() -> Progress
     ensures { λ r. ⌜ ((rows : List (List ℕ)) → reading-of r rows ≡ nothing-read) ⌝ }
     ensures few { λ r. ⌜ r .count ≤ 32 ⌝ }
@@ -58,7 +58,7 @@ fn no_spans() -> [[u32; SPANS]; PARTS]
     [[0u32; SPANS]; PARTS]
 }
 
-// The parts with their rows of spans.
+// The parts with their rows of spans. Free are the places of a row that no span is in.
 fn with_rows(parts: [Component; PARTS], rows: [[u32; SPANS]; PARTS]) -> [Component; PARTS]
     ensures { λ r. ⌜ ((count : ℕ) → map trimmed-component (take count r) ≡ joined (take count parts) rows) ⌝ }
 {
@@ -75,7 +75,7 @@ fn with_rows(parts: [Component; PARTS], rows: [[u32; SPANS]; PARTS]) -> [Compone
 }
 
 // What reading comes to. Number 0: End was reached, at the position, and the parts hold their spans; otherwise document 01's number and
-// position of a refusal, and no parts.
+// position of a refusal, no parts, and all else 0.
 pub struct TableRead {
     pub number: u64,
     pub position: usize,
@@ -86,7 +86,7 @@ pub struct TableRead {
 
 // A refusal at a position.
 fn refused_read(number: u64, at: usize) -> TableRead
-    ensures { λ r. ⌜ RefusedRead number at r ⌝ }
+    ensures { λ r. ⌜ r ≡ refused-table number at ⌝ }
 {
     let none = blank_component();
     let parts = [none; PARTS];
@@ -99,7 +99,7 @@ fn refused_read(number: u64, at: usize) -> TableRead
     }
 }
 
-// End at a position, behind the progress and its rows.
+// End at a position, behind the progress and its rows. Free are the bytes of unused places.
 fn ended_read(at: usize, progress: Progress, rows: [[u32; SPANS]; PARTS]) -> TableRead
     requires { ⌜ progress .count ≤ 32 ⌝ }
     ensures { λ r. ⌜ EndedRead at (reading-of progress rows .table) r ⌝ }
@@ -115,10 +115,10 @@ fn ended_read(at: usize, progress: Progress, rows: [[u32; SPANS]; PARTS]) -> Tab
     }
 }
 
-// The table at the start of a stream, read up to its End or to a refusal.
+// The table at the start of a stream, read up to its End or to a refusal. Free are the bytes of unused places alone, where End was reached.
 pub fn read_table(s: &[u8]) -> TableRead
     ensures { λ r. ⌜ load (now (s .entry)) ≡ concluded r ⌝ }
-    ensures kept { λ r. ⌜ (r .number ≡ 0 → Ended r) ⌝ }
+    ensures stopped { λ r. ⌜ Stopped (now (s .entry)) r ⌝ }
 {
     let mut at: usize = 0;
     let mut progress = nothing_read();

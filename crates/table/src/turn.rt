@@ -20,17 +20,17 @@ ghost use lib.ListN.{length};
 ghost use Rattle.machine.specs.Load.{span-command};
 ghost use Rattle.reading.specs.Progress.{reading-of};
 ghost use Rattle.reading.specs.Spanned.{last-place, row-with, span-count};
-ghost use Rattle.reading.specs.Steps.{step-of, uncut};
+ghost use Rattle.reading.specs.Steps.{SpanLeft, step-of, uncut};
 ghost use Rattle.soundness.specs.Accepted.{Readable};
 ghost use Rattle.table.specs.Turned.{Placed, Turned};
-ghost use Rattle.table.specs.Turning.{Room, Spannable, rows-behind, sized-command};
+ghost use Rattle.table.specs.Turning.{CommandLeft, Room, Spannable, rows-behind, sized-command};
 
 // The Span at a position, behind the progress and its rows.
 fn span_beside(s: &[u8], at: usize, progress: Progress, rows: [[u32; SPANS]; PARTS]) -> SpanStep
     requires { ⌜ (at < length (now s)) × (progress .count ≤ 32) × Spannable progress ⌝ }
     ensures { λ r. ⌜ step-of (row-with rows (last-place progress) (span-count progress) (r .span)) at (r .step) ≡
         uncut (now (s .entry)) at 5 (span-command (now (s .entry)) at (reading-of progress rows)) ⌝ }
-    ensures few { λ r. ⌜ r .step .progress .count ≤ 32 ⌝ }
+    ensures left { λ r. ⌜ SpanLeft at progress r ⌝ }
 {
     let k = progress.count - 1;
     let c = progress.parts[k];
@@ -44,7 +44,7 @@ fn command(s: &[u8], at: usize, progress: Progress, rows: [[u32; SPANS]; PARTS],
     requires { ⌜ (at < length (now s)) × (progress .count ≤ 32) × (0 < b) × (b < 5) × (b ≡ 3 → Spannable progress) ⌝ }
     ensures { λ r. ⌜ step-of (rows-behind b progress rows (r .span)) at (r .step) ≡
         sized-command (now (s .entry)) at (reading-of progress rows) b ⌝ }
-    ensures few { λ r. ⌜ r .step .progress .count ≤ 32 ⌝ }
+    ensures left { λ r. ⌜ CommandLeft at progress b r ⌝ }
 {
     if b == SPAN_BYTE {
         return span_beside(s, at, progress, rows);
@@ -88,8 +88,9 @@ pub(crate) fn rows_behind(
     with_span(rows, k, c.span_count, v)
 }
 
-// What a turn of reading comes to: a refusal's number, 0 meaning none, and its position. Where there is none, the command's byte; and behind any
-// command but End the position and the progress, and the span that goes into the last part's row.
+// What a turn of reading comes to: a refusal's number, 0 meaning none, and its position; the byte at the turn's own position, 0 where there is none;
+// behind any command but End the position and the progress, and the span that goes into the last part's row. A refusal and End move nothing: the
+// progress is the one before, and the span 0.
 pub struct TurnRead {
     pub number: u64,
     pub position: usize,

@@ -26,7 +26,7 @@ read-table-requires c κs = search needs
 finished-requires : tie.Need-finished-requires
 finished-requires c κs =
     let few : length (c .before .before .args .bytes .now) ≤ last-position = omega arith in
-    (c .read-table .ensures .1, position-fits _ (c .read-table .result) (c .read-table .ensures .0) few)
+    (c .read-table .ensures .1 .kept, position-fits _ (c .read-table .result) (c .read-table .ensures .0) few)
 
 returns : tie.Need-returns
 returns c = (c .finished .ensures .0 ∙ sym (c .before .read-table .ensures .0), c .finished .ensures .1)

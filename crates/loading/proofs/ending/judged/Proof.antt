@@ -6,7 +6,7 @@ use lib.ListN.{length, length-map}
 use Rattle.machine.specs.Table.{magnitude-of}
 use Rattle.table.specs.Concluded.{table-read}
 use Rattle.loading.specs.Places.{components, table-in}
-use Rattle.loading.specs.Ending.{magnitude-small, judged-number, judged-order}
+use Rattle.loading.specs.Ending.{magnitude-small, judged-number, judged-order, judged-places}
 use borrow.Author.Needs.{needs}
 use Rattle.loading.proofs.ending.judged.Statement.{statement}
 use Rattle.loading.proofs.ending.judged.Tie as tie
@@ -49,6 +49,7 @@ returns c =
       number = number;
       magnitude = magnitude-found magnitude;
       order = λ none. judged-order read (few start) (place .place .result) (place .place .ensures) (sym number ∙ none);
+      placed = judged-places read (few start) (place .place .result) (place .place .ensures);
     }
 
 pub judged-spec : {M : Type 1} → statement M

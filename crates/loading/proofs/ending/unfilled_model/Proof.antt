@@ -1,9 +1,13 @@
 -- `unfilled_model` puts the first parts and the part order into a model, which is then the definition's.
 use Prim.Native.Nat.{_≤_}
 use native.Mathlib.Omega.{arith}
-use lib.ListN.{length, length-map}
-use Rattle.machine.specs.Model.{trimmed}
+use mathlib.Core.Path.{ap, _∙_}
+use mathlib.Core.List.{List, map}
+use lib.ListN.{length, length-map, take}
+use Rattle.machine.specs.declared.part.Part.{Part}
+use Rattle.machine.specs.Model.{trimmed, trimmed-part}
 use Rattle.loading.specs.Ending.{unfilled-is}
+use Rattle.loading.specs.Places.{first-stored}
 use borrow.Author.Needs.{needs}
 use Rattle.loading.proofs.ending.unfilled_model.Statement.{statement}
 use Rattle.loading.proofs.ending.unfilled_model.Tie as tie
@@ -22,7 +26,8 @@ returns c =
     let acceptable = start .pre in
     let few : read .count ≤ length (read .parts) = omega (arith, acceptable .few, simp length-map at (start .good .0)) in
     let firsts = c .before .before .first-parts in
-    rw (c .start .ensures) (unfilled-is read few (start .args .ending) (firsts .result) acceptable (firsts .ensures))
+    let stored = ap (λ (l : List Part). map trimmed-part (take (read .count) l)) (firsts .ensures) in
+    rw (c .start .ensures) (unfilled-is read few (start .args .ending) (firsts .result) acceptable (stored ∙ first-stored (read .count) (read .parts) few _))
 
 pub unfilled-model-spec : {M : Type 1} → statement M
 unfilled-model-spec = tie.close (tie.spec first-parts-requires start-requires returns)

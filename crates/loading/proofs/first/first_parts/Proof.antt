@@ -2,13 +2,13 @@
 -- components, and the places behind are as they were. The measure is what is left of the count.
 use Prim.Native.Nat.{_-_, _≤_, _<_}
 use native.Mathlib.Omega.{arith}
-use mathlib.Core.Path.{_≡_, refl, ap, ap₂, _∙_}
+use mathlib.Core.Path.{_≡_, refl, ap₂, _∙_}
 use mathlib.Core.List.{List, map, _++_}
 use lib.ListN.{length, set, take, drop}
 use Rattle.machine.specs.declared.part.Part.{Part}
-use Rattle.machine.specs.Model.{blank-component, trimmed-part}
+use Rattle.machine.specs.Model.{blank-component}
 use Rattle.laws.specs.Partway.{mapped-more}
-use Rattle.loading.specs.Places.{first-by, first-stored}
+use Rattle.loading.specs.Places.{first-by, first-places}
 use borrow.Author.Needs.{needs}
 use Rattle.loading.proofs.first.first_parts.Statement.{statement}
 use Rattle.loading.proofs.first.first_parts.Tie as tie
@@ -60,14 +60,13 @@ loop-again c =
     )
 
 returns : tie.Need-returns Inv-loop μ-loop
+unfolding first-places
 returns c =
     let loop = c .before .loop in
     let start = c .before .before .before in
-    let parts = start .args .t1 in
     let count = start .args .count in
-    let few : count ≤ length parts = omega arith in
     let done : loop .i ≡ count = omega arith in
-    ap (λ (l : List Part). map trimmed-part (take count l)) (rw done at (loop .inv .1)) ∙ first-stored count parts few (start .args .magnitude) _
+    rw done at (loop .inv .1) ∙ rw (c .before .before .blank-part .ensures)
 
 pub first-parts-spec : {M : Type 1} → statement M
 first-parts-spec =

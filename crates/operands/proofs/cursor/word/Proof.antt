@@ -3,17 +3,18 @@ use native.Mathlib.Omega.{arith}
 use mathlib.Core.Path.{refl}
 use borrow.Author.Needs.{needs}
 use Rattle.machine.specs.Load.{byte-at, word-at}
+use Rattle.operands.specs.Operands.{cut-read, whole-read}
 use Rattle.operands.proofs.cursor.word.Statement.{statement}
 use Rattle.operands.proofs.cursor.word.Tie as tie
 
 returns : tie.Need-returns
-returns c = search needs
+returns c = record { is = cut-read _ _ 4 _ _ (omega arith) }
 
 sub-if2 : tie.Need-sub-if2
 sub-if2 c = search needs
 
 returns-2 : tie.Need-returns-2
-returns-2 c = search needs
+returns-2 c = record { is = cut-read _ _ 4 _ _ (omega arith) }
 
 shared-slice-read-wide : tie.Need-shared-slice-read-wide
 shared-slice-read-wide c = search needs
@@ -71,7 +72,7 @@ add-t8 c = search needs
 
 returns-3 : tie.Need-returns-3
 unfolding byte-at word-at
-returns-3 c = (record { whole = omega arith; next = refl }, omega arith)
+returns-3 c = record { is = whole-read _ _ 4 _ _ _ _ (record { whole = omega arith; next = refl }) (omega arith) }
 
 pub word-spec : {M : Type 1} → statement M
 word-spec =

@@ -1,12 +1,13 @@
 -- `wire_operands` reads three operands in a row. Each stands where those before it end, by their widths, and the bytes up to there are in the stream. Where one
 -- is cut, the stream ends before the last.
-use Prim.Native.Nat.{ℕ}
+use Prim.Native.Nat.{ℕ, _+_}
 use native.Mathlib.Omega.{arith}
 use mathlib.Core.Path.{_≡_}
 use mathlib.Core.List.{List}
 use borrow.Author.Needs.{needs}
 use Rattle.machine.specs.Load.{byte-at}
-use Rattle.operands.specs.Operands.{Behind, ReadAt, read-behind}
+use Rattle.operands.specs.declared.operands.WireOperands.{WireOperands}
+use Rattle.operands.specs.Operands.{Behind, ReadAt, byte-cases, cut-read, read-behind, whole-read, wire-at}
 use Rattle.operands.proofs.operands.wire_operands.Statement.{statement}
 use Rattle.operands.proofs.operands.wire_operands.Tie as tie
 
@@ -30,17 +31,22 @@ at-receiver c = c .before .before .before .before
 -- each operand is the one so many bytes behind the first, and the cursor stands behind it
 source-read : (c : tie.After-source) →
     Behind (bytes c) (from c) 1 (c .source .given .0 .1 .0) × (c .source .given .0 .0 ≡ byte-at (bytes c) (from c))
-source-read c = rw (c .source .given .1) at (c .before .before .byte .ensures)
+source-read c = rw (c .source .given .1) at (byte-cases (c .before .before .byte .ensures))
 
 receiver-read : (c : tie.After-receiver) →
     let start = at-source c in
     ReadAt byte-at (bytes start) (from start) 1 1 (c .receiver .given .0 .0) (c .receiver .given .0 .1 .0)
-receiver-read c = read-behind byte-at _ _ 1 1 _ _ _ (source-read (at-source c) .0) (rw (c .receiver .given .1) at (c .before .before .byte2 .ensures))
+receiver-read c = read-behind byte-at _ _ 1 1 _ _ _ (source-read (at-source c) .0) (rw (c .receiver .given .1) at (byte-cases (c .before .before .byte2 .ensures)))
 
 port-read : (c : tie.After-port) →
     let start = at-source (at-receiver c) in
     ReadAt byte-at (bytes start) (from start) 2 1 (c .port .given .0 .0) (c .port .given .0 .1 .0)
-port-read c = read-behind byte-at _ _ 2 1 _ _ _ (receiver-read (at-receiver c) .0) (rw (c .port .given .1) at (c .before .before .byte3 .ensures))
+port-read c = read-behind byte-at _ _ 2 1 _ _ _ (receiver-read (at-receiver c) .0) (rw (c .port .given .1) at (byte-cases (c .before .before .byte3 .ensures)))
+
+-- operands that are each the definition's are the definition's
+wire-made : (bs : List ℕ) (at source receiver port : ℕ) → source ≡ byte-at bs at → receiver ≡ byte-at bs (at + 1) → port ≡ byte-at bs (at + 2) →
+    _≡_ {A = WireOperands} (record { source = source; receiver = receiver; port = port }) (wire-at bs at)
+wire-made bs at source receiver port f g h = rw (f, g, h)
 
 byte-requires : tie.Need-byte-requires
 byte-requires c κs = search needs
@@ -53,8 +59,8 @@ enum-told c = search needs
 
 returns : tie.Need-returns
 returns c =
-    let cut = rw (c .enum-told .given .1) at (c .before .before .byte .ensures) in
-    omega arith
+    let cut = rw (c .enum-told .given .1) at (byte-cases (c .before .before .byte .ensures)) in
+    record { is = cut-read _ _ 3 _ _ (omega arith) }
 
 byte-requires-2 : tie.Need-byte-requires-2
 byte-requires-2 c κs = search needs
@@ -68,8 +74,8 @@ enum-told-2 c = search needs
 returns-2 : tie.Need-returns-2
 returns-2 c =
     let before = source-read (c .before .before .before .before) .0 in
-    let cut = rw (c .enum-told2 .given .1) at (c .before .before .byte2 .ensures) in
-    omega arith
+    let cut = rw (c .enum-told2 .given .1) at (byte-cases (c .before .before .byte2 .ensures)) in
+    record { is = cut-read _ _ 3 _ _ (omega arith) }
 
 byte-requires-3 : tie.Need-byte-requires-3
 byte-requires-3 c κs = search needs
@@ -83,21 +89,16 @@ enum-told-3 c = search needs
 returns-3 : tie.Need-returns-3
 returns-3 c =
     let before = receiver-read (c .before .before .before .before) .0 in
-    let cut = rw (c .enum-told3 .given .1) at (c .before .before .byte3 .ensures) in
-    omega arith
+    let cut = rw (c .enum-told3 .given .1) at (byte-cases (c .before .before .byte3 .ensures)) in
+    record { is = cut-read _ _ 3 _ _ (omega arith) }
 
 returns-4 : tie.Need-returns-4
 returns-4 c =
     let port = c .before in
     let receiver = at-receiver port in
-    let source = at-source receiver in (
-      port-read port .0,
-      record {
-        source = source-read source .1;
-        receiver = receiver-read receiver .1;
-        port = port-read port .1;
-      },
-    )
+    let source = at-source receiver in
+    let same = wire-made _ _ _ _ _ (source-read source .1) (receiver-read receiver .1) (port-read port .1) in
+    record { is = whole-read _ _ 3 _ _ _ _ (port-read port .0) same }
 
 pub wire-operands-spec : {M : Type 1} → statement M
 wire-operands-spec =

@@ -1,12 +1,13 @@
 -- `begin` is cut where its operand is; else its step is the definition's.
-use Prim.Native.Nat.{ℕ, _+_, _≤_, _<_}
+use Prim.Native.Nat.{ℕ, _+_, _≤_}
 use native.Mathlib.Omega.{arith}
-use mathlib.Core.Path.{_≡_, _∙_}
+use mathlib.Core.Path.{_≡_, _∙_, refl}
 use mathlib.Core.List.{List}
 use lib.ListN.{length}
-use borrow.Author.Tests.{le-leb, lt-leb}
+use borrow.Author.Tests.{le-leb}
 use Rattle.machine.specs.Load.{byte-at, begin-command, begin-refusal, begun-with, unless-refused}
-use Rattle.reading.specs.Steps.{step-of, uncut}
+use Rattle.operands.specs.Operands.{byte-cases}
+use Rattle.reading.specs.Steps.{cut-as, refused-left, uncut}
 use borrow.Author.Needs.{needs}
 use Rattle.reading.proofs.command.begin.Statement.{statement}
 use Rattle.reading.proofs.command.begin.Tie as tie
@@ -29,14 +30,17 @@ enum-known-e c = search needs
 enum-told : tie.Need-enum-told
 enum-told c = search needs
 
+refused-step-requires : tie.Need-refused-step-requires
+refused-step-requires c κs = search needs
+
 returns : tie.Need-returns
-unfolding step-of uncut
 returns c =
-    let cut = rw (c .enum-told .given .1) at (c .before .before .byte .ensures) in
-    let args = c .before .before .before .before .args in
-    let short : length (args .s .now) < args .at + 2 = omega arith in (
-      λ rows. rw (lt-leb (args .at + 2) (length (args .s .now)) short),
-      omega arith,
+    let told = c .before in
+    let short = rw (told .enum-told .given .1) at (byte-cases (told .before .before .byte .ensures)) in
+    let start = told .before .before .before .before in
+    let refused = c .refused-step in (
+      λ rows. cut-as (refused .result) _ _ _ (refused .ensures) (start .args .s .now) 2 rows _ refl (omega arith),
+      refused-left (refused .result) _ _ _ (refused .ensures) (start .pre .1),
     )
 
 begin-step-requires : tie.Need-begin-step-requires
@@ -46,12 +50,12 @@ returns-2 : tie.Need-returns-2
 returns-2 c =
     let found = c .before .before in
     let args = found .before .before .before .before .args in
-    let got = rw (found .e .given .1) at (found .before .before .byte .ensures) in (
-      λ rows. c .begin-step .ensures .0 rows (args .at) ∙ begin-as (args .s .now) (args .at) _ _ (omega arith) (got .1) (omega arith),
-      omega arith,
+    let got = rw (found .e .given .1) at (byte-cases (found .before .before .byte .ensures)) in (
+      λ rows. c .begin-step .ensures .0 rows ∙ begin-as (args .s .now) (args .at) _ _ (omega arith) (got .1) (omega arith),
+      c .begin-step .ensures .1,
     )
 
 pub begin-spec : {M : Type 1} → statement M
 begin-spec =
     tie.close
-    (tie.spec add-t7 byte-requires enum-known-e enum-told returns begin-step-requires returns-2)
+    (tie.spec add-t7 byte-requires enum-known-e enum-told refused-step-requires returns begin-step-requires returns-2)

@@ -1,12 +1,11 @@
 -- `part_step` is refused as the definition, and else has one part more; a part that is not refused has room.
 use Prim.Native.Nat.{ℕ, _<_}
 use native.Mathlib.Omega.{arith}
-use mathlib.Core.Path.{_≡_, _∙_, sym}
-use borrow.Author.Tests.{ne-eqb}
+use mathlib.Core.Path.{_≡_, _∙_, refl, sym}
 use Rattle.operands.specs.declared.operands.PartOperands.{PartOperands}
 use Rattle.operands.specs.Refusals.{part-number}
 use Rattle.operands.specs.Tests.{room-left}
-use Rattle.reading.specs.Steps.{step-of}
+use Rattle.reading.specs.Steps.{step-of, refused-as, refused-left}
 use borrow.Author.Needs.{needs}
 use Rattle.reading.proofs.command.part_step.Statement.{statement}
 use Rattle.reading.proofs.command.part_step.Tie as tie
@@ -19,12 +18,16 @@ part-room count o none = room-left 32 count _ none
 part-refusal-requires : tie.Need-part-refusal-requires
 part-refusal-requires c κs = search needs
 
+refused-step-requires : tie.Need-refused-step-requires
+refused-step-requires c κs = search needs
+
 returns : tie.Need-returns
-unfolding step-of
-returns c = (
-  λ rows at. rw (← c .before .part-refusal .ensures, ne-eqb _ _ (c .if1 .taken)),
-  omega arith,
-)
+returns c =
+    let found = c .before .before in
+    let refused = c .refused-step in (
+      λ rows. refused-as (refused .result) _ _ _ (refused .ensures) rows _ _ _ (c .before .if1 .taken) (found .part-refusal .ensures),
+      refused-left (refused .result) _ _ _ (refused .ensures) (found .before .pre),
+    )
 
 with-part-requires : tie.Need-with-part-requires
 with-part-requires c κs = part-room _ _ (sym (c .before .part-refusal .ensures) ∙ c .if1 .left)
@@ -33,9 +36,9 @@ returns-2 : tie.Need-returns-2
 unfolding step-of
 returns-2 c =
     let number = c .before .before .part-refusal in (
-      λ rows at. rw (← number .ensures, c .before .if1 .left, c .with-part .ensures .0 rows),
-      omega arith,
+      λ rows. rw (← number .ensures, c .before .if1 .left, c .with-part .ensures .0 rows),
+      record { few = omega arith; refused = λ some. absurd (some refl) },
     )
 
 pub part-step-spec : {M : Type 1} → statement M
-part-step-spec = tie.close (tie.spec part-refusal-requires returns with-part-requires returns-2)
+part-step-spec = tie.close (tie.spec part-refusal-requires refused-step-requires returns with-part-requires returns-2)

@@ -1,56 +1,21 @@
--- `span_step` is refused as the definition, by the last part's count and last span, and else has one span more; a span that is not refused has room.
-use Prim.Native.Nat.{ℕ, _<_, _≤_}
+-- `span_step` is refused by the last part's count and last span, and else has one span more; a span that is not refused has room.
+use Prim.Native.Nat.{ℕ, _<_}
 use native.Mathlib.Omega.{arith}
-use mathlib.Core.Path.{_≡_, _∙_, sym}
-use mathlib.Core.List.{List, []}
-use lib.ListN.{length, getD, length-map, length-take}
-use borrow.Author.Tests.{ne-eqb}
-use Rattle.machine.specs.Table.{component-at}
-use Rattle.machine.specs.Load.{last-span, span-refusal}
-use Rattle.reading.specs.declared.progress.Progress.{Progress}
-use Rattle.reading.specs.Progress.{with-row, reading-of}
+use mathlib.Core.Path.{_≡_, _∙_, refl, sym}
+use mathlib.Core.List.{[]}
+use lib.ListN.{length, getD}
 use Rattle.operands.specs.Refusals.{span-number}
-use Rattle.reading.specs.Rows.{reading-at}
-use Rattle.reading.specs.Spanned.{last-of, last-place, span-count, Beside}
-use Rattle.reading.specs.Steps.{step-of}
-use Rattle.operands.specs.Tests.{at-least-min, room-left}
+use Rattle.reading.specs.Spanned.{last-place, span-count}
+use Rattle.reading.specs.Steps.{step-of, refused-as, refused-left}
+use Rattle.operands.specs.Tests.{room-left}
 use borrow.Author.Needs.{needs}
 use Rattle.reading.proofs.command.span_step.Statement.{statement}
 use Rattle.reading.proofs.command.span_step.Tie as tie
-
--- the refusal of a Span is the one by the last part's count and last span
-refusal-as : (progress : Progress) (rows : List (List ℕ)) (last v : ℕ) → 0 < progress .count → progress .count ≤ length (progress .parts) →
-    Beside progress rows last →
-    span-refusal (component-at (reading-of progress rows .table .parts) (last-place progress)) v ≡ span-number (span-count progress) last v
-unfolding with-row span-refusal span-number last-span last-of
-refusal-as progress rows last v some few beside =
-    let k = last-place progress in
-    let here : k < progress .count = omega arith in
-    rw (
-      reading-at progress rows k here few,
-      beside .final,
-      length-take (span-count progress) (getD rows k []),
-      beside .eight,
-      at-least-min 8 (span-count progress),
-    )
 
 -- a span that is not refused has room
 span-room : (count last v : ℕ) → span-number count last v ≡ 0 → count < 8
 unfolding span-number
 span-room count last v none = room-left 8 count _ none
-
--- there are places for as many parts as the progress counts
-few : (c : tie.Start) → c .args .t1 .count ≤ length (c .args .t1 .parts)
-few c = let many : length (c .args .t1 .parts) ≡ 32 = omega (arith, simp length-map at (c .good .0)) in omega arith
-
--- the refusal that was found is the definition's
-number-as : (c : tie.After-span-refusal) (rows : List (List ℕ)) →
-    let args = c .before .before .args in
-    Beside (args .t1) rows (args .last) →
-    span-refusal (component-at (reading-of (args .t1) rows .table .parts) (last-place (args .t1))) (args .v) ≡ c .span-refusal .result
-number-as c rows beside =
-    let start = c .before .before in
-    refusal-as (start .args .t1) rows (start .args .last) (start .args .v) (start .pre .0) (few start) beside ∙ sym (c .span-refusal .ensures)
 
 sub-k : tie.Need-sub-k
 sub-k c = search needs
@@ -64,12 +29,16 @@ element-copy-out-c c = search needs
 span-refusal-requires : tie.Need-span-refusal-requires
 span-refusal-requires c κs = search needs
 
+refused-step-requires : tie.Need-refused-step-requires
+refused-step-requires c κs = search needs
+
 returns : tie.Need-returns
-unfolding step-of
-returns c = (
-  λ rows at beside. rw (number-as (c .before) rows beside, ne-eqb _ _ (c .if1 .taken)),
-  omega arith,
-)
+returns c =
+    let found = c .before .before in
+    let refused = c .refused-step in (
+      λ rows row. refused-as (refused .result) _ _ _ (refused .ensures) _ _ _ _ (c .before .if1 .taken) (found .span-refusal .ensures),
+      refused-left (refused .result) _ _ _ (refused .ensures) (found .before .before .pre .1),
+    )
 
 with-span-counted-requires : tie.Need-with-span-counted-requires
 with-span-counted-requires c κs =
@@ -84,14 +53,10 @@ returns-2 c =
     let progress = start .args .t1 in
     let number = c .before .before .span-refusal in
     let room = span-room (span-count progress) (start .args .last) (start .args .v) (sym (number .ensures) ∙ c .before .if1 .left) in (
-      λ rows at beside.
-          let inside : span-count progress < length (getD rows (last-place progress) []) = rw (beside .eight) room in
-          rw (
-            number-as (c .before .before) rows beside,
-            c .before .if1 .left,
-            c .with-span-counted .ensures .0 rows (start .args .v) (beside .there) inside,
-          ),
-      omega arith,
+      λ rows row.
+          let inside : span-count progress < length (getD rows (last-place progress) []) = rw (row .eight) room in
+          rw (← number .ensures, c .before .if1 .left, c .with-span-counted .ensures .0 rows (start .args .v) (row .there) inside),
+      record { few = omega arith; refused = λ some. absurd (some refl) },
     )
 
 pub span-step-spec : {M : Type 1} → statement M
@@ -102,6 +67,7 @@ span-step-spec =
     mul-c
     element-copy-out-c
     span-refusal-requires
+    refused-step-requires
     returns
     with-span-counted-requires
     returns-2)

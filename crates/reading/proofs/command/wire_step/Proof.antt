@@ -1,14 +1,13 @@
 -- `wire_step` is refused as the definition, and else has a port wired; a receiver that is not refused is a part that was read.
 use Prim.Native.Nat.{_≤_}
 use native.Mathlib.Omega.{arith}
-use mathlib.Core.Path.{_≡_, _∙_, sym}
+use mathlib.Core.Path.{_≡_, _∙_, refl, sym}
 use mathlib.Core.List.{[]}
 use lib.ListN.{length, length-map}
-use borrow.Author.Tests.{ne-eqb}
 use Rattle.soundness.specs.Passed.{wire-passed}
 use Rattle.reading.specs.Progress.{reading-of}
 use Rattle.reading.specs.Rows.{length-reading}
-use Rattle.reading.specs.Steps.{step-of}
+use Rattle.reading.specs.Steps.{step-of, refused-as, refused-left}
 use borrow.Author.Needs.{needs}
 use Rattle.reading.proofs.command.wire_step.Statement.{statement}
 use Rattle.reading.proofs.command.wire_step.Tie as tie
@@ -16,12 +15,16 @@ use Rattle.reading.proofs.command.wire_step.Tie as tie
 wire-refusal-requires : tie.Need-wire-refusal-requires
 wire-refusal-requires c κs = search needs
 
+refused-step-requires : tie.Need-refused-step-requires
+refused-step-requires c κs = search needs
+
 returns : tie.Need-returns
-unfolding step-of
-returns c = (
-  λ rows at. rw (← c .before .wire-refusal .ensures rows, ne-eqb _ _ (c .if1 .taken)),
-  omega arith,
-)
+returns c =
+    let found = c .before .before in
+    let refused = c .refused-step in (
+      λ rows. refused-as (refused .result) _ _ _ (refused .ensures) rows _ _ _ (c .before .if1 .taken) (found .wire-refusal .ensures rows),
+      refused-left (refused .result) _ _ _ (refused .ensures) (found .before .pre),
+    )
 
 cast-with-wire : tie.Need-cast-with-wire
 cast-with-wire c = search needs
@@ -41,10 +44,10 @@ returns-2 : tie.Need-returns-2
 unfolding step-of
 returns-2 c =
     let number = c .before .before .before .wire-refusal in (
-      λ rows at. rw (← number .ensures rows, c .before .before .if1 .left, c .with-wire .ensures .0 rows),
-      omega arith,
+      λ rows. rw (← number .ensures rows, c .before .before .if1 .left, c .with-wire .ensures .0 rows),
+      record { few = omega arith; refused = λ some. absurd (some refl) },
     )
 
 pub wire-step-spec : {M : Type 1} → statement M
 wire-step-spec =
-    tie.close (tie.spec wire-refusal-requires returns cast-with-wire with-wire-requires returns-2)
+    tie.close (tie.spec wire-refusal-requires refused-step-requires returns cast-with-wire with-wire-requires returns-2)

@@ -12,7 +12,7 @@ use Rattle.machine.specs.declared.model.Score.the-variants.{Wanted, Refused}
 use Rattle.machine.specs.Load.{known-command, command-width, byte-at, word-at}
 use Rattle.machine.specs.Score.{score-command, score-at}
 use Rattle.operands.specs.declared.cursor.Cursor.{Cursor}
-use Rattle.operands.specs.Operands.{Behind, ReadAt, read-behind}
+use Rattle.operands.specs.Operands.{Behind, ReadAt, byte-cases, cut-number, cut-scores, read-behind, word-cases}
 use Rattle.score.proofs.command.score_at.Statement.{statement}
 use Rattle.score.proofs.command.score_at.Tie as tie
 
@@ -34,10 +34,10 @@ module _ (bs : List ℕ) (at b : ℕ) (behind : Cursor) (read : Behind bs at 1 b
       let other : b ≡ 6 → ⊥ = λ e. omega arith in
       rw (lt-ltb at (length bs) inside, ← read .1, le-leb 1 b low, le-leb b 6 below, ne-eqb b 6 other)
 
-  -- a wanted step that the stream's end cuts, and one that is whole
-  cut : b ≡ 6 → length bs < at + 5 → Refused 1 at ≡ score-at bs at
-  unfolding score-at score-command known-command command-width
-  cut six short = rw (lt-ltb at (length bs) inside, ← read .1, six, lt-leb (at + 5) (length bs) short)
+  -- a wanted step that the stream's end cuts, which has the number of what is cut, and one that is whole
+  cut : b ≡ 6 → length bs < at + 5 → Refused cut-number at ≡ score-at bs at
+  unfolding score-at command-width
+  cut six short = rw (lt-ltb at (length bs) inside, ← read .1, six, cut-scores bs at short)
 
   whole : (v : ℕ) (next : Cursor) → b ≡ 6 → ReadAt word-at bs at 1 4 v next → Wanted v (next .at) ≡ score-at bs at
   unfolding score-at score-command known-command command-width
@@ -51,7 +51,7 @@ start-of found = found .before .before .before .before
 byte-read : (found : tie.After-b) →
     let args = start-of found .args in
     Behind (args .s .now) (args .at) 1 (found .b .given .0 .1 .0) × (found .b .given .0 .0 ≡ byte-at (args .s .now) (args .at))
-byte-read found = rw (found .b .given .1) at (found .before .before .byte .ensures)
+byte-read found = rw (found .b .given .1) at (byte-cases (found .before .before .byte .ensures))
 
 byte-requires : tie.Need-byte-requires
 byte-requires c κs = search needs
@@ -65,7 +65,7 @@ enum-told c = search needs
 returns : tie.Need-returns
 unfolding score-at
 returns c =
-    let none = rw (c .enum-told .given .1) at (c .before .before .byte .ensures) in
+    let none = rw (c .enum-told .given .1) at (byte-cases (c .before .before .byte .ensures)) in
     let args = c .before .before .before .before .args in
     let past : length (args .s .now) ≤ args .at = omega arith in
     rw (le-ltb _ _ past)
@@ -84,7 +84,7 @@ returns-2 c =
     let command = c .before .before .before in
     let found = command .before .before in
     let behind = byte-read found .0 in
-    let short = rw (c .enum-told2 .given .1) at (c .before .before .word .ensures) in
+    let short = rw (c .enum-told2 .given .1) at (word-cases (c .before .before .word .ensures)) in
     cut _ _ _ _ (byte-read found) (command .match2 .keys1) (omega arith)
 
 cast-t11 : tie.Need-cast-t11
@@ -95,7 +95,7 @@ returns-3 c =
     let operand = c .before in
     let command = operand .before .before .before in
     let found = command .before .before in
-    let word = rw (operand .wanted .given .1) at (operand .before .before .word .ensures) in
+    let word = rw (operand .wanted .given .1) at (word-cases (operand .before .before .word .ensures)) in
     whole _ _ _ _ (byte-read found) _ _ (command .match2 .keys1) (read-behind word-at _ _ 1 4 _ _ _ (byte-read found .0) word)
 
 returns-4 : tie.Need-returns-4

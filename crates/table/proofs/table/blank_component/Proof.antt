@@ -1,11 +1,11 @@
--- `blank_component` is the definition, with places for spans.
+-- `blank_component` is the definition.
 use mathlib.Core.Path.{refl}
-use Rattle.machine.specs.Model.{trimmed-component}
+use Rattle.table.specs.Concluded.{empty-component}
 use Rattle.table.proofs.table.blank_component.Statement.{statement}
 use Rattle.table.proofs.table.blank_component.Tie as tie
 
 returns : tie.Need-returns
-unfolding trimmed-component
+unfolding empty-component
 returns c = refl
 
 pub blank-component-spec : {M : Type 1} → statement M

@@ -2,7 +2,7 @@
 -- reading keeps readable. The measure is how many bytes are left: each turn that goes on raises the position.
 use Prim.Native.Nat.{ℕ, _-_, _≤_, _<_}
 use native.Mathlib.Omega.{arith}
-use mathlib.Core.Path.{_≡_, _∙_, sym}
+use mathlib.Core.Path.{_≡_, _∙_, ap, sym}
 use mathlib.Core.List.{List}
 use lib.ListN.{length}
 use borrow.Author.Needs.{needs}
@@ -10,8 +10,8 @@ use Rattle.machine.specs.Load.{load, refused}
 use Rattle.reading.specs.declared.progress.Progress.{Progress}
 use Rattle.reading.specs.Progress.{reading-of}
 use Rattle.table.specs.declared.turn.TurnRead.{TurnRead}
-use Rattle.table.specs.Concluded.{end-loaded, ended-concluded, refused-concluded}
-use Rattle.table.specs.Ending.{kept-ended}
+use Rattle.table.specs.Concluded.{EndHere, end-loaded, ended-concluded, refused-concluded}
+use Rattle.table.specs.Ending.{stopped-ended, stopped-refused}
 use Rattle.table.specs.Judged.{turn-ended, turn-onward, turn-refused}
 use Rattle.table.specs.Stands.{Stands, stands-ended, stands-first, stands-on}
 use Rattle.table.specs.Turning.{rows-behind}
@@ -56,6 +56,10 @@ module _ (c : tie.After-turn-at Inv-loop μ-loop) where
   refused-loads some =
       stands-ended bytes at (reading-of progress rows) _ (c .before .loop .inv .1) (c .turn-at .ensures .is ∙ turn-refused at progress rows found some)
 
+  -- and is not End's
+  no-end : (found .number ≡ 0 → ⊥) → EndHere bytes at (reading-of progress rows) → ⊥
+  no-end some here = some (ap (λ (r : TurnRead). r .number) (c .turn-at .ensures .end here))
+
   -- a turn that is End's is judged
   ended-loads : found .number ≡ 0 → found .byte ≡ 5 → load bytes ≡ end-loaded at (reading-of progress rows .table)
   ended-loads none end =
@@ -91,7 +95,7 @@ returns c =
     let some = c .before .if1 .taken in
     let read = c .refused-read .ensures in (
       refused-loads turn some ∙ sym (refused-concluded _ _ (c .refused-read .result) some read),
-      λ none. absurd (some (sym (read .number) ∙ none)),
+      stopped-refused _ _ _ _ _ _ (turn .before .loop .inv .1) (no-end turn some) some read,
     )
 
 ended-read-requires : tie.Need-ended-read-requires Inv-loop μ-loop
@@ -103,7 +107,7 @@ returns-2 c =
     let turn = turn-of known in
     let read = c .ended-read .ensures in (
       ended-loads turn (none-of known) (c .before .if2 .taken) ∙ sym (ended-concluded (at turn) _ (c .ended-read .result) read),
-      λ zero. kept-ended (at turn) (reading-of (progress turn) (rows turn)) (c .ended-read .result) (turn .before .loop .inv .1 .kept) read,
+      stopped-ended _ _ _ _ (turn .before .loop .inv .1) (turn .turn-at .ensures .end-here (none-of known) (c .before .if2 .taken)) read,
     )
 
 rows-behind-requires : tie.Need-rows-behind-requires Inv-loop μ-loop

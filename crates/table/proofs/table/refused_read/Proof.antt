@@ -1,5 +1,5 @@
--- `refused_read` has the number and the position given.
-use mathlib.Core.Path.{refl}
+-- `refused_read` is the definition: each place holds a component with all of it 0.
+use Rattle.table.specs.Concluded.{refused-table}
 use borrow.Author.Needs.{needs}
 use Rattle.table.proofs.table.refused_read.Statement.{statement}
 use Rattle.table.proofs.table.refused_read.Tie as tie
@@ -8,7 +8,8 @@ blank-component-requires : tie.Need-blank-component-requires
 blank-component-requires c κs = search needs
 
 returns : tie.Need-returns
-returns c = record { number = refl; position = refl }
+unfolding refused-table
+returns c = rw (c .blank-component .ensures)
 
 pub refused-read-spec : {M : Type 1} → statement M
 refused-read-spec = tie.close (tie.spec blank-component-requires returns)

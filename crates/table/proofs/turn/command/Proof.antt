@@ -1,14 +1,14 @@
 -- `command` is the definition, by the command byte: each command is the definition's at its byte and width.
 use Prim.Native.Nat.{ℕ}
 use native.Mathlib.Omega.{arith}
-use mathlib.Core.Path.{_≡_}
+use mathlib.Core.Path.{_≡_, refl}
 use mathlib.Core.List.{List}
 use Rattle.machine.specs.Load.{begin-command, command-width, part-command, span-command, whole-command, wire-command}
 use Rattle.reading.specs.declared.command.Step.{Step}
 use Rattle.reading.specs.declared.progress.Progress.{Progress}
 use Rattle.reading.specs.Progress.{reading-of}
 use Rattle.reading.specs.Spanned.{last-place, row-with, span-count}
-use Rattle.reading.specs.Steps.{step-of, uncut}
+use Rattle.reading.specs.Steps.{span-refused-left, step-of, uncut}
 use Rattle.table.specs.Turning.{rows-behind, sized-command}
 use borrow.Author.Needs.{needs}
 use Rattle.table.proofs.turn.command.Statement.{statement}
@@ -41,19 +41,28 @@ span-beside-requires : tie.Need-span-beside-requires
 span-beside-requires c κs = (omega arith, omega arith, c .before .before .pre .4 (c .if1 .taken))
 
 returns : tie.Need-returns
-returns c = (span-as _ _ _ _ _ _ _ (c .before .if1 .taken) (c .span-beside .ensures .0), omega arith)
+returns c = (
+  span-as _ _ _ _ _ _ _ (c .before .if1 .taken) (c .span-beside .ensures .0),
+  record { left = c .span-beside .ensures .1; span = λ other. absurd (other (c .before .if1 .taken)) },
+)
 
 begin-requires : tie.Need-begin-requires
 begin-requires c κs = search needs
 
 returns-2 : tie.Need-returns-2
-returns-2 c = (begin-as _ _ _ _ _ _ _ (c .before .if2 .taken) (c .begin .ensures .0 _), omega arith)
+returns-2 c = (
+  begin-as _ _ _ _ _ _ _ (c .before .if2 .taken) (c .begin .ensures .0 _),
+  record { left = span-refused-left (c .begin .result) _ _ (c .begin .ensures .1); span = λ other. refl },
+)
 
 part-requires : tie.Need-part-requires
 part-requires c κs = search needs
 
 returns-3 : tie.Need-returns-3
-returns-3 c = (part-as _ _ _ _ _ _ _ (c .before .if3 .taken) (c .part .ensures .0 _), omega arith)
+returns-3 c = (
+  part-as _ _ _ _ _ _ _ (c .before .if3 .taken) (c .part .ensures .0 _),
+  record { left = span-refused-left (c .part .result) _ _ (c .part .ensures .1); span = λ other. refl },
+)
 
 wire-requires : tie.Need-wire-requires
 wire-requires c κs = search needs
@@ -61,8 +70,10 @@ wire-requires c κs = search needs
 returns-4 : tie.Need-returns-4
 returns-4 c =
     let start = c .before .before .before .before .before in
-    let last : start .args .b ≡ 4 = omega arith in
-    (wire-as _ _ _ _ _ _ _ last (c .wire .ensures .0 _), omega arith)
+    let last : start .args .b ≡ 4 = omega arith in (
+      wire-as _ _ _ _ _ _ _ last (c .wire .ensures .0 _),
+      record { left = span-refused-left (c .wire .result) _ _ (c .wire .ensures .1); span = λ other. refl },
+    )
 
 pub command-spec : {M : Type 1} → statement M
 command-spec =

@@ -40,6 +40,9 @@ returns c =
           sym (turn-ended (args .at) (args .progress) (args .rows) _ refl (c .if1 .taken));
       byte = refl;
       few = start .pre .1;
+      refused = λ some. absurd (some refl);
+      end = λ five. refl;
+      span = λ other. refl;
     }
 
 command-requires : tie.Need-command-requires
@@ -51,14 +54,28 @@ returns-2 : tie.Need-returns-2
 returns-2 c =
     let read = c .before .before .before in
     let start = read .before .before .before in
-    record { is = refused-as _ _ _ _ _ _ _ _ _ (read .command .ensures .0) (c .if2 .taken); byte = refl; few = start .pre .1 }
+    record {
+      is = refused-as _ _ _ _ _ _ _ _ _ (read .command .ensures .0) (c .if2 .taken);
+      byte = refl;
+      few = start .pre .1;
+      refused = λ some. refl;
+      end = λ five. absurd (read .before .if1 .left five);
+      span = λ other. refl;
+    }
 
 returns-3 : tie.Need-returns-3
 returns-3 c =
     let read = c .before .before .before .before in
     let found = read .command in
     let other = read .before .if1 .left in
-    record { is = onward-as _ _ _ _ _ _ _ (found .ensures .0) (c .before .if2 .left) other; byte = refl; few = found .ensures .1 }
+    record {
+      is = onward-as _ _ _ _ _ _ _ (found .ensures .0) (c .before .if2 .left) other;
+      byte = refl;
+      few = found .ensures .1 .left .few;
+      refused = λ some. absurd (some refl);
+      end = λ five. absurd (other five);
+      span = found .ensures .1 .span;
+    }
 
 pub placed-spec : {M : Type 1} → statement M
 placed-spec = tie.close (tie.spec returns command-requires returns-2 returns-3)

@@ -1,5 +1,11 @@
--- `span_beside` is `span` with the last span of the last part's row, which stands beside the progress.
+-- `span_beside` is `span` with the last span of the last part's row, which stands beside the progress, so that it is document 01's.
+use Prim.Native.Nat.{_≤_}
 use native.Mathlib.Omega.{arith}
+use mathlib.Core.Path.{_≡_, _∙_, ap}
+use lib.ListN.{length, length-map}
+use Rattle.reading.specs.Beside.{span-beside-as}
+use Rattle.reading.specs.Spanned.{RowThere}
+use Rattle.reading.specs.Steps.{uncut}
 use borrow.Author.Needs.{needs}
 use Rattle.table.proofs.turn.span_beside.Statement.{statement}
 use Rattle.table.proofs.turn.span_beside.Tie as tie
@@ -28,7 +34,13 @@ span-requires c κs = search needs
 returns : tie.Need-returns
 returns c =
     let last = c .before .last-span .ensures in
-    (c .span .ensures .0 _ (record { there = omega arith; eight = last .eight; final = last .is }), omega arith)
+    let start = c .before .before .before .before .before in
+    let args = start .args in
+    let row : RowThere (args .t3) (args .t4) = record { there = omega arith; eight = last .eight } in
+    let many : length (args .t3 .parts) ≡ 32 = omega (arith, simp length-map at (start .good .1 .1 .0)) in
+    let few : args .t3 .count ≤ length (args .t3 .parts) = omega arith in
+    let same = span-beside-as (args .t3) (args .t4) _ (start .pre .2 .some) few (record { row = row; final = last .is }) (args .s .now) (args .at) in
+    (c .span .ensures .0 _ row ∙ ap (uncut (args .s .now) (args .at) 5) same, c .span .ensures .1)
 
 pub span-beside-spec : {M : Type 1} → statement M
 span-beside-spec =

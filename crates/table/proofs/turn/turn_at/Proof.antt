@@ -1,13 +1,16 @@
 -- `turn_at` is the definition: past the stream's end it is cut; a command that is unknown or out of place is refused; any other is `placed`'s.
-use Prim.Native.Nat.{_≤_}
+use Prim.Native.Nat.{ℕ, _≤_}
 use native.Mathlib.Omega.{arith}
-use mathlib.Core.Path.{_≡_, _∙_, refl, sym}
-use lib.ListN.{length, length-map}
+use mathlib.Core.Path.{_≡_, _∙_, ap, refl, sym}
+use mathlib.Core.List.{List}
+use lib.ListN.{length, length-map, List·getD-eq-default}
 use borrow.Author.Needs.{needs}
 use Rattle.machine.specs.Load.{byte-at}
+use Rattle.reading.specs.Progress.{reading-of}
 use Rattle.table.specs.Stands.{turn-cut}
 use Rattle.table.specs.Kept.{span-asked}
-use Rattle.table.specs.Judged.{command-byte, judged-placed, judged-refused, placed-room, turn-refused}
+use Rattle.table.specs.Judged.{command-byte, end-begun, end-in-place, judged-placed, judged-refused, placed-room, turn-refused}
+use Rattle.table.specs.Turned.{still-turn}
 use Rattle.table.proofs.turn.turn_at.Statement.{statement}
 use Rattle.table.proofs.turn.turn_at.Tie as tie
 
@@ -22,6 +25,11 @@ test-of refuses = refuses .before .before
 few : (c : tie.Start) → c .args .progress .count ≤ length (c .args .progress .parts)
 few c = let many : length (c .args .progress .parts) ≡ 32 = omega (arith, simp length-map at (c .good .1 .1 .0)) in omega arith
 
+-- past the stream's end there is no byte
+past : (bs : List ℕ) (at : ℕ) → length bs ≤ at → 0 ≡ byte-at bs at
+unfolding byte-at
+past bs at end = sym (List·getD-eq-default bs 0 end)
+
 returns : tie.Need-returns
 returns c =
     let start = c .before .before in
@@ -31,6 +39,11 @@ returns c =
       here = λ none. absurd (omega arith);
       room = λ none byte. absurd (omega arith);
       few = start .pre .0;
+      byte = past (args .s .now) (args .at) (c .if1 .taken);
+      refused = λ some. rw (← past (args .s .now) (args .at) (c .if1 .taken));
+      end = λ e. absurd (omega (arith, e .here));
+      end-here = λ none byte. absurd (omega arith);
+      span = λ other. refl;
     }
 
 shared-slice-read-b : tie.Need-shared-slice-read-b
@@ -40,7 +53,7 @@ command-refusal-requires : tie.Need-command-refusal-requires
 command-refusal-requires c κs = search needs
 
 returns-2 : tie.Need-returns-2
-unfolding byte-at
+unfolding byte-at reading-of
 returns-2 c =
     let refuses = c .before in
     let start = start-of refuses in
@@ -54,6 +67,11 @@ returns-2 c =
       here = λ none. here;
       room = λ none byte. absurd (some none);
       few = start .pre .0;
+      byte = refl;
+      refused = λ zero. refl;
+      end-here = λ none byte. absurd (some none);
+      end = λ e. absurd (some (refuses .command-refusal .ensures ∙ end-in-place _ _ _ (e .byte) (e .begun)));
+      span = λ other. refl;
     }
 
 placed-requires : tie.Need-placed-requires
@@ -66,7 +84,7 @@ placed-requires c κs =
     (test-of refuses .if1 .left, start .pre .0, some, most, span-asked (args .progress) (args .rows) _ (few start) (start .pre .1) none)
 
 returns-3 : tie.Need-returns-3
-unfolding byte-at
+unfolding byte-at reading-of
 returns-3 c =
     let refuses = c .before .before in
     let start = start-of refuses in
@@ -81,6 +99,13 @@ returns-3 c =
           placed-room _ (args .at) (args .progress) (args .rows) _ (c .placed .result) (few start) (start .pre .1)
           (span-asked (args .progress) (args .rows) _ (few start) (start .pre .1) none) found;
       few = found .few;
+      byte = found .byte;
+      refused = found .refused;
+      end = λ e. found .end (e .byte) ∙ ap (λ (b : ℕ). still-turn 0 (args .at) b (args .progress)) (e .byte);
+      end-here = λ zero five.
+          let byte = sym (found .byte) ∙ five in
+          record { here = here; byte = byte; begun = end-begun _ _ _ byte none };
+      span = λ other. found .span (λ e. other (found .byte ∙ e));
     }
 
 pub turn-at-spec : {M : Type 1} → statement M
