@@ -3,4 +3,4 @@ pub mod Spans
 pub mod Longest
 pub mod Ends
 pub mod Rounds
-pub mod SoundParts
+pub mod FitParts

@@ -20,7 +20,7 @@ use Rattle.machine.specs.Kind.{period}
 use Rattle.machine.specs.Step.{gain-of}
 use Rattle.machine.specs.Accept.{Class, waiting, delaying, detecting, driving, free, class-of, due, next-multiple, AcceptsAs, Accepts, allowed, largest-below, last-adding, longest-as, longest}
 use Rattle.laws.specs.Bools.{or-cases, or-left, or-right}
-use Rattle.laws.specs.Lists.{member-in, in-member}
+use Rattle.laws.specs.ListLaws.{member-in, in-member}
 use Rattle.laws.specs.Numbers.{div-grows}
 use Rattle.acceptance.specs.Spans.{added, last-adding-adds, last-adding-most, last-adding-within, largest-below-is}
 

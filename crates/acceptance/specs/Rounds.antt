@@ -15,7 +15,7 @@ use Rattle.machine.specs.Model.{blank-part, part-at, reading0}
 use Rattle.machine.specs.Accept.{longest}
 use Rattle.machine.specs.Advance.{least, round}
 use Rattle.machine.specs.WholeList.{AllAccept}
-use Rattle.laws.specs.Lists.{flatMap-few}
+use Rattle.laws.specs.ListLaws.{flatMap-few}
 use Rattle.laws.specs.Numbers.{min-one}
 use Rattle.laws.specs.Below.{below, below-few, below-mono, below-drops}
 use Rattle.acceptance.specs.Longest.{Fit, longest-within, longest-accepted, longest-most}

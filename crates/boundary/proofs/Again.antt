@@ -8,7 +8,7 @@ use Rattle.machine.specs.declared.model.Answer.{Answer}
 use Rattle.codec.specs.Encoded.{loaded-words, answer-words, loaded-bytes, answer-bytes}
 use Rattle.codec.specs.Decoded.{model-of}
 use Rattle.codec.specs.Sized.{Sized}
-use Rattle.encoding.specs.Written.{WrittenInto, whole}
+use Rattle.encoding.specs.WrittenInto.{WrittenInto, whole}
 use Rattle.codec.specs.RoundTrip.{model-taken}
 
 -- of a load's answer, behind its two words

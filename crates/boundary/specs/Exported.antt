@@ -10,7 +10,7 @@ use Rattle.machine.specs.Load.{load}
 use Rattle.machine.specs.Calls.{Advanced}
 use Rattle.codec.specs.Encoded.{loaded-bytes, answer-bytes}
 use Rattle.codec.specs.Decoded.{model-of}
-use Rattle.encoding.specs.Written.{WrittenInto}
+use Rattle.encoding.specs.WrittenInto.{WrittenInto}
 use Rattle.loading.specs.Blank.{blank-model}
 
 -- A stream, the buffer before and after a load, and the call's number: there is an answer that loading the stream gives, with all of the model 0

@@ -20,8 +20,8 @@ use Rattle.machine.specs.Kind.{kind-of}
 use Rattle.codec.specs.Words.{table, word-in, word-signed}
 
 -- a port, by its word
-unfoldable pub source-of : ℕ → Source
-source-of w = cond (eqb w 0) Unwired (From ((w - 1) % 65536))
+unfoldable pub source-coded : ℕ → Source
+source-coded w = cond (eqb w 0) Unwired (From ((w - 1) % 65536))
 
 -- a side, and a mark, by its word
 unfoldable pub side-coded : ℕ → Side
@@ -43,8 +43,8 @@ unfoldable pub spans-of : List ℕ → ℕ → List ℕ
 spans-of bs k = table (λ i. word-in bs (k + i) % 4294967296) 8
 
 -- a component, a state and a part, from the word k on
-unfoldable pub component-of : List ℕ → ℕ → Component
-component-of bs k =
+unfoldable pub component-coded : List ℕ → ℕ → Component
+component-coded bs k =
     record {
       kind = kind-of (word-in bs k);
       preference = word-in bs (k + 1) % 256;
@@ -53,8 +53,8 @@ component-of bs k =
       p = word-in bs (k + 4) % 4294967296;
       «span_count» = word-in bs (k + 5);
       spans = spans-of bs (k + 6);
-      port0 = source-of (word-in bs (k + 14));
-      port1 = source-of (word-in bs (k + 15));
+      port0 = source-coded (word-in bs (k + 14));
+      port1 = source-coded (word-in bs (k + 15));
     }
 
 unfoldable pub state-of : List ℕ → ℕ → State
@@ -69,7 +69,7 @@ state-of bs k =
     }
 
 unfoldable pub part-of : List ℕ → ℕ → Part
-part-of bs k = record { component = component-of bs k; ratio = word-in bs (k + 16); state = state-of bs (k + 17) }
+part-of bs k = record { component = component-coded bs k; ratio = word-in bs (k + 16); state = state-of bs (k + 17) }
 
 -- the part order, and the parts
 unfoldable pub order-of : List ℕ → List ℕ

@@ -21,7 +21,7 @@ use Rattle.machine.specs.Kind.{kind-number, kind-of}
 use Rattle.machine.specs.Load.{byte-at, word-at}
 use Rattle.codec.specs.Words.{four-bytes, word-bytes, bytes-of, word-in, signed-word, word-signed}
 use Rattle.codec.specs.Encoded.{source-code, side-code, mark-code, signal-code, signal-value}
-use Rattle.codec.specs.Decoded.{source-of, side-coded, mark-coded, signal-of}
+use Rattle.codec.specs.Decoded.{source-coded, side-coded, mark-coded, signal-of}
 use Rattle.codec.specs.Sized.{FitsSigned, FitsSource, FitsSignal}
 
 -- a number in a word
@@ -109,23 +109,23 @@ pub signed-back : (z : ℤ) → FitsSigned z → word-signed (in-word (signed-wo
 signed-back z h = rw (signed-fits z h) (signed-same z h)
 
 -- kinds, ports, sides, marks and signals
-pub kind-back : (k : Kind) → kind-of (in-word (kind-number k)) ≡ k
+pub kind-read-back : (k : Kind) → kind-of (in-word (kind-number k)) ≡ k
 unfolding kind-of
-kind-back Constant = refl
-kind-back Gain = refl
-kind-back Adder = refl
-kind-back Square = refl
-kind-back Pulse = refl
-kind-back Delay = refl
-kind-back Integrator = refl
-kind-back ResetIntegrator = refl
-kind-back Detector = refl
-kind-back Hold = refl
-kind-back Sampler = refl
-kind-back Drive = refl
+kind-read-back Constant = refl
+kind-read-back Gain = refl
+kind-read-back Adder = refl
+kind-read-back Square = refl
+kind-read-back Pulse = refl
+kind-read-back Delay = refl
+kind-read-back Integrator = refl
+kind-read-back ResetIntegrator = refl
+kind-read-back Detector = refl
+kind-read-back Hold = refl
+kind-read-back Sampler = refl
+kind-read-back Drive = refl
 
-pub source-back : (s : Source) → FitsSource s → source-of (in-word (source-code s)) ≡ s
-unfolding source-of
+pub source-back : (s : Source) → FitsSource s → source-coded (in-word (source-code s)) ≡ s
+unfolding source-coded
 source-back Unwired h = refl
 source-back (From k) h =
     let some : in-word (k + 1) ≡ k + 1 = omega arith in

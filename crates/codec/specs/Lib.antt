@@ -3,10 +3,10 @@
 pub mod Words
 pub mod Encoded
 pub mod Decoded
-pub mod Put
+pub mod WordsPut
 pub mod Tables
 pub mod Widths
-pub mod Pieces
+pub mod WordPieces
 pub mod Sized
 pub mod Fields
 pub mod RoundTrip

@@ -15,11 +15,11 @@ use Rattle.machine.specs.Kind.{kind-of}
 use Rattle.machine.specs.Model.{blank-part, part-at}
 use Rattle.codec.specs.Words.{table, bytes-of, word-in, word-signed}
 use Rattle.codec.specs.Encoded.{source-code, spans-words, order-words, operand-words, component-words, state-words, part-words, parts-words, model-words, model-bytes}
-use Rattle.codec.specs.Decoded.{source-of, side-coded, mark-coded, signal-of, signal-in, spans-of, component-of, state-of, part-of, order-of, parts-of, model-of}
+use Rattle.codec.specs.Decoded.{source-coded, side-coded, mark-coded, signal-of, signal-in, spans-of, component-coded, state-of, part-of, order-of, parts-of, model-of}
 use Rattle.codec.specs.Sized.{SizedComponent, SizedState, SizedPart, Sized}
 use Rattle.codec.specs.Tables.{length-table, table-at, table-same, table-list, rows-at}
 use Rattle.codec.specs.Widths.{bytes-append, length-bytes, component-wide, part-wide, model-wide}
-use Rattle.codec.specs.Fields.{in-word, word-of, signed-back, kind-back, source-back, side-back, mark-back, signal-back}
+use Rattle.codec.specs.Fields.{in-word, word-of, signed-back, kind-read-back, source-back, side-back, mark-back, signal-back}
 
 -- the words of a component's spans, and of its ports
 span-word : (c : Component) (i : ℕ) → i < 8 → getD (component-words c) (6 + i) 0 ≡ getD (c .spans) i 0
@@ -47,7 +47,7 @@ module _ (bs : List ℕ) (k : ℕ) (c : Component) (sized : SizedComponent c)
   unfolding component-words operand-words
   kind-read =
       let first : k ≡ k + 0 = omega arith in
-      ap (λ (n : ℕ). kind-of (word-in bs n)) first ∙ ap kind-of (h 0 (omega arith)) ∙ kind-back (c .kind)
+      ap (λ (n : ℕ). kind-of (word-in bs n)) first ∙ ap kind-of (h 0 (omega arith)) ∙ kind-read-back (c .kind)
 
   preference-read : word-in bs (k + 1) % 256 ≡ c .preference
   unfolding component-words operand-words
@@ -92,14 +92,14 @@ module _ (bs : List ℕ) (k : ℕ) (c : Component) (sized : SizedComponent c)
       table-same (λ (i : ℕ). word-in bs (k + 6 + i) % 4294967296) (λ (i : ℕ). getD (c .spans) i 0) 8 span-read ∙
       table-list (c .spans) 0 8 (sized .spans .places)
 
-  port0-read : source-of (word-in bs (k + 14)) ≡ c .port0
-  port0-read = ap source-of (h 14 (omega arith) ∙ ap in-word (port0-word c)) ∙ source-back (c .port0) (sized .port0)
+  port0-read : source-coded (word-in bs (k + 14)) ≡ c .port0
+  port0-read = ap source-coded (h 14 (omega arith) ∙ ap in-word (port0-word c)) ∙ source-back (c .port0) (sized .port0)
 
-  port1-read : source-of (word-in bs (k + 15)) ≡ c .port1
-  port1-read = ap source-of (h 15 (omega arith) ∙ ap in-word (port1-word c)) ∙ source-back (c .port1) (sized .port1)
+  port1-read : source-coded (word-in bs (k + 15)) ≡ c .port1
+  port1-read = ap source-coded (h 15 (omega arith) ∙ ap in-word (port1-word c)) ∙ source-back (c .port1) (sized .port1)
 
-  component-back : component-of bs k ≡ c
-  unfolding component-of
+  component-back : component-coded bs k ≡ c
+  unfolding component-coded
   component-back = rw (kind-read, preference-read, a-read, b-read, p-read, count-read, spans-read, port0-read, port1-read) refl
 
 -- a state, in the same way

@@ -21,7 +21,7 @@ use machine::time::Ticks;
 ghost use mathlib.Core.Path.{_≡_};
 ghost use Prim.Native.Nat.{_+_, _<_, _≤_};
 ghost use Rattle.codec.specs.Words.{word-in, word-signed};
-ghost use Rattle.codec.specs.Decoded.{component-of, model-of, order-of, part-of, parts-of, signal-in, source-of, spans-of, state-of};
+ghost use Rattle.codec.specs.Decoded.{component-coded, model-of, order-of, part-of, parts-of, signal-in, source-coded, spans-of, state-of};
 
 // A signed number.
 fn signed_at(bytes: &[u8], k: usize) -> i64
@@ -34,7 +34,7 @@ fn signed_at(bytes: &[u8], k: usize) -> i64
 // A port.
 fn source_at(bytes: &[u8], k: usize) -> Source
     requires { ⌜ k < 836 ⌝ }
-    ensures { λ r. ⌜ r ≡ source-of (word-in (now (bytes .entry)) k) ⌝ }
+    ensures { λ r. ⌜ r ≡ source-coded (word-in (now (bytes .entry)) k) ⌝ }
 {
     source_coded(word(bytes, k))
 }
@@ -64,7 +64,7 @@ fn spans_at(bytes: &[u8], k: usize) -> [u32; SPANS]
 // What the table fixes of a part.
 fn component_at(bytes: &[u8], k: usize) -> Component
     requires { ⌜ k + 16 ≤ 836 ⌝ }
-    ensures { λ r. ⌜ r ≡ component-of (now (bytes .entry)) k ⌝ }
+    ensures { λ r. ⌜ r ≡ component-coded (now (bytes .entry)) k ⌝ }
 {
     let kind = kind_coded(word(bytes, k));
     let preference = (word(bytes, k + 1) % 256) as u8;

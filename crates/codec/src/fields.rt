@@ -11,7 +11,7 @@ use machine::signal::Signal;
 ghost use mathlib.Core.Path.{_≡_};
 ghost use Rattle.machine.specs.Kind.{kind-number, kind-of};
 ghost use Rattle.codec.specs.Encoded.{mark-code, side-code, source-code};
-ghost use Rattle.codec.specs.Decoded.{mark-coded, side-coded, signal-of, source-of};
+ghost use Rattle.codec.specs.Decoded.{mark-coded, side-coded, signal-of, source-coded};
 ghost use Rattle.codec.specs.Sized.{FitsSource};
 
 // How many kinds there are.
@@ -47,7 +47,7 @@ pub fn source_code(s: Source) -> u64
 
 // The port that a number means.
 pub(crate) fn source_coded(w: u64) -> Source
-    ensures { λ r. ⌜ r ≡ source-of w ⌝ }
+    ensures { λ r. ⌜ r ≡ source-coded w ⌝ }
 {
     if w == 0 {
         return Source::Unwired;

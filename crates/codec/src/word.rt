@@ -9,7 +9,7 @@ ghost use lib.ListN.{length};
 ghost use Rattle.machine.specs.Load.{byte-at, word-at};
 ghost use Rattle.codec.specs.Words.{four-bytes, signed-word, word-in, word-signed};
 ghost use Rattle.writing.specs.Put.{Put};
-ghost use Rattle.codec.specs.Put.{WordsPut};
+ghost use Rattle.codec.specs.WordsPut.{WordsPut};
 ghost use Rattle.codec.specs.Sized.{FitsWord};
 
 // Half of the words: the signed number of a word below it is the word itself.

@@ -6,11 +6,11 @@ use mathlib.Core.List.{List}
 use lib.ListN.{length}
 use borrow.Author.Tests.{le-leb, lt-leb}
 use Rattle.codec.specs.Words.{bytes-of}
-use Rattle.codec.specs.Put.{WordsPut}
+use Rattle.codec.specs.WordsPut.{WordsPut}
 use Rattle.writing.specs.Written.{too-short}
-use Rattle.encoding.specs.Written.{WrittenInto}
+use Rattle.encoding.specs.WrittenInto.{WrittenInto}
 use Rattle.codec.specs.Widths.{length-bytes}
-use Rattle.codec.specs.Pieces.{at-front}
+use Rattle.codec.specs.WordPieces.{at-front}
 
 -- a buffer that is too short is kept
 pub left-out : {bytes before : List ℕ} {w : ℕ} → length bytes ≡ w → length before < w → WrittenInto bytes w before before too-short

@@ -1,2 +1,2 @@
 -- What the calls that write an answer into a lent buffer promise.
-pub mod Written
+pub mod WrittenInto

@@ -1,5 +1,5 @@
 // The words of a model, put into a buffer at a position. Each function returns the position behind what it
-// put. The contracts cite `specs/Encoded.antt` and `specs/Put.antt` of the crate `codec`; what a caller learns
+// put. The contracts cite `specs/Encoded.antt` and `specs/WordsPut.antt` of the crate `codec`; what a caller learns
 // besides, that each number fits its field, is in its `specs/Sized.antt`.
 use codec::fields::kind_code;
 use codec::fields::mark_code;
@@ -21,7 +21,7 @@ ghost use Prim.Native.Nat.{_+_, _<_, _≤_};
 ghost use lib.ListN.{length};
 ghost use Rattle.codec.specs.Words.{signed-word};
 ghost use Rattle.codec.specs.Encoded.{component-words, model-words, operand-words, order-words, part-words, parts-words, signal-words, spans-words, state-words};
-ghost use Rattle.codec.specs.Put.{WordsPut};
+ghost use Rattle.codec.specs.WordsPut.{WordsPut};
 ghost use Rattle.codec.specs.Sized.{FitsSigned, FitsSignal, Sized, SizedComponent, SizedOperands, SizedOrder, SizedPart, SizedParts, SizedSpans, SizedState};
 
 // A signed number.

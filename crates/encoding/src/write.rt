@@ -1,5 +1,5 @@
 // What the calls answer, written into a buffer that the caller lends. The contracts cite `specs/Encoded.antt`
-// of the crate `codec`, and `specs/Written.antt`.
+// of the crate `codec`, and `specs/WrittenInto.antt`.
 use crate::encode::put_model;
 use codec::word::put_word;
 use machine::model::Answer;
@@ -8,7 +8,7 @@ use writing::written::TOO_SHORT;
 ghost use mathlib.Core.Path.{_≡_};
 ghost use Rattle.codec.specs.Encoded.{answer-bytes, loaded-bytes};
 ghost use Rattle.codec.specs.Sized.{Sized};
-ghost use Rattle.encoding.specs.Written.{WrittenInto};
+ghost use Rattle.encoding.specs.WrittenInto.{WrittenInto};
 
 // How many bytes a load's answer has, and an advance's.
 const LOADED_WIDTH: usize = 6704;

@@ -1,4 +1,4 @@
 -- What soundness asks of one part, of a model with its unused places, and of a whole model test by test.
 pub mod Parts
-pub mod Trimmed
+pub mod TrimmedPlaces
 pub mod Whole

@@ -16,12 +16,12 @@ use Rattle.machine.specs.Model.{most-parts, blank-part, part-at, trimmed-part, 
 use Rattle.machine.specs.Table.{table-of, magnitude-of, component-ratio, ratios, periods-fit, part-order, ordered}
 use Rattle.machine.specs.Sound.{component-fits, table-fits, state-fits, sound}
 use Rattle.laws.specs.Bools.{both-ways, refuted}
-use Rattle.laws.specs.Lists.{every-at, every-intro, every-map, same-map}
+use Rattle.laws.specs.ListLaws.{every-at, every-intro, every-map, same-map}
 use Rattle.laws.specs.Partway.{mapped-places}
 use Rattle.soundness.specs.Facts.{table-facts, sound-facts}
 use Rattle.soundness.specs.Magnitude.{known-there, known-back}
 use Rattle.inspection.specs.Parts.{state-holds, part-fits}
-use Rattle.inspection.specs.Trimmed.{parts-count, components-count}
+use Rattle.inspection.specs.TrimmedPlaces.{parts-count, components-count}
 
 -- a state by the part's own ratio, and by the table's where the two are the same
 state-by : (t r : ℕ) (p : Part) → p .ratio ≡ r → state-fits t p ≡ state-holds t r (p .state)

@@ -1,10 +1,10 @@
 // The kinds by their numbers, which of them is the drive, and which hold a number.
-// Its contracts cite the machine's `specs/Kind.antt` and `specs/Load.antt`, and `specs/Found.antt`.
+// Its contracts cite the machine's `specs/Kind.antt` and `specs/Load.antt`, and `specs/KindMeant.antt`.
 use machine::part::Kind;
 ghost use mathlib.Core.Path.{_≡_};
 ghost use Rattle.machine.specs.Kind.{integrates, kind-number, kind-of};
 ghost use Rattle.machine.specs.Load.{is-drive};
-ghost use Rattle.kinds.specs.Found.{KindMeant};
+ghost use Rattle.kinds.specs.KindMeant.{KindMeant};
 
 // How many kinds there are.
 const KIND_COUNT: usize = 12;

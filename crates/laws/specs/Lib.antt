@@ -1,6 +1,6 @@
 -- Laws that speak of no part and no model.
 pub mod Bools
-pub mod Lists
+pub mod ListLaws
 pub mod Alls
 pub mod Last
 pub mod Loops

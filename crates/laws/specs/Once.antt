@@ -8,7 +8,7 @@ use mathlib.Core.Logic.{_⊎_, inl, inr, ⊎-elim}
 use mathlib.Core.List.{List, [], _∷_, _++_, List·Memᴰ, List·Memᴰ·head, List·Memᴰ·tail, List·Memᴰ·not-nil, List·Memᴰ·cases-cons, Memᴰ·cast, Memᴰ·append-right}
 use lib.ListN.{length, getD, set, replicate, getD-replicate}
 use lib.Seq.{getD-set-other}
-use Rattle.laws.specs.Lists.{in-or-not}
+use Rattle.laws.specs.ListLaws.{in-or-not}
 use Rattle.laws.specs.Marks.{cleared, left, left-set, left-replicate}
 
 -- no number occurs twice

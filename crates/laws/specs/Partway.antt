@@ -7,7 +7,7 @@ use mathlib.Core.Path.{_≡_, refl, ap, ap₂, sym, _∙_}
 use mathlib.Core.List.{List, [], _∷_, _++_, map}
 use lib.ListN.{length, getD, set, take, drop, length-map, length-take}
 use lib.Seq.{getD-take, length-take-le, take-at}
-use Rattle.laws.specs.Lists.{getD-map-in}
+use Rattle.laws.specs.ListLaws.{getD-map-in}
 
 module _ {ℓ ℓ′} {A : Type ℓ} {B : Type ℓ′} (f : A → B) where
   -- the first n elements, mapped, are n where the list has as many, and back

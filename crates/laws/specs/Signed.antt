@@ -1,6 +1,6 @@
--- Laws of signed numbers: what the code's tests show of one, differences, the magnitudes of sums and products, which numbers fit a word, and what values
+-- Laws of signed numbers: what the code's tests show of one, differences, the absolute values of sums and products, which numbers fit a word, and what values
 -- and clamping are by these. A signed number is `pos n` or `negsuc n`, which is −(n + 1), so each law goes by cases on these, and a bound on it is a
--- bound on its magnitude `natAbs`. Assumes nothing.
+-- bound on its absolute value, `natAbs`. Assumes nothing.
 use Prim.Native.Nat.{ℕ, zero, suc, _+_, _-_, _*_, _^_, _≤_, _<_}
 use native.Mathlib.Nat.{mul-le-mul, le-trans, le-of-eq}
 use native.Mathlib.Omega.{arith}
@@ -58,35 +58,35 @@ sum-most (negsuc a) (pos b) = omega (arith, difference-most b (suc a))
 sum-most (negsuc a) (negsuc b) = omega arith
 
 -- |−n| is n
-negated-magnitude : (n : ℕ) → natAbs (negℤ (pos n)) ≡ n
-negated-magnitude zero = refl
-negated-magnitude (suc n) = refl
+negated-absolute : (n : ℕ) → natAbs (negℤ (pos n)) ≡ n
+negated-absolute zero = refl
+negated-absolute (suc n) = refl
 
 -- |a × b| is |a| × |b|
-product-magnitude : (a b : ℤ) → natAbs (a *ℤ b) ≡ natAbs a * natAbs b
-product-magnitude (pos a) (pos b) = refl
-product-magnitude (pos a) (negsuc b) = negated-magnitude (a * suc b)
-product-magnitude (negsuc a) (pos b) = negated-magnitude (suc a * b)
-product-magnitude (negsuc a) (negsuc b) = refl
+product-absolute : (a b : ℤ) → natAbs (a *ℤ b) ≡ natAbs a * natAbs b
+product-absolute (pos a) (pos b) = refl
+product-absolute (pos a) (negsuc b) = negated-absolute (a * suc b)
+product-absolute (negsuc a) (pos b) = negated-absolute (suc a * b)
+product-absolute (negsuc a) (negsuc b) = refl
 
--- the product of two numbers of magnitude at most 10^9 has one of at most 10^18
+-- the product of two numbers of absolute value at most 10^9 has one of at most 10^18
 pub product-most : (a b : ℤ) → natAbs a ≤ largest-value → natAbs b ≤ largest-value → natAbs (a *ℤ b) ≤ 1_000_000_000_000_000_000
-product-most a b ha hb = le-trans (le-of-eq (product-magnitude a b)) (mul-le-mul ha hb)
+product-most a b ha hb = le-trans (le-of-eq (product-absolute a b)) (mul-le-mul ha hb)
 
--- a number fits a signed word of any width whose half its magnitude is below
+-- a number fits a signed word of any width whose half its absolute value is below
 fits : (w : Width) (v : ℤ) → natAbs v < 2 ^ hbits w → SFits w v
 fits w (pos n) small = record { sfits = omega arith }
 fits w (negsuc n) small = record { sfits = omega arith }
 
--- the product of two numbers of magnitude at most 10^9 fits an i64
+-- the product of two numbers of absolute value at most 10^9 fits an i64
 pub product-fits : (a b : ℤ) → natAbs a ≤ largest-value → natAbs b ≤ largest-value → SFits w64 (a *ℤ b)
 product-fits a b ha hb = fits w64 (a *ℤ b) (omega (arith, product-most a b ha hb))
 
--- the sum of two numbers, of magnitudes at most 10^9 and 10^18, fits an i64
+-- the sum of two numbers, of absolute values at most 10^9 and 10^18, fits an i64
 pub sum-fits : (a b : ℤ) → natAbs a ≤ largest-value → natAbs b ≤ 1_000_000_000_000_000_000 → SFits w64 (a +ℤ b)
 sum-fits a b ha hb = fits w64 (a +ℤ b) (omega (arith, sum-most a b))
 
--- a value's magnitude is at most 10^9
+-- a value's absolute value is at most 10^9
 pub value-most : (v : ℤ) → is-value v ≡ true → natAbs v ≤ largest-value
 unfolding is-value
 value-most v h = leb-true (natAbs v) largest-value h

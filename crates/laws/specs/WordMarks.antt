@@ -129,8 +129,8 @@ cleared-above n w k rest =
     }
 
 -- a mark that is set is cleared by subtraction
-pub cleared : (n w k : ℕ) → getD (marks-of n w) k false ≡ true → Cleared n w k
+pub mark-cleared : (n w k : ℕ) → getD (marks-of n w) k false ≡ true → Cleared n w k
 unfolding marks-of
-cleared zero w k e = absurd (false≢true e)
-cleared (suc n) w zero e = cleared-lowest n w (marked-digit (w % 2) e)
-cleared (suc n) w (suc k) e = cleared-above n w k (cleared n (w / 2) k e)
+mark-cleared zero w k e = absurd (false≢true e)
+mark-cleared (suc n) w zero e = cleared-lowest n w (marked-digit (w % 2) e)
+mark-cleared (suc n) w (suc k) e = cleared-above n w k (mark-cleared n (w / 2) k e)

@@ -13,7 +13,7 @@ use lib.Dec.{ltb}
 use borrow.Author.Tests.{lt-ltb, le-ltb, ltb-true, ltb-false}
 use Rattle.machine.specs.Rehearse.{digits-before, decimal}
 use Rattle.laws.specs.Bools.{either}
-use Rattle.printing.specs.Fuel.{digits-enough}
+use Rattle.printing.specs.LineFuel.{digits-enough}
 
 -- the characters given stand behind the digits
 before-append : (f n : ℕ) (cs : List ℕ) → digits-before f n cs ≡ digits-before f n [] ++ cs

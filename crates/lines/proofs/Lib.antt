@@ -1,4 +1,4 @@
 -- Digits, outputs one after the other, and the bounds of a line.
 mod Decimal
 mod Outputs
-mod Bounds
+mod LineBounds

@@ -10,7 +10,7 @@ use lib.Dec.{ltb}
 use borrow.Author.Tests.{ltb-true}
 use Rattle.machine.specs.Load.{Reading, nothing-read, Read, onward, ended, accepted, read-turn, read-on, read-from, load}
 use Rattle.laws.specs.Bools.{either}
-use Rattle.soundness.specs.Turns.{turn-cases}
+use Rattle.soundness.specs.ReadTurns.{turn-cases}
 
 -- what a turn comes to stops within the stream, where it is accepted
 abbrev Within : List ℕ → Read → Type 0

@@ -1,4 +1,4 @@
-// End: the refusals that it alone decides, in document 01's order, and the model of an accepted table. Its contracts cite `specs/Ending.antt` and `specs/Blank.antt`, the machine's `specs/Load.antt`, and
+// End: the refusals that it alone decides, in document 01's order, and the model of an accepted table. Its contracts cite `specs/EndRefusals.antt` and `specs/Blank.antt`, the machine's `specs/Load.antt`, and
 // `specs/Concluded.antt` of `table`.
 use crate::blank::refused;
 use crate::first::first_parts;
@@ -20,7 +20,7 @@ ghost use Rattle.machine.specs.Model.{trimmed, trimmed-loaded};
 ghost use Rattle.steps.specs.Start.{unfilled};
 ghost use Rattle.table.specs.Concluded.{Ended, concluded, table-read};
 ghost use Rattle.loading.specs.Blank.{blank-model};
-ghost use Rattle.loading.specs.Ending.{Acceptable, Judged, end-number, last-position};
+ghost use Rattle.loading.specs.EndRefusals.{Acceptable, Judged, end-number, last-position};
 
 // The refusal at an End behind `count` parts, by whether every P fits, and how many parts could be placed.
 fn end_refusal(count: usize, fit: bool, placed: usize) -> u64

@@ -1,4 +1,4 @@
-// Loading a table from bytes, up to its End. The contract of `load` cites the machine's `specs/Load.antt`; this crate's `specs/Owed.antt` says what
+// Loading a table from bytes, up to its End. The contract of `load` cites the machine's `specs/Load.antt`; this crate's `specs/LoadOwed.antt` says what
 // follows for a caller.
 use crate::ending::finished;
 use machine::model::Loaded;

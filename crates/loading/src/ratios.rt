@@ -9,7 +9,7 @@ ghost use mathlib.Core.Path.{_≡_};
 ghost use Prim.Native.Nat.{_≤_};
 ghost use Rattle.machine.specs.Time.{last-magnitude};
 ghost use Rattle.machine.specs.Table.{magnitude-of};
-ghost use Rattle.loading.specs.Places.{components, periods-within, table-in};
+ghost use Rattle.loading.specs.Places.{components-read, periods-within, table-in};
 
 // The largest of the default magnitude and the preferences of the first `count` components.
 pub(crate) fn master_magnitude(parts: [Component; PARTS], count: usize, default: u8) -> u8
@@ -30,7 +30,7 @@ pub(crate) fn master_magnitude(parts: [Component; PARTS], count: usize, default:
 pub(crate) fn periods_fit(parts: [Component; PARTS], count: usize, magnitude: u8) -> bool
     requires { ⌜ count ≤ 32 ⌝ }
     requires { ⌜ magnitude ≤ last-magnitude ⌝ }
-    ensures { λ r. ⌜ r ≡ periods-within magnitude (components count parts) ⌝ }
+    ensures { λ r. ⌜ r ≡ periods-within magnitude (components-read count parts) ⌝ }
 {
     let mut i: usize = 0;
     while i < count {

@@ -63,8 +63,8 @@ keeping held signal side mark q =
     }
 
 -- the part once it shows its output at a point, where its port 0 reads x and its port 1 y, and has settled
-abbrev pub at-point : Part → Point → (x y before : Signal) → Part
-at-point p now x y before = settled x (with-output p (output p now x y before))
+abbrev pub shown-settled : Part → Point → (x y before : Signal) → Part
+shown-settled p now x y before = settled x (with-output p (output p now x y before))
 
 -- what a detector keeps of an input x, seen behind a side: its side and its mark
 abbrev pub seen : Side → Signal → Part → State
@@ -140,7 +140,7 @@ pub record KindTable : Type 0 where
   -- "then kinds 7 and 9 hold their output": what port 1 set it to shows at the next point too
   pub reset-held :
       (a v : ℤ) (q : Part) (now next : Point) (x before other last : Signal) →
-      output (at-point (of-kind ResetIntegrator a (pos 0) 0 q) now x (Value v) before) next other Absent last ≡ Value v
+      output (shown-settled (of-kind ResetIntegrator a (pos 0) 0 q) now x (Value v) before) next other Absent last ≡ Value v
   -- 8 detector: "the pending mark (1 or −1) set at the point before, else absent"
   pub detector :
       (side : Side) (held : ℤ) (s : Signal) (q : Part) (now : Point) (x y before : Signal) →
@@ -165,7 +165,7 @@ pub record KindTable : Type 0 where
   -- and it keeps what it showed through absence
   pub hold-kept :
       (v : ℤ) (q : Part) (now next : Point) (y before other last : Signal) →
-      output (at-point (of-kind Hold (pos 0) (pos 0) 0 q) now (Value v) y before) next Absent other last ≡ Value v
+      output (shown-settled (of-kind Hold (pos 0) (pos 0) 0 q) now (Value v) y before) next Absent other last ≡ Value v
   -- 10 sampler: "port 0 if port 1 is present, else absent"
   pub sampler :
       (w : ℤ) (q : Part) (now : Point) (x before : Signal) →

@@ -19,16 +19,16 @@ use Rattle.machine.specs.Sound.{sound}
 use Rattle.machine.specs.Accept.{Class, waiting, delaying, detecting, driving, free, class-of, due, longest}
 use Rattle.machine.specs.Advance.{least, objects, objects-as}
 use Rattle.laws.specs.Bools.{or-left}
-use Rattle.laws.specs.Lists.{all-at}
+use Rattle.laws.specs.ListLaws.{all-at}
 use Rattle.laws.specs.Numbers.{div-grows}
 use Rattle.soundness.specs.Facts.{sound-facts}
 use Rattle.soundness.specs.SoundParts.{sound-component}
-use Rattle.acceptance.specs.SoundParts.{sound-fit, sound-few}
-use Rattle.replies.specs.Asked.{AskFits}
-use Rattle.replies.specs.Trimmed.{due-trimmed}
+use Rattle.acceptance.specs.FitParts.{sound-fit, sound-few}
+use Rattle.replies.specs.Askable.{AskFits}
+use Rattle.replies.specs.DueTrimmed.{due-trimmed}
 use Rattle.steps.specs.Reading.{part-trimmed, reading-trimmed}
 use Rattle.steps.specs.Fillable.{Wired, wired-places, wired-at}
-use Rattle.steps.specs.SoundParts.{sound-wired, sound-periods}
+use Rattle.steps.specs.WiredParts.{sound-wired, sound-periods}
 
 -- each part of a sound model has at most 8 spans
 sound-spans : (m : Model) → sound m ≡ true → (i : ℕ) → i < length (m .parts) → part-at (m .parts) i .component .«span_count» ≤ 8

@@ -16,10 +16,10 @@ use Rattle.machine.specs.Sound.{sound}
 use Rattle.machine.specs.Advance.{Turn, Lower, Halve, Commit, Refuse, followed, search-from, searched, turn, tried, round, any-due, any-objects, answer-with}
 use Rattle.laws.specs.Bools.{cond-true, cond-false}
 use Rattle.soundness.specs.SoundParts.{sound-time}
-use Rattle.stepsearch.specs.Fuel.{Falls, unrolled}
+use Rattle.stepsearch.specs.SearchFuel.{Falls, unrolled}
 use Rattle.stepsearch.specs.Fair.{fair-falls}
-use Rattle.stepsearch.specs.Turns.{turn-fair}
-use Rattle.wholelist.specs.Owed.{round-owes}
+use Rattle.stepsearch.specs.SearchTurns.{turn-fair}
+use Rattle.wholelist.specs.RoundsOwed.{round-owes}
 
 -- what the search promises of its answer r to a call that nothing bars, for the model m and the wanted step w: the machine's answer, trimmed; the very
 -- model handed in where it is refused; and the same bytes in unused places

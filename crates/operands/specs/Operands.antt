@@ -76,8 +76,8 @@ pub record WordMeant (bs : List ℕ) (at : ℕ) (r : WordRead) : Type 0 where
   pub is : word-answer r ≡ operands-at bs at 4 (word-at bs at) 0
 
 -- the operands of a Part, from the byte behind its command byte on; and none
-abbrev pub part-at : List ℕ → ℕ → PartOperands
-part-at bs at =
+abbrev pub part-operands-at : List ℕ → ℕ → PartOperands
+part-operands-at bs at =
     record {
       kind = byte-at bs at;
       preference = byte-at bs (at + 1);
@@ -94,11 +94,11 @@ part-answer (part-read.Got o c) = got o c
 part-answer part-read.Cut = cut no-part
 
 pub record PartMeant (bs : List ℕ) (at : ℕ) (r : PartRead) : Type 0 where
-  pub is : part-answer r ≡ operands-at bs at 14 (part-at bs at) no-part
+  pub is : part-answer r ≡ operands-at bs at 14 (part-operands-at bs at) no-part
 
 -- the operands of a Wire, likewise
-abbrev pub wire-at : List ℕ → ℕ → WireOperands
-wire-at bs at = record { source = byte-at bs at; receiver = byte-at bs (at + 1); port = byte-at bs (at + 2) }
+abbrev pub wire-operands-at : List ℕ → ℕ → WireOperands
+wire-operands-at bs at = record { source = byte-at bs at; receiver = byte-at bs (at + 1); port = byte-at bs (at + 2) }
 
 abbrev pub no-wire : WireOperands
 no-wire = record { source = 0; receiver = 0; port = 0 }
@@ -108,7 +108,7 @@ wire-answer (wire-read.Got o c) = got o c
 wire-answer wire-read.Cut = cut no-wire
 
 pub record WireMeant (bs : List ℕ) (at : ℕ) (r : WireRead) : Type 0 where
-  pub is : wire-answer r ≡ operands-at bs at 3 (wire-at bs at) no-wire
+  pub is : wire-answer r ≡ operands-at bs at 3 (wire-operands-at bs at) no-wire
 
 -- so many bytes are there from a position on, and the cursor stands behind them
 pub record Behind (bs : List ℕ) (at width : ℕ) (c : Cursor) : Type 0 where
@@ -166,20 +166,20 @@ word-cases {bs} {at} {r = word-read.Got v c} h = read-whole bs at 4 (word-at bs 
 word-cases {bs} {at} {r = word-read.Cut} h = read-cut bs at 4 (word-at bs at) 0 (h .is)
 
 abbrev pub PartCases : List ℕ → ℕ → PartRead → Type 0
-PartCases bs at (part-read.Got o c) = Behind bs at 14 c × (o ≡ part-at bs at)
+PartCases bs at (part-read.Got o c) = Behind bs at 14 c × (o ≡ part-operands-at bs at)
 PartCases bs at part-read.Cut = length bs < at + 14
 
 pub part-cases : {bs : List ℕ} {at : ℕ} {r : PartRead} → PartMeant bs at r → PartCases bs at r
-part-cases {bs} {at} {r = part-read.Got o c} h = read-whole bs at 14 (part-at bs at) no-part o c (h .is)
-part-cases {bs} {at} {r = part-read.Cut} h = read-cut bs at 14 (part-at bs at) no-part (h .is)
+part-cases {bs} {at} {r = part-read.Got o c} h = read-whole bs at 14 (part-operands-at bs at) no-part o c (h .is)
+part-cases {bs} {at} {r = part-read.Cut} h = read-cut bs at 14 (part-operands-at bs at) no-part (h .is)
 
 abbrev pub WireCases : List ℕ → ℕ → WireRead → Type 0
-WireCases bs at (wire-read.Got o c) = Behind bs at 3 c × (o ≡ wire-at bs at)
+WireCases bs at (wire-read.Got o c) = Behind bs at 3 c × (o ≡ wire-operands-at bs at)
 WireCases bs at wire-read.Cut = length bs < at + 3
 
 pub wire-cases : {bs : List ℕ} {at : ℕ} {r : WireRead} → WireMeant bs at r → WireCases bs at r
-wire-cases {bs} {at} {r = wire-read.Got o c} h = read-whole bs at 3 (wire-at bs at) no-wire o c (h .is)
-wire-cases {bs} {at} {r = wire-read.Cut} h = read-cut bs at 3 (wire-at bs at) no-wire (h .is)
+wire-cases {bs} {at} {r = wire-read.Got o c} h = read-whole bs at 3 (wire-operands-at bs at) no-wire o c (h .is)
+wire-cases {bs} {at} {r = wire-read.Cut} h = read-cut bs at 3 (wire-operands-at bs at) no-wire (h .is)
 
 -- v is what f reads from a position so many bytes behind the first, and the cursor stands behind the operand's own bytes
 abbrev pub ReadAt : (f : List ℕ → ℕ → ℕ) (bs : List ℕ) (at before width : ℕ) → ℕ → Cursor → Type 0

@@ -9,7 +9,7 @@ use Rattle.machine.specs.Kind.{kind-known, kind-of, ports, is-positive, operand
 use Rattle.machine.specs.Model.{most-parts, most-spans}
 use Rattle.machine.specs.Load.{begin-byte, span-byte, want-byte, known-command, preference-known, signed, wired}
 use Rattle.kinds.specs.declared.kind.KindFound.the-variants.{Unknown}
-use Rattle.kinds.specs.Found.{found-number}
+use Rattle.kinds.specs.KindMeant.{found-number}
 use Rattle.operands.specs.declared.operands.PartOperands.{PartOperands}
 
 -- a Part's operands: a kind that is not found has the number of that answer; behind it a preference that is unknown, and an operand outside its range
@@ -43,10 +43,10 @@ unfoldable pub port-number : Kind → (port0 port1 : Source) → ℕ → ℕ
 port-number kind port0 port1 port = cond (ltb port (ports kind)) (cond (wired (cond (eqb port 0) port0 port1)) 8 0) 7
 
 -- a command byte stands where it may: by whether Begin was read, and whether a span may follow
-unfoldable pub placed : (begun spannable : Bool) → ℕ → Bool
-placed begun spannable b =
+unfoldable pub in-its-place : (begun spannable : Bool) → ℕ → Bool
+in-its-place begun spannable b =
     cond (eqb b begin-byte) (not begun) (cond (eqb b span-byte) (begun && spannable) (cond (eqb b want-byte) false begun))
 
 -- a command that is unknown, or out of place
 unfoldable pub command-number : (begun spannable : Bool) → ℕ → ℕ
-command-number begun spannable b = cond (known-command b) (cond (placed begun spannable b) 0 3) 2
+command-number begun spannable b = cond (known-command b) (cond (in-its-place begun spannable b) 0 3) 2

@@ -20,7 +20,7 @@ ghost use mathlib.Core.Path.{_≡_};
 ghost use mathlib.Core.Bool.{cond};
 ghost use lib.Dec.{eqb};
 ghost use Rattle.machine.specs.Load.{begin-refusal, known-command};
-ghost use Rattle.operands.specs.Refusals.{command-number, operands-number, part-number, placed, port-number, span-number};
+ghost use Rattle.operands.specs.Refusals.{command-number, operands-number, part-number, in-its-place, port-number, span-number};
 
 // The bytes of Begin, Part, Span, End and a wanted step; a Wire's, 04h, is the one left where these are told apart.
 pub const BEGIN_BYTE: u8 = 0x01;
@@ -111,7 +111,7 @@ fn known_command(b: u8) -> bool
 
 // Whether a command byte stands where it may.
 fn in_place(begun: bool, spannable: bool, b: u8) -> bool
-    ensures { λ r. ⌜ r ≡ placed begun spannable b ⌝ }
+    ensures { λ r. ⌜ r ≡ in-its-place begun spannable b ⌝ }
 {
     if b == BEGIN_BYTE {
         return !begun;

@@ -15,7 +15,7 @@ use Rattle.machine.specs.Model.{blank-part, part-at}
 use Rattle.machine.specs.Table.{DirectWire}
 use Rattle.machine.specs.Step.{with-output, shown, filled}
 use Rattle.laws.specs.Alls.{length-same-map, same-at}
-use Rattle.laws.specs.Lists.{split-in, in-or-not, along}
+use Rattle.laws.specs.ListLaws.{split-in, in-or-not, along}
 use Rattle.laws.specs.Once.{Once, once-apart, once-rest}
 use Rattle.ordering.specs.Order.{CompleteOrder}
 use Rattle.ordering.specs.Row.{unshown, row, stored, row-kept, components, components-length, row-at}

@@ -18,7 +18,7 @@ use Rattle.machine.specs.Kind.{direct0, direct1}
 use Rattle.machine.specs.Model.{blank-component}
 use Rattle.machine.specs.Table.{component-at, source-placed, ready, lowest-ready, next-part, placed, part-order, ordered, DirectWire}
 use Rattle.laws.specs.Bools.{either, and-left, and-right, fails-from}
-use Rattle.laws.specs.Lists.{in-or-not}
+use Rattle.laws.specs.ListLaws.{in-or-not}
 use Rattle.laws.specs.Marks.{cleared, clear-set, marked-before, cleared-other}
 use Rattle.laws.specs.Once.{Once, once-short, once-all}
 
@@ -27,18 +27,18 @@ abbrev pub may-go : List Component → List Bool → ℕ → Bool
 may-go cs marks k = getD marks k false && ready marks (component-at cs k)
 
 -- what the search from part k on found: no part that may go, or the lowest one
-abbrev pub Found : List Component → List Bool → ℕ → Option ℕ → Type 0
-Found cs marks k none = (j : ℕ) → k ≤ j → j < length cs → may-go cs marks j ≡ false
-Found cs marks k (some i) = (i < length cs) × (may-go cs marks i ≡ true) × ((j : ℕ) → k ≤ j → j < i → may-go cs marks j ≡ false)
+abbrev pub LowestFound : List Component → List Bool → ℕ → Option ℕ → Type 0
+LowestFound cs marks k none = (j : ℕ) → k ≤ j → j < length cs → may-go cs marks j ≡ false
+LowestFound cs marks k (some i) = (i < length cs) × (may-go cs marks i ≡ true) × ((j : ℕ) → k ≤ j → j < i → may-go cs marks j ≡ false)
 
 -- what was found from part k + 1 on, where part k may not go, is what is found from part k on
-found-later : (cs : List Component) (marks : List Bool) (k : ℕ) (o : Option ℕ) → may-go cs marks k ≡ false → Found cs marks (suc k) o →
-    Found cs marks k o
+found-later : (cs : List Component) (marks : List Bool) (k : ℕ) (o : Option ℕ) → may-go cs marks k ≡ false → LowestFound cs marks (suc k) o →
+    LowestFound cs marks k o
 found-later cs marks k none e f = fails-from (may-go cs marks) (length cs) k e f
 found-later cs marks k (some i) e f = (f .0, f .1, fails-from (may-go cs marks) i k e (f .2))
 
 -- `lowest-ready` finds the lowest part that may go; n is how many parts there are from part k on
-pub lowest-found : (cs : List Component) (marks : List Bool) (n k : ℕ) → k + n ≡ length cs → Found cs marks k (lowest-ready marks k (drop k cs))
+pub lowest-found : (cs : List Component) (marks : List Bool) (n k : ℕ) → k + n ≡ length cs → LowestFound cs marks k (lowest-ready marks k (drop k cs))
 unfolding lowest-ready
 lowest-found cs marks zero k e = rw (drop-of-length-le cs {i = k} (omega arith)) (λ j h l. absurd (omega arith))
 lowest-found cs marks (suc n) k e =
@@ -47,8 +47,8 @@ lowest-found cs marks (suc n) k e =
   where
     by-test :
         (may-go cs marks k ≡ true) ⊎ (may-go cs marks k ≡ false) →
-        Found cs marks (suc k) (lowest-ready marks (suc k) (drop (suc k) cs)) →
-        Found cs marks k (cond (may-go cs marks k) (some k) (lowest-ready marks (suc k) (drop (suc k) cs)))
+        LowestFound cs marks (suc k) (lowest-ready marks (suc k) (drop (suc k) cs)) →
+        LowestFound cs marks k (cond (may-go cs marks k) (some k) (lowest-ready marks (suc k) (drop (suc k) cs)))
     by-test (inl t) later = rw t (omega arith, t, λ j h l. absurd (omega arith))
     by-test (inr t) later = rw t (found-later cs marks k (lowest-ready marks (suc k) (drop (suc k) cs)) t later)
 
@@ -65,7 +65,7 @@ Placing cs marks [] = Unit {0}
 Placing cs marks (k ∷ ks) = Lowest cs marks k × Placing cs (set marks k false) ks
 
 -- what was found goes next, and the others after it
-placing-next : (cs : List Component) (marks : List Bool) (o : Option ℕ) (on : ℕ → List ℕ) → Found cs marks 0 o →
+placing-next : (cs : List Component) (marks : List Bool) (o : Option ℕ) (on : ℕ → List ℕ) → LowestFound cs marks 0 o →
     ((k : ℕ) → Placing cs (set marks k false) (on k)) → Placing cs marks (next-part o on)
 placing-next cs marks none on f later = tt
 placing-next cs marks (some k) on f later = (

@@ -17,10 +17,10 @@ use Rattle.machine.specs.declared.part.Source.the-variants.{Unwired, From}
 use Rattle.machine.specs.Kind.{direct0, direct1}
 use Rattle.machine.specs.Table.{component-at, source-placed, ready, lowest-ready, next-part, placed, part-order, ordered, DirectWire, Chained, Loop}
 use Rattle.laws.specs.Bools.{either, and-false-cases}
-use Rattle.laws.specs.Lists.{split-in, in-or-not}
+use Rattle.laws.specs.ListLaws.{split-in, in-or-not}
 use Rattle.laws.specs.Marks.{marked-below, cleared, cleared-marked, left, left-replicate, one-left}
 use Rattle.laws.specs.Once.{Once, once-apart, left-cleared}
-use Rattle.ordering.specs.Order.{may-go, Found, lowest-found, all-marked, order-once, order-below, order-all, order-after}
+use Rattle.ordering.specs.Order.{may-go, LowestFound, lowest-found, all-marked, order-once, order-below, order-all, order-after}
 
 -- a port whose source is not placed: it is direct, and its source is marked
 port-marked : (marks : List Bool) (direct : Bool) (s : Source) → not direct || source-placed marks s ≡ false →
@@ -46,7 +46,7 @@ abbrev NoneMayGo : List Component → List Bool → Type 0
 NoneMayGo cs marks = (k : ℕ) → k < length cs → may-go cs marks k ≡ false
 
 -- it is so after a next part, or where none was found
-ended-next : (n : ℕ) (cs : List Component) (marks : List Bool) (o : Option ℕ) (on : ℕ → List ℕ) → Found cs marks 0 o →
+ended-next : (n : ℕ) (cs : List Component) (marks : List Bool) (o : Option ℕ) (on : ℕ → List ℕ) → LowestFound cs marks 0 o →
     ((i : ℕ) → length (on i) < n → NoneMayGo cs (cleared (set marks i false) (on i))) →
     length (next-part o on) < suc n → NoneMayGo cs (cleared marks (next-part o on))
 unfolding cleared

@@ -17,7 +17,7 @@ use Rattle.machine.specs.declared.part.Source.the-variants.{Unwired, From}
 use Rattle.machine.specs.Table.{source-placed}
 use Rattle.laws.specs.Bools.{either, and-left}
 use Rattle.placing.specs.declared.Direct.{Direct}
-use Rattle.placing.specs.declared.Found.the-variants.{At, Nothing}
+use Rattle.placing.specs.declared.FoundPart.the-variants.{At, Nothing}
 use Rattle.laws.specs.WordMarks.{FirstMark, marks-of, none-behind, wider}
 use Rattle.placing.specs.Direct.{both-placed, found-as, lowest-among}
 

@@ -10,8 +10,8 @@ use Rattle.machine.specs.declared.part.Component.{Component}
 use Rattle.machine.specs.Kind.{direct0, direct1}
 use Rattle.machine.specs.Table.{source-placed}
 use Rattle.placing.specs.declared.Direct.{Direct}
-use Rattle.placing.specs.declared.Found.{Found}
-use Rattle.placing.specs.declared.Found.the-variants.{At, Nothing}
+use Rattle.placing.specs.declared.FoundPart.{FoundPart}
+use Rattle.placing.specs.declared.FoundPart.the-variants.{At, Nothing}
 
 -- what a port is wired to if it is direct, else nothing
 abbrev pub direct-source : Bool → Source → Source
@@ -38,6 +38,6 @@ lowest-among candidates marks k (d ∷ ds) =
     cond (getD candidates k false && both-placed marks d) (some k) rest
 
 -- what is found, as the code answers it
-abbrev pub found-as : Option ℕ → Found
+abbrev pub found-as : Option ℕ → FoundPart
 found-as none = Nothing
 found-as (some k) = At k

@@ -1,7 +1,7 @@
 // The order of parts. Those still unplaced are marks in one 32-bit word: trailing zeros find the lowest
 // marked part, and the count of ones falls with each part placed.
 //
-// The contracts cite this crate's `specs/Direct.antt` and `specs/Order.antt`, where the order is
+// The contracts cite this crate's `specs/Direct.antt` and `specs/OrderByMarks.antt`, where the order is
 // `part-order` of the machine's `specs/Table.antt`.
 use kinds::port::direct0_of;
 use kinds::port::direct1_of;
@@ -14,7 +14,7 @@ ghost use Prim.Native.Nat.{_-_, _^_, _≤_};
 ghost use Rattle.machine.specs.Table.{source-placed};
 ghost use Rattle.laws.specs.WordMarks.{marks-of};
 ghost use Rattle.placing.specs.Direct.{direct-source, direct-of, both-placed, lowest-among, found-as};
-ghost use Rattle.placing.specs.Order.{InOrder};
+ghost use Rattle.placing.specs.OrderByMarks.{InOrder};
 
 // The parts placed, in order. Of `order` the first `count` places are in use, and 0 stands in the others.
 pub struct Placed {
@@ -29,7 +29,7 @@ pub struct Direct {
 }
 
 // What is found: a part, by its number, or nothing.
-enum Found {
+enum FoundPart {
     At(u32),
     Nothing,
 }
@@ -102,7 +102,7 @@ fn ready(marks: u32, direct: Direct) -> bool
 }
 
 // The lowest marked part whose direct sources are placed.
-fn lowest(direct: [Direct; PARTS], marks: u32) -> Found
+fn lowest(direct: [Direct; PARTS], marks: u32) -> FoundPart
     ensures { λ r. ⌜ r ≡ found-as (lowest-among (marks-of 32 marks) (marks-of 32 marks) 0 direct) ⌝ }
 {
     let mut candidates = marks;
@@ -110,11 +110,11 @@ fn lowest(direct: [Direct; PARTS], marks: u32) -> Found
         let k = u32::trailing_zeros(candidates);
         let part = direct[k as usize];
         if ready(marks, part) {
-            return Found::At(k);
+            return FoundPart::At(k);
         }
         candidates -= 1 << k;
     }
-    Found::Nothing
+    FoundPart::Nothing
 }
 
 // The marks of so many parts, all of them unplaced.
@@ -136,7 +136,7 @@ pub fn place(parts: [Component; PARTS], count: usize) -> Placed
     let mut marks = all_marked(count);
     loop {
         let done = count - u32::count_ones(marks) as usize;
-        let Found::At(k) = lowest(direct, marks) else {
+        let FoundPart::At(k) = lowest(direct, marks) else {
             return Placed { order, count: done };
         };
         order[done] = k as u16;

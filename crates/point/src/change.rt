@@ -22,7 +22,7 @@ ghost use Rattle.machine.specs.Kind.{integrates, mark-between, side-after};
 ghost use Rattle.machine.specs.Model.{with-state};
 ghost use Rattle.machine.specs.Step.{gain-of, moved, settled, settled-as, with-output};
 ghost use Rattle.point.specs.States.{with-held, with-mark, with-signal};
-ghost use Rattle.point.specs.Ranges.{InRange, StepFits};
+ghost use Rattle.point.specs.PartRanges.{PartFits, StepFits};
 
 // The side on which a detector sees its input; an absent one keeps the side `s`.
 fn side_after(s: Side, x: Signal) -> Side
@@ -151,7 +151,7 @@ fn held_after(kind: Kind, held: i64, x: Signal, d: LocalTicks) -> i64
 
 // The part moved by a step of `h` from the tick `t`: its local count and its held number.
 pub fn moved_part(p: Part, t: Ticks, h: Ticks, x: Signal) -> Part
-    requires { ⌜ InRange p ⌝ }
+    requires { ⌜ PartFits p ⌝ }
     requires { ⌜ StepFits (t .0) (h .0) p ⌝ }
     requires { ⌜ gain-of (t .0) (h .0) p ≤ 1_000_000_000 ⌝ }
     requires { ⌜ is-signal x ≡ true ⌝ }

@@ -16,7 +16,7 @@ ghost use mathlib.Core.Bool.{true, cond};
 ghost use lib.Dec.{ltb};
 ghost use Rattle.machine.specs.Signal.{first-present, is-signal, sampled};
 ghost use Rattle.machine.specs.Kind.{mark-signal, output};
-ghost use Rattle.point.specs.Ranges.{InRange};
+ghost use Rattle.point.specs.PartRanges.{PartFits};
 
 // `x` if it is present, else `y`.
 fn first_present_of(x: Signal, y: Signal) -> Signal
@@ -62,7 +62,7 @@ fn mark_signal_of(mark: Mark) -> Signal
 // The part's output at the point `now`: `x` and `y` are the readings of ports 0 and 1 there, and
 // `before` that of port 0 at the point before.
 pub fn output_of(p: Part, now: Point, x: Signal, y: Signal, before: Signal) -> Signal
-    requires { ⌜ InRange p ⌝ }
+    requires { ⌜ PartFits p ⌝ }
     requires { ⌜ is-signal x ≡ true ⌝ }
     requires { ⌜ is-signal y ≡ true ⌝ }
     ensures { λ r. ⌜ r ≡ output p now x y before ⌝ }

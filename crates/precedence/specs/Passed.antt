@@ -18,7 +18,7 @@ use Rattle.machine.specs.Table.{ordered, part-order}
 use Rattle.laws.specs.Bools.{either}
 use Rattle.placing.specs.declared.Direct.{Direct}
 use Rattle.placing.specs.Direct.{direct-of, no-sources}
-use Rattle.precedence.specs.Turns.{InTurn, accepted, refused}
+use Rattle.precedence.specs.PlacesInTurn.{InTurn, accepted, refused}
 use Rattle.precedence.specs.Times.{PlacedAfter, none-placed, one-placed, ready-after, ready-by}
 use Rattle.precedence.specs.Links.{Link, Links, WalkedBack, links-more}
 

@@ -20,7 +20,7 @@ use Rattle.laws.specs.Marks.{cleared, clear-set, length-cleared}
 use Rattle.laws.specs.Numbers.{not-ltb, and-leb}
 use Rattle.placing.specs.declared.Direct.{Direct}
 use Rattle.placing.specs.Direct.{both-placed}
-use Rattle.precedence.specs.Turns.{marks-at, marks-next}
+use Rattle.precedence.specs.PlacesInTurn.{marks-at, marks-next}
 
 -- how many of n parts are placed once a source is, by the numbers of the parts; a source that is no part's is placed from the beginning
 unfoldable pub source-after : List ℕ → ℕ → Source → ℕ

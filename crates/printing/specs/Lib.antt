@@ -1,2 +1,2 @@
 -- Laws of what `rehearse` prints.
-pub mod Fuel
+pub mod LineFuel

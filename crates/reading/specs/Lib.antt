@@ -1,8 +1,8 @@
 -- What the reading of a table's commands comes to.
 pub mod Progress
-pub mod Made
+pub mod ComponentMade
 pub mod Rows
-pub mod Steps
+pub mod CommandSteps
 pub mod Wired
 pub mod Spanned
 pub mod Beside

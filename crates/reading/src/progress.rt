@@ -15,7 +15,7 @@ ghost use mathlib.Core.List.{List};
 ghost use Rattle.machine.specs.Load.{begun-with, wire-refusal, with-part, with-wire};
 ghost use Rattle.reading.specs.Progress.{reading-of};
 ghost use Rattle.reading.specs.Wired.{wired-reading};
-ghost use Rattle.reading.specs.Made.{component-of, made-component};
+ghost use Rattle.reading.specs.ComponentMade.{component-of, made-component};
 
 // The number of a wire that names an unknown part.
 const UNKNOWN_PART: u64 = 7;

@@ -19,7 +19,7 @@ use Rattle.machine.specs.Score.{score-command, score-at}
 use Rattle.machine.specs.Load.{byte-at}
 use Rattle.machine.specs.Rehearse.{answer-line, refused-at-line, lines-from, loaded-lines}
 use Rattle.laws.specs.Bools.{cond-cases}
-use Rattle.printing.specs.Fuel.{score-later, lines-enough}
+use Rattle.printing.specs.LineFuel.{score-later, lines-enough}
 use Rattle.writing.specs.declared.written.Written.{Written}
 use Rattle.writing.specs.Put.{Put}
 use Rattle.writing.specs.Written.{WrittenAs}

@@ -1,9 +1,9 @@
 // The longest step of at most h that a part accepts.
 //
-// Its contracts cite `machine`'s `specs/Accept.antt`, and this crate's `specs/Asked.antt`.
+// Its contracts cite `machine`'s `specs/Accept.antt`, and this crate's `specs/Askable.antt`.
+use crate::drive_spans::allowed;
+use crate::drive_spans::largest_below;
 use crate::due::due_of;
-use crate::span::allowed;
-use crate::span::largest_below;
 use machine::part::Kind;
 use machine::part::Part;
 use machine::signal::Signal;
@@ -16,7 +16,7 @@ ghost use Prim.Native.Nat.{_+_, _-_, _*_, _≤_, _<_, min};
 ghost use Rattle.machine.specs.Time.{last-tick, tick};
 ghost use Rattle.machine.specs.Model.{trimmed-part};
 ghost use Rattle.machine.specs.Accept.{driving, last-adding, longest, longest-as, next-multiple};
-ghost use Rattle.replies.specs.Asked.{AskFits};
+ghost use Rattle.replies.specs.Askable.{AskFits};
 
 // The longest step of at most `h` from the tick `t` up to the next multiple of the period.
 fn up_to_multiple(period: Ticks, t: Ticks, h: Ticks) -> Ticks

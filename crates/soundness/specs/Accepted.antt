@@ -16,10 +16,10 @@ use Rattle.machine.specs.Load.{is-drive, byte-at, word-at, Reading, nothing-rea
 use Rattle.machine.specs.Sound.{table-fits}
 use Rattle.laws.specs.Last.{length-added, last-of-added, last-of-set}
 use Rattle.laws.specs.Alls.{all-set, all-added, all-give}
-use Rattle.laws.specs.Lists.{all-at}
+use Rattle.laws.specs.ListLaws.{all-at}
 use Rattle.soundness.specs.Facts.{ComponentFits, table-test}
-use Rattle.soundness.specs.Turns.{open-component, turn-cases}
-use Rattle.soundness.specs.Passed.{begin-passed, part-passed, wire-passed, end-passed, component-more, part-fits, span-fits, wire-fits}
+use Rattle.soundness.specs.ReadTurns.{open-component, turn-cases}
+use Rattle.soundness.specs.CommandsPassed.{begin-passed, part-passed, wire-passed, end-passed, component-more, part-read-fits, span-fits, wire-fits}
 
 -- what reading keeps
 pub record Readable (rd : Reading) : Type 0 where
@@ -66,7 +66,7 @@ kept-part bs at rd k h =
           rw (length-added cs c)
           (all-added (ComponentFits (suc (length cs))) cs c
           (all-give (ComponentFits (length cs)) (ComponentFits (suc (length cs))) cs (component-more (length cs)) (k .components))
-          (part-fits (suc (length cs)) bs at preference operands));
+          (part-read-fits (suc (length cs)) bs at preference operands));
       drive = λ s. (omega arith, ap (λ (d : Component). is-drive (d .kind)) (last-of-added cs c blank-component) ∙ s);
     }
 

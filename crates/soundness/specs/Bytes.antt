@@ -22,12 +22,12 @@ use Rattle.machine.specs.Load.{wire-byte, end-byte, is-drive, source-of, wired,
 use Rattle.machine.specs.Sound.{source-fits, spans-rise, table-fits}
 use Rattle.laws.specs.Last.{length-added, last-of-added}
 use Rattle.soundness.specs.Facts.{ComponentFits, TableFits, table-facts}
-use Rattle.soundness.specs.Fresh.{fresh-table}
+use Rattle.soundness.specs.FreshSound.{fresh-table}
 use Rattle.soundness.specs.Accepted.{load-fits}
 use Rattle.soundness.specs.Octets.{Octet, table-octets}
 use Rattle.soundness.specs.Seams.{further, read-all}
 use Rattle.soundness.specs.Commands.{so-far, shaped, reads-begin, reads-part, reads-span, reads-wire, reads-end}
-unfoldable pub use Rattle.soundness.specs.Written.{word-bytes, signed-word, part-bytes, spans-bytes, parts-bytes, port-bytes, wires-bytes, table-bytes}
+unfoldable pub use Rattle.soundness.specs.TableBytes.{operand-bytes, signed-operand, part-bytes, spans-bytes, parts-bytes, port-bytes, wires-bytes, table-bytes}
 
 -- a component as the parts' sweep leaves it
 abbrev unwired : Component → Component
@@ -61,7 +61,7 @@ module _ (bs : List ℕ) (e : ℕ) (r : Loaded) where
       length before + length vs ≤ cond d most-spans 0 → spans-rise (getD before (length before - 1) 0) vs ≡ true →
       ((next : ℕ) → drop next bs ≡ rest → read-all bs next (so-far d e (cs ++ (shaped c (before ++ vs) Unwired Unwired ∷ []))) ≡ r) →
       read-all bs at (so-far d e (cs ++ (shaped c before Unwired Unwired ∷ []))) ≡ r
-  unfolding spans-bytes spans-rise word-bytes
+  unfolding spans-bytes spans-rise operand-bytes
   reads-spans d cs c before [] at rest h room rise then = rw append-nil at (then at h)
   reads-spans true cs c before (v ∷ vs) at rest h room rise then =
       let ((above, most), more) = simp and-eq-true-iff at rise in
@@ -77,7 +77,7 @@ module _ (bs : List ℕ) (e : ℕ) (r : Loaded) where
       length done + length cs ≤ most-parts →
       ((next : ℕ) (s : Bool) → drop next bs ≡ rest → read-all bs next (so-far s e (done ++ map unwired cs)) ≡ r) →
       read-all bs at (so-far s e done) ≡ r
-  unfolding parts-bytes part-bytes word-bytes
+  unfolding parts-bytes part-bytes operand-bytes
   reads-parts n s done [] at rest h fit room then = rw append-nil at (then at s h)
   reads-parts n s done (c ∷ cs) at rest h fit room then =
       let f = fit .0 in

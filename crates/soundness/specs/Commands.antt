@@ -17,8 +17,8 @@ use Rattle.machine.specs.Table.{Table}
 use Rattle.machine.specs.Load.{begin-byte, part-byte, span-byte, wire-byte, end-byte, known-command, command-width, preference-known, is-drive, Reading, nothing-read, in-place, onward, ended, begin-refusal, begun-with, part-read, part-refusal, with-part, last-part, last-span, with-span, span-refusal, with-component, source-of, wired, with-wire, wire-refusal, end-refusal, accepted, begin-command, part-command, span-command, wire-command, end-command, whole-command}
 use Rattle.laws.specs.Last.{length-added, last-of-added, set-last-of-added}
 use Rattle.soundness.specs.Facts.{operand-values, operand-small}
-use Rattle.soundness.specs.Written.{word-bytes, signed-word, part-bytes}
-use Rattle.soundness.specs.Seams.{kind-back, signed-back, further, byte-there, word-there, turn-there, read-all, after-turn}
+use Rattle.soundness.specs.TableBytes.{operand-bytes, signed-operand, part-bytes}
+use Rattle.soundness.specs.Seams.{kind-back, operand-back, further, byte-there, word-there, turn-there, read-all, after-turn}
 
 -- the reading of a table once begun, with the components given
 abbrev pub so-far : Bool → ℕ → List Component → Reading
@@ -53,18 +53,18 @@ module _ (bs : List ℕ) where
   part-back :
       (at : ℕ) (c : Component) (rest : List ℕ) → drop at bs ≡ part-bytes c ++ rest → operands-fit (c .kind) (c .a) (c .b) (c .p) ≡ true →
       part-read bs at ≡ shaped c [] Unwired Unwired
-  unfolding part-read part-bytes word-bytes
+  unfolding part-read part-bytes operand-bytes
   part-back at c rest h fit =
       let l = part-bytes c ++ rest in
       let (a, b) = operand-values (c .kind) (c .a) (c .b) (c .p) fit in
       let small = operand-small (c .kind) (c .a) (c .b) (c .p) fit in
-      let (a-small, a-back) = signed-back (c .a) a in
-      let (b-small, b-back) = signed-back (c .b) b in
+      let (a-small, a-back) = operand-back (c .a) a in
+      let (b-small, b-back) = operand-back (c .b) b in
       rw (
         byte-there bs at 1 l h,
         byte-there bs at 2 l h,
-        word-there bs (at + 3) (signed-word (c .a)) (word-bytes (signed-word (c .b)) ++ (word-bytes (c .p) ++ rest)) (further bs at 3 l h) a-small,
-        word-there bs (at + 7) (signed-word (c .b)) (word-bytes (c .p) ++ rest) (further bs at 7 l h) b-small,
+        word-there bs (at + 3) (signed-operand (c .a)) (operand-bytes (signed-operand (c .b)) ++ (operand-bytes (c .p) ++ rest)) (further bs at 3 l h) a-small,
+        word-there bs (at + 7) (signed-operand (c .b)) (operand-bytes (c .p) ++ rest) (further bs at 7 l h) b-small,
         word-there bs (at + 11) (c .p) rest (further bs at 11 l h) (omega arith),
         kind-back (c .kind) .1,
         a-back,
@@ -76,7 +76,7 @@ module _ (bs : List ℕ) where
       (at : ℕ) (c : Component) (rest : List ℕ) (spannable : Bool) (e : ℕ) (cs : List Component) → drop at bs ≡ part-bytes c ++ rest →
       preference-known (c .preference) ≡ true → operands-fit (c .kind) (c .a) (c .b) (c .p) ≡ true → length cs < most-parts →
       read-all bs at (so-far spannable e cs) ≡ read-all bs (at + 15) (so-far (is-drive (c .kind)) e (cs ++ (shaped c [] Unwired Unwired ∷ [])))
-  unfolding in-place known-command command-width whole-command part-command part-refusal with-part part-bytes word-bytes
+  unfolding in-place known-command command-width whole-command part-command part-refusal with-part part-bytes operand-bytes
   reads-part at c rest spannable e cs h preference fit room =
       after-turn bs at (so-far spannable e cs) (onward (at + 15) (so-far (is-drive (c .kind)) e (cs ++ (shaped c [] Unwired Unwired ∷ []))))
       (turn-there bs at part-byte (drop 1 (part-bytes c ++ rest)) (so-far spannable e cs) h refl refl (omega arith) ∙
@@ -91,21 +91,21 @@ module _ (bs : List ℕ) where
 
   -- a Span is read, behind a part that was read with the spans vs
   pub reads-span :
-      (at v : ℕ) (rest : List ℕ) (e : ℕ) (cs : List Component) (c : Component) (vs : List ℕ) → drop at bs ≡ span-byte ∷ (word-bytes v ++ rest) →
+      (at v : ℕ) (rest : List ℕ) (e : ℕ) (cs : List Component) (c : Component) (vs : List ℕ) → drop at bs ≡ span-byte ∷ (operand-bytes v ++ rest) →
       length vs < most-spans → getD vs (length vs - 1) 0 < v → v ≤ 1_000_000_000 →
       read-all bs at (so-far true e (cs ++ (shaped c vs Unwired Unwired ∷ []))) ≡
       read-all bs (at + 5) (so-far true e (cs ++ (shaped c (vs ++ (v ∷ [])) Unwired Unwired ∷ [])))
   unfolding in-place known-command command-width whole-command span-command span-refusal last-part last-span with-span with-component is-positive
-      word-bytes
+      operand-bytes
   reads-span at v rest e cs c vs h room above most =
       let x = shaped c vs Unwired Unwired in
       let l = cs ++ (x ∷ []) in
       let count : length vs + 1 ≡ length (vs ++ (v ∷ [])) = omega (arith, length-added vs v) in
       after-turn bs at (so-far true e l) (onward (at + 5) (so-far true e (cs ++ (shaped c (vs ++ (v ∷ [])) Unwired Unwired ∷ []))))
-      (turn-there bs at span-byte (word-bytes v ++ rest) (so-far true e l) h refl refl (omega arith) ∙
+      (turn-there bs at span-byte (operand-bytes v ++ rest) (so-far true e l) h refl refl (omega arith) ∙
       rw (
         last-of-added cs x blank-component,
-        word-there bs (at + 1) v rest (further bs at 1 (span-byte ∷ (word-bytes v ++ rest)) h) (omega arith),
+        word-there bs (at + 1) v rest (further bs at 1 (span-byte ∷ (operand-bytes v ++ rest)) h) (omega arith),
         lt-leb most-spans (length vs) room,
         le-leb 1 v (omega arith),
         le-leb v 1_000_000_000 most,

@@ -22,7 +22,7 @@ use Rattle.machine.specs.Table.{Table, table-of, ratios, periods-fit, part-orde
 use Rattle.machine.specs.Load.{preference-known, is-drive}
 use Rattle.machine.specs.Sound.{source-fits, spans-rise, spans-fit, component-fits, table-fits, state-fits, sound}
 use Rattle.laws.specs.Alls.{every-all, all-every}
-use Rattle.laws.specs.Lists.{same-equal, equal-same}
+use Rattle.laws.specs.ListLaws.{same-equal, equal-same}
 
 -- an operand that is a value where it is named and 0 where it is not is a value
 operand-value : (named : Bool) (v : ℤ) → cond named (is-value v) (is-zero v) ≡ true → is-value v ≡ true

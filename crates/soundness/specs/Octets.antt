@@ -22,7 +22,7 @@ use Rattle.machine.specs.Sound.{source-fits, table-fits}
 use Rattle.laws.specs.Bools.{and-right, or-cases}
 use Rattle.laws.specs.Alls.{all-append}
 use Rattle.soundness.specs.Facts.{ComponentFits, table-facts}
-use Rattle.soundness.specs.Written.{word-bytes, signed-word, part-bytes, spans-bytes, parts-bytes, port-bytes, wires-bytes, table-bytes}
+use Rattle.soundness.specs.TableBytes.{operand-bytes, signed-operand, part-bytes, spans-bytes, parts-bytes, port-bytes, wires-bytes, table-bytes}
 use Rattle.soundness.specs.Seams.{kind-back}
 
 -- a number that fits a byte
@@ -30,8 +30,8 @@ abbrev pub Octet : ℕ → Type 0
 Octet b = b < 256
 
 -- the four bytes of a number
-word-octets : (v : ℕ) → All Octet (word-bytes v)
-unfolding word-bytes
+word-octets : (v : ℕ) → All Octet (operand-bytes v)
+unfolding operand-bytes
 word-octets v = (omega arith, (omega arith, (omega arith, (omega arith, tt))))
 
 -- the number of a kind
@@ -54,17 +54,17 @@ preference-octet q h =
 part-octets : (n : ℕ) (c : Component) → ComponentFits n c → All Octet (part-bytes c)
 unfolding part-bytes
 part-octets n c fits =
-    let a = word-bytes (signed-word (c .a)) in
-    let b = word-bytes (signed-word (c .b)) in
+    let a = operand-bytes (signed-operand (c .a)) in
+    let b = operand-bytes (signed-operand (c .b)) in
     let operands =
-    all-append Octet a (b ++ word-bytes (c .p)) (word-octets (signed-word (c .a)))
-    (all-append Octet b (word-bytes (c .p)) (word-octets (signed-word (c .b))) (word-octets (c .p))) in
+    all-append Octet a (b ++ operand-bytes (c .p)) (word-octets (signed-operand (c .a)))
+    (all-append Octet b (operand-bytes (c .p)) (word-octets (signed-operand (c .b))) (word-octets (c .p))) in
     (omega arith, (kind-octet (c .kind), (preference-octet (c .preference) (fits .preference), operands)))
 
 spans-octets : (vs : List ℕ) → All Octet (spans-bytes vs)
 unfolding spans-bytes
 spans-octets [] = tt
-spans-octets (v ∷ vs) = (omega arith, all-append Octet (word-bytes v) (spans-bytes vs) (word-octets v) (spans-octets vs))
+spans-octets (v ∷ vs) = (omega arith, all-append Octet (operand-bytes v) (spans-bytes vs) (word-octets v) (spans-octets vs))
 
 parts-octets : (n : ℕ) (cs : List Component) → All (ComponentFits n) cs → All Octet (parts-bytes cs)
 unfolding parts-bytes

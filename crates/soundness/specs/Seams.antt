@@ -16,8 +16,8 @@ use Rattle.machine.specs.declared.model.Loaded.{Loaded}
 use Rattle.machine.specs.Signal.{is-value, largest-value}
 use Rattle.machine.specs.Kind.{kind-number, kind-known, kind-of}
 use Rattle.machine.specs.Load.{known-command, command-width, byte-at, word-at, signed, Reading, in-place, Read, whole-command, command-read, read-turn, read-on, read-from}
-use Rattle.soundness.specs.Fuel.{read-unrolled}
-use Rattle.soundness.specs.Written.{word-bytes, signed-word}
+use Rattle.soundness.specs.ReadFuel.{read-unrolled}
+use Rattle.soundness.specs.TableBytes.{operand-bytes, signed-operand}
 
 -- a kind is the one that its number was written for
 pub kind-back : (k : Kind) → (kind-known (kind-number k) ≡ true) × (kind-of (kind-number k) ≡ k)
@@ -36,12 +36,12 @@ kind-back Sampler = (refl, refl)
 kind-back Drive = (refl, refl)
 
 -- a signed word is the number that it was written for
-pub signed-back : (z : ℤ) → is-value z ≡ true → (signed-word z < 4294967296) × (signed (signed-word z) ≡ z)
-unfolding is-value signed signed-word
-signed-back (pos n) h =
+pub operand-back : (z : ℤ) → is-value z ≡ true → (signed-operand z < 4294967296) × (signed (signed-operand z) ≡ z)
+unfolding is-value signed signed-operand
+operand-back (pos n) h =
     let small = leb-true n largest-value h in
     (omega arith, rw (lt-ltb n 2147483648 (omega arith)))
-signed-back (negsuc n) h =
+operand-back (negsuc n) h =
     let small = leb-true (suc n) largest-value h in
     let back : 4294967296 - suc (4294967295 - n) ≡ n = omega arith in
     (omega arith, rw (le-ltb (4294967295 - n) 2147483648 (omega arith), back))
@@ -61,14 +61,14 @@ module _ (bs : List ℕ) where
   byte-here at l e = rw add-zero at (byte-there at 0 l e)
 
   -- a word that was written is read
-  pub word-there : (at v : ℕ) (rest : List ℕ) → drop at bs ≡ word-bytes v ++ rest → v < 4294967296 → word-at bs at ≡ v
-  unfolding word-at word-bytes
+  pub word-there : (at v : ℕ) (rest : List ℕ) → drop at bs ≡ operand-bytes v ++ rest → v < 4294967296 → word-at bs at ≡ v
+  unfolding word-at operand-bytes
   word-there at v rest e small =
       rw (
-        byte-here at (word-bytes v ++ rest) e,
-        byte-there at 1 (word-bytes v ++ rest) e,
-        byte-there at 2 (word-bytes v ++ rest) e,
-        byte-there at 3 (word-bytes v ++ rest) e,
+        byte-here at (operand-bytes v ++ rest) e,
+        byte-there at 1 (operand-bytes v ++ rest) e,
+        byte-there at 2 (operand-bytes v ++ rest) e,
+        byte-there at 3 (operand-bytes v ++ rest) e,
       )
       (omega arith)
 

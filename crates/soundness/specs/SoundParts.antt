@@ -12,7 +12,7 @@ use Rattle.machine.specs.Signal.{is-signal}
 use Rattle.machine.specs.Model.{blank-component, blank-part, part-at}
 use Rattle.machine.specs.Table.{table-of, component-at, component-ratio, ratios}
 use Rattle.machine.specs.Sound.{sound}
-use Rattle.laws.specs.Lists.{all-at, getD-map-in}
+use Rattle.laws.specs.ListLaws.{all-at, getD-map-in}
 use Rattle.soundness.specs.Facts.{ComponentFits, table-facts, StateFits, sound-facts}
 
 -- the point of a sound model is in range

@@ -22,8 +22,8 @@ use Rattle.laws.specs.Numbers.{div-grows}
 use Rattle.laws.specs.Alls.{map-kept, length-same-map, all-map}
 use Rattle.laws.specs.Bools.{cond-cases}
 use Rattle.soundness.specs.Facts.{operand-values, ComponentFits, table-facts, StateFits, sound-facts, sound-test}
-use Rattle.soundness.specs.Ranges.{InRange, all-moved-in-range}
-use Rattle.soundness.specs.Kept.{Core, core, Counted, finished-kept, finished-states}
+use Rattle.soundness.specs.RangesKept.{InRange, all-moved-in-range}
+use Rattle.soundness.specs.CoreKept.{Core, core, Counted, finished-kept, finished-states}
 
 -- a step of h leads h ticks on
 pub led-tick : (p : Point) (h : ℕ) → tick (led-to p h) ≡ tick p + h

@@ -15,9 +15,9 @@ use Rattle.machine.specs.Time.{last-tick}
 use Rattle.machine.specs.Kind.{period}
 use Rattle.machine.specs.Model.{most-parts, blank-part, part-at, with-parts, reading, trimmed, trimmed-part, trimmed-component}
 use Rattle.laws.specs.Alls.{all-same-map, length-same-map}
-use Rattle.laws.specs.Lists.{all-at}
+use Rattle.laws.specs.ListLaws.{all-at}
 use Rattle.laws.specs.Partway.{mapped-places}
-use Rattle.soundness.specs.Ranges.{InRange}
+use Rattle.soundness.specs.RangesKept.{InRange}
 use Rattle.steps.specs.Reading.{SourceBelow, WiredBelow, source-index, index-below, part-trimmed, reading-trimmed}
 use Rattle.steps.specs.Trimmed.{Changed}
 

@@ -32,7 +32,7 @@ abbrev pub changed-to : (Signal → Part → Part) → Model → ℕ → List Pa
 changed-to g m i = partway (by-reading g (trimmed m .parts)) i (trimmed m .parts)
 
 -- a turn of a loop that changes the parts of m by g, at the place i of the model `next` that it holds: what it asks, and what it comes to
-pub record Turn (g : Signal → Part → Part) (m next : Model) (i : ℕ) : Type 0 where
+pub record LoopTurn (g : Signal → Part → Part) (m next : Model) (i : ℕ) : Type 0 where
   pub within : i < m .count
   pub inside : i < length (trimmed m .parts)
   -- the place, and the one that port 0 is wired to, are places of the array
@@ -89,7 +89,7 @@ module _
       (partway-kept (by-reading g ps) (λ (p : Part). p .state .output) i ps (λ p. in-place .output (reading0 ps p) p))) ∙
       ap (λ (p : Part). reading ps (p .component .port0)) next-part
 
-  pub turn : Turn g m next i
+  pub turn : LoopTurn g m next i
   unfolding trimmed
   turn =
       let ps = trimmed m .parts in

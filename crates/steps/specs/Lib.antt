@@ -2,11 +2,11 @@
 pub mod Reading
 pub mod Trimmed
 pub mod Fillable
-pub mod SoundParts
+pub mod WiredParts
 pub mod InPlace
 pub mod Moving
 pub mod Settling
-pub mod Filling
+pub mod FillingInOrder
 pub mod Showing
-pub mod Made
+pub mod StepMade
 pub mod Start

@@ -13,13 +13,13 @@ use Rattle.machine.specs.Model.{blank-part, part-at, reading0, trimmed-part, tr
 use Rattle.machine.specs.Step.{gain-of, moved, moved-held}
 use Rattle.machine.specs.Sound.{sound}
 use Rattle.laws.specs.Numbers.{div-grows, div-more}
-use Rattle.laws.specs.Lists.{all-at}
+use Rattle.laws.specs.ListLaws.{all-at}
 use Rattle.soundness.specs.Facts.{StateFits, sound-facts}
-use Rattle.soundness.specs.Ranges.{InRange, reading-signal}
+use Rattle.soundness.specs.RangesKept.{InRange, reading-signal}
 use Rattle.soundness.specs.Stepped.{in-range}
-use Rattle.point.specs.Ranges as point
+use Rattle.point.specs.PartRanges as point
 use Rattle.steps.specs.InPlace.{InPlace}
-use Rattle.steps.specs.SoundParts.{sound-periods}
+use Rattle.steps.specs.WiredParts.{sound-periods}
 
 -- moving keeps components and stored outputs, and reads nothing that trimming cuts away
 pub moving : (t h : ℕ) → InPlace (moved t h)
@@ -28,7 +28,7 @@ moving t h = record { component = λ x p. refl; output = λ x p. refl; unread = 
 
 -- what moving a part asks
 pub record Movable (t h : ℕ) (p : Part) : Type 0 where
-  pub ranges : point.InRange p
+  pub ranges : point.PartFits p
   pub fits : point.StepFits t h p
   pub gain : gain-of t h p ≤ 1_000_000_000
 

@@ -18,14 +18,14 @@ use Rattle.machine.specs.Kind.{period, output}
 use Rattle.machine.specs.Model.{most-parts, blank-part, part-at, with-parts, reading, reading0, reading1, trimmed, trimmed-part, trimmed-component}
 use Rattle.machine.specs.Step.{with-output, shown, filled}
 use Rattle.laws.specs.Alls.{all-same-map}
-use Rattle.laws.specs.Lists.{all-at}
-use Rattle.soundness.specs.Ranges.{InRange, reading-signal, filled-in-range}
-use Rattle.soundness.specs.Kept.{filled-kept}
-use Rattle.point.specs.Ranges as point
+use Rattle.laws.specs.ListLaws.{all-at}
+use Rattle.soundness.specs.RangesKept.{InRange, reading-signal, filled-in-range}
+use Rattle.soundness.specs.CoreKept.{filled-kept}
+use Rattle.point.specs.PartRanges as point
 use Rattle.steps.specs.Reading.{SourceBelow, source-index, heard, heard0, heard1}
 use Rattle.steps.specs.Trimmed.{Changed, changed-count, changed-more}
 use Rattle.steps.specs.Fillable.{Wired, Fillable, changed-wired, place-in-use, part-in-use, wired-at, source-place, source-place1, reading-in-use}
-use Rattle.steps.specs.Filling.{filled-next, shown-component, shown-trimmed}
+use Rattle.steps.specs.FillingInOrder.{filled-next, shown-component, shown-trimmed}
 
 -- the parts of `new`, trimmed, with the outputs of the first j numbers of its order filled; `old` stands at the point before
 abbrev pub partly : Model → Model → ℕ → List Part
@@ -37,7 +37,7 @@ pub record Showable (qs : List Part) (i k : ℕ) : Type 0 where
   pub number : k < most-parts
   pub source0 : source-index (part-at qs k .component .port0) < most-parts
   pub source1 : source-index (part-at qs k .component .port1) < most-parts
-  pub ranges : point.InRange (part-at qs k)
+  pub ranges : point.PartFits (part-at qs k)
   pub signal0 : is-signal (reading0 qs (part-at qs k)) ≡ true
   pub signal1 : is-signal (reading1 qs (part-at qs k)) ≡ true
 

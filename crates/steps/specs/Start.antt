@@ -21,14 +21,14 @@ use Rattle.machine.specs.Fresh.{first-part, first-parts, fresh}
 use Rattle.machine.specs.Sound.{table-fits}
 use Rattle.laws.specs.Alls.{all-map, every-all}
 use Rattle.soundness.specs.Facts.{ComponentFits, table-facts}
-use Rattle.soundness.specs.Ranges.{InRange}
-use Rattle.soundness.specs.Fresh.{first-in-range}
+use Rattle.soundness.specs.RangesKept.{InRange}
+use Rattle.soundness.specs.FreshSound.{first-in-range}
 use Rattle.ordering.specs.Order.{order-length}
 use Rattle.steps.specs.Reading.{WiredBelow}
 use Rattle.steps.specs.Trimmed.{Changed}
 use Rattle.steps.specs.Fillable.{Fillable}
-use Rattle.steps.specs.SoundParts.{component-wired}
-use Rattle.steps.specs.Made.{order-numbers}
+use Rattle.steps.specs.WiredParts.{component-wired}
+use Rattle.steps.specs.StepMade.{order-numbers}
 
 -- the model of a table before its start point is filled
 unfoldable pub unfilled : Table → Model

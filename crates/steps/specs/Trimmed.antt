@@ -10,7 +10,7 @@ use Rattle.machine.specs.declared.part.Part.{Part}
 use Rattle.machine.specs.declared.model.Model.{Model}
 use Rattle.machine.specs.Model.{blank-part, part-at, with-parts, trimmed-part, trimmed, spare-spans, SameUnused}
 use Rattle.laws.specs.Alls.{same-at}
-use Rattle.laws.specs.Lists.{map-set}
+use Rattle.laws.specs.ListLaws.{map-set}
 
 -- the model r is m with the parts ps, in the places in use; the others are as in m
 pub record Changed (m : Model) (ps : List Part) (r : Model) : Type 0 where

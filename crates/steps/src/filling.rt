@@ -1,8 +1,8 @@
 // The outputs of a point, filled in part order.
 //
 // Its contract cites `machine`'s `specs/Step.antt`, and this crate's `specs/Trimmed.antt` and `specs/Fillable.antt`.
-use crate::port::heard_of;
-use crate::port::source_index;
+use crate::heard::heard_of;
+use crate::heard::source_index;
 use machine::model::Model;
 use point::change::with_output;
 use point::output::output_of;

@@ -2,8 +2,8 @@
 // settled, and the step that these make; and the start point filled. The contracts cite
 // definitions of `machine` and of this crate's `specs/`.
 mod filling;
+pub mod heard;
 mod moving;
-pub mod port;
 mod settling;
 pub mod start;
 pub mod step;

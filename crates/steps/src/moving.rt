@@ -1,8 +1,8 @@
 // Every part of a model moved by a step.
 //
 // Its contract cites `machine`'s `specs/Step.antt`, and this crate's `specs/Trimmed.antt`.
-use crate::port::heard_of;
-use crate::port::source_index;
+use crate::heard::heard_of;
+use crate::heard::source_index;
 use machine::model::Model;
 use machine::time::Ticks;
 use point::change::moved_part;

@@ -3,8 +3,8 @@
 // Its contracts cite `machine`'s `specs/Step.antt`, and this crate's `specs/Trimmed.antt`, `specs/Fillable.antt` and
 // `specs/Settling.antt`.
 use crate::filling::filled_model;
-use crate::port::heard_of;
-use crate::port::source_index;
+use crate::heard::heard_of;
+use crate::heard::source_index;
 use machine::model::Model;
 use machine::part::Kind;
 use point::change::settled_part;

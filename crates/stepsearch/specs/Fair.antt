@@ -4,7 +4,7 @@ use Prim.Native.Nat.{ℕ, _≤_, _<_}
 use mathlib.Core.Path.{_≡_}
 use mathlib.Core.Logic.{_⊎_}
 use Rattle.machine.specs.Advance.{Turn, Lower, Halve, Commit, Refuse}
-use Rattle.stepsearch.specs.Fuel.{Falls}
+use Rattle.stepsearch.specs.SearchFuel.{Falls}
 
 -- such a turn is fair
 pub record Fair (turn : ℕ → Turn) (ok : ℕ → Type 0) (potential : ℕ → ℕ) (most : ℕ) : Type 0 where

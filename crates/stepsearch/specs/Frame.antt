@@ -10,7 +10,7 @@ use Rattle.machine.specs.declared.model.Model.{Model}
 use Rattle.machine.specs.Model.{part-at, blank-part}
 use Rattle.machine.specs.Step.{moved, step-made}
 use Rattle.laws.specs.Alls.{length-same-map, same-at}
-use Rattle.soundness.specs.Kept.{Core}
+use Rattle.soundness.specs.CoreKept.{Core}
 use Rattle.soundness.specs.Stepped.{step-kept}
 
 -- what a step changes nothing of: a part's component and its ratio

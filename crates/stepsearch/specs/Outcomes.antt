@@ -15,7 +15,7 @@ use Rattle.machine.specs.Advance.{Outcome, turn, searched, longest-wanted, barr
 use Rattle.machine.specs.WholeList.{AllAccept, counts-of, most-rounds, most-revisions}
 use Rattle.laws.specs.Bools.{and-left, and-right, cond-true, cond-false, cond-cases}
 use Rattle.stepsearch.specs.Found.{Found, found}
-use Rattle.stepsearch.specs.Turns.{RoundOwes, turn-fair}
+use Rattle.stepsearch.specs.SearchTurns.{RoundOwes, turn-fair}
 
 -- what holds of a call that nothing bars
 pub record NotBarred (m : Model) (w : ℕ) : Type 0 where

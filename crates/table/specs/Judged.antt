@@ -14,25 +14,25 @@ use Rattle.machine.specs.Model.{blank-component}
 use Rattle.machine.specs.Table.{component-at}
 use Rattle.machine.specs.Load.{Reading, Read, onward, ended, refused, unless-refused, byte-at, word-at, known-command, last-part, span-refusal, span-command, command-width, whole-command, read-turn}
 use Rattle.laws.specs.Bools.{either}
-use Rattle.laws.specs.Lists.{all-at}
+use Rattle.laws.specs.ListLaws.{all-at}
 use Rattle.soundness.specs.Facts.{ComponentFits}
 use Rattle.soundness.specs.Accepted.{Readable}
 use Rattle.reading.specs.declared.progress.Progress.{Progress}
 use Rattle.reading.specs.Progress.{reading-of}
-use Rattle.operands.specs.Refusals.{command-number, placed}
+use Rattle.operands.specs.Refusals.{command-number, in-its-place}
 use Rattle.operands.specs.Tests.{room-left}
 use Rattle.reading.specs.Rows.{length-reading}
 use Rattle.reading.specs.Spanned.{last-place}
 use Rattle.table.specs.declared.turn.TurnRead.{TurnRead}
 use Rattle.table.specs.Concluded.{end-loaded}
 use Rattle.table.specs.Turning.{Room, Spannable, rows-behind, sized-command}
-use Rattle.table.specs.Turned.{Placed, turn-of}
-use Rattle.table.specs.Kept.{counts-as}
+use Rattle.table.specs.Turned.{PlacedTurn, turn-of}
+use Rattle.table.specs.SpansKept.{counts-as}
 use Rattle.table.specs.Stands.{turn-judged}
 
 -- a command that is known and in place is one of a table's
 pub command-byte : (begun spannable : Bool) (b : ℕ) → command-number begun spannable b ≡ 0 → (0 < b) × (b ≤ 5)
-unfolding command-number placed known-command
+unfolding command-number in-its-place known-command
 command-byte begun spannable b h = by-tests (either (known-command b)) (either (eqb b 6))
   where
     by-tests : (known-command b ≡ true) ⊎ (known-command b ≡ false) → (eqb b 6 ≡ true) ⊎ (eqb b 6 ≡ false) → (0 < b) × (b ≤ 5)
@@ -47,12 +47,12 @@ command-byte begun spannable b h = by-tests (either (known-command b)) (either (
 
 -- End is known and in place once Begin was read
 pub end-in-place : (begun spannable : Bool) (b : ℕ) → b ≡ 5 → begun ≡ true → command-number begun spannable b ≡ 0
-unfolding command-number placed known-command
+unfolding command-number in-its-place known-command
 end-in-place begun spannable b e t = rw (e, t)
 
 -- and only then
 pub end-begun : (begun spannable : Bool) (b : ℕ) → b ≡ 5 → command-number begun spannable b ≡ 0 → begun ≡ true
-unfolding command-number placed known-command
+unfolding command-number in-its-place known-command
 end-begun true spannable b e none = refl
 end-begun false spannable b e none = absurd (omega (arith, rw e at none))
 
@@ -134,7 +134,7 @@ span-room bs at progress rows further then few kept some h =
 -- the place that a turn's Span asks for
 pub placed-room : (bs : List ℕ) (at : ℕ) (progress : Progress) (rows : List (List ℕ)) (b : ℕ) (r : TurnRead) →
     progress .count ≤ length (progress .parts) → Readable (reading-of progress rows) → (b ≡ 3 → Spannable progress) →
-    Placed bs at progress rows b r → r .number ≡ 0 → r .byte ≡ 3 → Room progress
+    PlacedTurn bs at progress rows b r → r .number ≡ 0 → r .byte ≡ 3 → Room progress
 placed-room bs at progress rows b r few kept asked p none e =
     let byte : b ≡ 3 = sym (p .byte) ∙ e in
     let other : r .byte ≡ 5 → ⊥ = λ five. omega arith in

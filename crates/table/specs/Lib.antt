@@ -3,6 +3,6 @@ pub mod Turning
 pub mod Concluded
 pub mod Turned
 pub mod Stands
-pub mod Kept
+pub mod SpansKept
 pub mod Judged
-pub mod Ending
+pub mod EndReached

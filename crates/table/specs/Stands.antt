@@ -10,8 +10,8 @@ use borrow.Author.Tests.{lt-ltb, le-ltb}
 use Rattle.machine.specs.declared.model.Loaded.{Loaded}
 use Rattle.machine.specs.Load.{Reading, Read, onward, ended, refused, nothing-read, byte-at, known-command, in-place, command-read, read-turn, read-on, read-from, load}
 use Rattle.soundness.specs.Accepted.{Readable, Keeps, kept-nothing, kept-turn}
-use Rattle.soundness.specs.Fuel.{Later, turn-later, read-unrolled}
-use Rattle.operands.specs.Refusals.{command-number, placed}
+use Rattle.soundness.specs.ReadFuel.{Later, turn-later, read-unrolled}
+use Rattle.operands.specs.Refusals.{command-number, in-its-place}
 use Rattle.table.specs.Concluded.{Reached, at-start, turned-on}
 use Rattle.table.specs.Turning.{sized-command}
 
@@ -57,7 +57,7 @@ pub turn-judged : (bs : List ℕ) (at : ℕ) (rd : Reading) → at < length bs �
     read-turn bs at rd ≡
     cond (eqb (command-number (rd .begun) (rd .spannable) (byte-at bs at)) 0) (sized-command bs at rd (byte-at bs at))
     (ended (refused (command-number (rd .begun) (rd .spannable) (byte-at bs at)) at))
-unfolding read-turn command-read command-number placed in-place sized-command
+unfolding read-turn command-read command-number in-its-place in-place sized-command
 turn-judged bs at rd here =
     rw (lt-ltb at (length bs) here)
     (by-tests (known-command (byte-at bs at)) (in-place rd (byte-at bs at)) (sized-command bs at rd (byte-at bs at)))

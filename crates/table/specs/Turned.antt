@@ -27,7 +27,7 @@ still-turn number position byte progress =
     record { number = number; position = position; byte = byte; span = 0; progress = progress }
 
 -- the answer to the command with byte b, which is known and in place. It is settled whole: a refusal and End move nothing, and only a Span has a span
-pub record Placed (bs : List ℕ) (at : ℕ) (progress : Progress) (rows : List (List ℕ)) (b : ℕ) (r : TurnRead) : Type 0 where
+pub record PlacedTurn (bs : List ℕ) (at : ℕ) (progress : Progress) (rows : List (List ℕ)) (b : ℕ) (r : TurnRead) : Type 0 where
   pub is : sized-command bs at (reading-of progress rows) b ≡ turn-of at progress rows r
   pub byte : r .byte ≡ b
   pub few : r .progress .count ≤ 32

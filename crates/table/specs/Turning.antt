@@ -6,10 +6,10 @@ use mathlib.Core.List.{List}
 use lib.ListN.{length}
 use lib.Dec.{eqb, leb}
 use Rattle.machine.specs.Load.{Read, Reading, ended, refused, command-width, whole-command, span-byte}
-use Rattle.reading.specs.declared.command.SpanStep.{SpanStep}
+use Rattle.reading.specs.declared.table_command.SpanStep.{SpanStep}
 use Rattle.reading.specs.declared.progress.Progress.{Progress}
 use Rattle.reading.specs.Spanned.{last-place, row-with, span-count}
-use Rattle.reading.specs.Steps.{SpanLeft}
+use Rattle.reading.specs.CommandSteps.{SpanLeft}
 
 -- there is a last part, and it counts its spans within its places
 pub record Spannable (progress : Progress) : Type 0 where

@@ -6,23 +6,23 @@ use operands::refusal::END_BYTE;
 use operands::refusal::PART_BYTE;
 use operands::refusal::SPAN_BYTE;
 use operands::refusal::command_refusal;
-use reading::command::SpanStep;
-use reading::command::begin;
-use reading::command::part;
-use reading::command::span;
-use reading::command::wire;
 use reading::progress::Progress;
 use reading::rows::last_span;
 use reading::rows::with_span;
+use reading::table_command::SpanStep;
+use reading::table_command::begin;
+use reading::table_command::part;
+use reading::table_command::span;
+use reading::table_command::wire;
 ghost use Prim.Native.Nat.{_<_, _≤_};
 ghost use mathlib.Core.Path.{_≡_};
 ghost use lib.ListN.{length};
 ghost use Rattle.machine.specs.Load.{span-command};
 ghost use Rattle.reading.specs.Progress.{reading-of};
 ghost use Rattle.reading.specs.Spanned.{last-place, row-with, span-count};
-ghost use Rattle.reading.specs.Steps.{SpanLeft, step-of, uncut};
+ghost use Rattle.reading.specs.CommandSteps.{SpanLeft, step-of, uncut};
 ghost use Rattle.soundness.specs.Accepted.{Readable};
-ghost use Rattle.table.specs.Turned.{Placed, Turned};
+ghost use Rattle.table.specs.Turned.{PlacedTurn, Turned};
 ghost use Rattle.table.specs.Turning.{CommandLeft, Room, Spannable, rows-behind, sized-command};
 
 // The Span at a position, behind the progress and its rows.
@@ -102,7 +102,7 @@ pub struct TurnRead {
 // The turn of the command with byte b, which is known and in place.
 fn placed(s: &[u8], at: usize, progress: Progress, rows: [[u32; SPANS]; PARTS], b: u8) -> TurnRead
     requires { ⌜ (at < length (now s)) × (progress .count ≤ 32) × (0 < b) × (b ≤ 5) × (b ≡ 3 → Spannable progress) ⌝ }
-    ensures { λ r. ⌜ Placed (now (s .entry)) at progress rows b r ⌝ }
+    ensures { λ r. ⌜ PlacedTurn (now (s .entry)) at progress rows b r ⌝ }
 {
     if b == END_BYTE {
         return TurnRead {

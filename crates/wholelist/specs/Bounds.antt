@@ -22,9 +22,9 @@ use Rattle.machine.specs.WholeList.{most-rounds, most-revisions}
 use Rattle.laws.specs.Bools.{cond-cases}
 use Rattle.soundness.specs.SoundParts.{sound-time, sound-output}
 use Rattle.soundness.specs.Stepped.{step-sound}
-use Rattle.stepsearch.specs.Turns.{turn-told}
+use Rattle.stepsearch.specs.SearchTurns.{turn-told}
 use Rattle.stepsearch.specs.Outcomes.{not-barred, outcome-barred, outcome-found}
-use Rattle.wholelist.specs.Owed.{round-owes, every-outcome}
+use Rattle.wholelist.specs.RoundsOwed.{round-owes, every-outcome}
 
 -- the bounds of an answer to a model of so many parts: its number and counts, and its model's point and outputs
 pub record AnswerBounds (parts : ℕ) (r : Answer) : Type 0 where

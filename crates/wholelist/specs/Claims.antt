@@ -22,8 +22,8 @@ use Rattle.machine.specs.WholeList.{OfCall, WholeList}
 use Rattle.laws.specs.Bools.{either}
 use Rattle.soundness.specs.SoundParts.{sound-local}
 use Rattle.wholelist.specs.Points.{points-after}
-use Rattle.wholelist.specs.Steps.{AllAccepted, steps-tick, steps-reached, steps-passed}
-use Rattle.wholelist.specs.Owed.{of-call}
+use Rattle.wholelist.specs.StepsAlone.{AllAccepted, steps-tick, steps-reached, steps-passed}
+use Rattle.wholelist.specs.RoundsOwed.{of-call}
 use Rattle.wholelist.specs.Bounds.{call-sound}
 
 -- a committed call makes its step

@@ -16,7 +16,7 @@ use Rattle.machine.specs.Sound.{sound}
 use Rattle.machine.specs.Calls.{Call, Chain, last-model, committed}
 use Rattle.machine.specs.WholeList.{sum, WholeList}
 use Rattle.soundness.specs.Accepted.{load-fits}
-use Rattle.soundness.specs.Fresh.{fresh-start, fresh-local, fresh-sound}
+use Rattle.soundness.specs.FreshSound.{fresh-start, fresh-local, fresh-sound}
 use Rattle.wholelist.specs.Claims.{whole-list-from}
 
 -- what a model is that was just loaded: sound, at the start point, with local counts 0

@@ -15,7 +15,7 @@ use Rattle.machine.specs.Table.{table-of, magnitude-of}
 use Rattle.machine.specs.Sound.{sound}
 use Rattle.placing.specs.declared.Direct.{Direct}
 use Rattle.placing.specs.Direct.{direct-of}
-use Rattle.inspection.specs.Trimmed.{components-trimmed}
+use Rattle.inspection.specs.TrimmedPlaces.{components-trimmed}
 use Rattle.inspection.specs.Whole.{order-holds, parts-hold, magnitude-holds, tests-by, magnitude-by, parts-by, passed, failed, sound-trimmed, unsound-none, unsound-many}
 use Rattle.inspection.proofs.is_sound.Statement.{statement}
 use Rattle.inspection.proofs.is_sound.Tie as tie

@@ -7,7 +7,7 @@ use lib.ListN.{length}
 use Rattle.machine.specs.Load.{load}
 use Rattle.table.specs.declared.table.TableRead.{TableRead}
 use Rattle.table.specs.Concluded.{concluded}
-use Rattle.loading.specs.Ending.{last-position}
+use Rattle.loading.specs.EndRefusals.{last-position}
 use Rattle.loading.specs.Position.{load-within}
 use borrow.Author.Needs.{needs}
 use Rattle.loading.proofs.load.Statement.{statement}

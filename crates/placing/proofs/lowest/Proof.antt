@@ -6,7 +6,7 @@ use native.Mathlib.Nat.{zero-add}
 use mathlib.Core.Path.{_≡_, refl, sym, _∙_}
 use lib.ListN.{length}
 use lib.Count.{trailingZeros}
-use Rattle.laws.specs.WordMarks.{Cleared, FirstMark, cleared, first-mark, marks-of, no-marks, one-mark}
+use Rattle.laws.specs.WordMarks.{Cleared, FirstMark, mark-cleared, first-mark, marks-of, no-marks, one-mark}
 use Rattle.placing.specs.Direct.{lowest-among, no-sources}
 use Rattle.placing.proofs.Candidates.{found, none-left, passed}
 use Rattle.placing.proofs.lowest.Statement.{statement}
@@ -22,7 +22,7 @@ record Candidate (w t : ℕ) : Type 0 where
 candidate : (w : ℕ) → (w ≡ 0 → ⊥) → w < 2 ^ 32 → Candidate w (trailingZeros 32 w)
 candidate w left fits =
     let first = first-mark 32 w (omega arith) fits in
-    let rest = cleared 32 w (trailingZeros 32 w) (first .marked) in
+    let rest = mark-cleared 32 w (trailingZeros 32 w) (first .marked) in
     record { first = first; rest = rest; shifted = one-mark 32 (trailingZeros 32 w) (rest .below) }
 
 abbrev Inv-loop : tie.InvT-loop

@@ -10,12 +10,12 @@ use lib.Seq.{length-take-le}
 use lib.Count.{ones, ones-le}
 use borrow.Author.Needs.{needs}
 use Rattle.placing.specs.declared.Direct.{Direct}
-use Rattle.placing.specs.declared.Found.the-variants.{At}
-use Rattle.laws.specs.WordMarks.{Cleared, cleared, marks-of, one-mark}
+use Rattle.placing.specs.declared.FoundPart.the-variants.{At}
+use Rattle.laws.specs.WordMarks.{Cleared, mark-cleared, marks-of, one-mark}
 use Rattle.placing.specs.Direct.{direct-of, found-as, lowest-among}
-use Rattle.laws.specs.Lists.{take-map}
+use Rattle.laws.specs.ListLaws.{take-map}
 use Rattle.placing.proofs.Candidates.{found-at, found-marked, found-nothing, lowest-word}
-use Rattle.placing.proofs.Partway.{Partway, ended, started, turned}
+use Rattle.placing.proofs.PlacedPartway.{Partway, ended, started, turned}
 use Rattle.placing.proofs.place.Statement.{statement}
 use Rattle.placing.proofs.place.Tie as tie
 
@@ -33,7 +33,7 @@ turn : (count : ℕ) (direct : List Direct) (w k : ℕ) → count ≤ 32 → w <
 turn count direct w k few fits answer =
     let marks = marks-of count w in
     let found = sym (lowest-word count w direct few fits) ∙ found-at _ k answer in
-    let rest = cleared count w k (found-marked marks marks 0 k (take count direct) found) in
+    let rest = mark-cleared count w k (found-marked marks marks 0 k (take count direct) found) in
     let below : k < 32 = omega (arith, rest .below) in
     record { found = found; rest = rest; below = below; shifted = one-mark 32 k below; room = omega (arith, rest .fewer) }
 

@@ -12,7 +12,7 @@ use Rattle.machine.specs.declared.part.Component.{Component}
 use Rattle.machine.specs.Lists.{same}
 use Rattle.machine.specs.Table.{ordered, part-order}
 use Rattle.placing.specs.Direct.{direct-of}
-use Rattle.precedence.specs.Turns.{InTurn}
+use Rattle.precedence.specs.PlacesInTurn.{InTurn}
 use Rattle.precedence.specs.Passed.{Passed, none-passed, one-passed, placed-twice, before-source, after-higher, refused-at, all-accepted}
 use Rattle.precedence.proofs.follows.Statement.{statement}
 use Rattle.precedence.proofs.follows.Tie as tie

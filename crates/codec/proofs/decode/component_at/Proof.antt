@@ -1,7 +1,7 @@
 -- `component_at` is the definition, field by field; a signed number passed through a word stays the same.
 use mir.Syntax.{w64}
 use mir.ValLaws.{toZ-ofZ}
-use Rattle.codec.specs.Decoded.{component-of}
+use Rattle.codec.specs.Decoded.{component-coded}
 use borrow.Author.Needs.{needs}
 use Rattle.codec.proofs.decode.component_at.Statement.{statement}
 use Rattle.codec.proofs.decode.component_at.Tie as tie
@@ -67,7 +67,7 @@ source-at-requires-2 : tie.Need-source-at-requires-2
 source-at-requires-2 c κs = search needs
 
 returns : tie.Need-returns
-unfolding component-of
+unfolding component-coded
 returns c =
     let port0 = c .before in
     let spans = port0 .before in

@@ -1,12 +1,12 @@
 -- `source_coded` makes the definition's test.
 use borrow.Author.Tests.{eq-eqb, ne-eqb}
-use Rattle.codec.specs.Decoded.{source-of}
+use Rattle.codec.specs.Decoded.{source-coded}
 use borrow.Author.Needs.{needs}
 use Rattle.codec.proofs.fields.source_coded.Statement.{statement}
 use Rattle.codec.proofs.fields.source_coded.Tie as tie
 
 returns : tie.Need-returns
-unfolding source-of
+unfolding source-coded
 returns c = simp (eq-eqb _ _ (c .if1 .taken))
 
 sub-t3 : tie.Need-sub-t3
@@ -16,7 +16,7 @@ cast-t5 : tie.Need-cast-t5
 cast-t5 c = search needs
 
 returns-2 : tie.Need-returns-2
-unfolding source-of
+unfolding source-coded
 returns-2 c = simp (ne-eqb _ _ (c .if1 .left))
 
 pub source-coded-spec : {M : Type 1} → statement M

@@ -1,7 +1,7 @@
 -- `put_word` puts the lower half and the upper half of the word.
 use native.Mathlib.Omega.{arith}
 use Rattle.writing.specs.Pieces.{put-then}
-use Rattle.codec.specs.Pieces.{one-word}
+use Rattle.codec.specs.WordPieces.{one-word}
 use Rattle.codec.specs.Words.{word-bytes}
 use borrow.Author.Needs.{needs}
 use Rattle.codec.proofs.word.put_word.Statement.{statement}

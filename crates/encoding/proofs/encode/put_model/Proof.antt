@@ -1,5 +1,5 @@
 -- `put_model` puts the first four words of the definition, the part order and the parts.
-use Rattle.codec.specs.Pieces.{words-then}
+use Rattle.codec.specs.WordPieces.{words-then}
 use Rattle.codec.specs.Encoded.{model-words}
 use borrow.Author.Needs.{needs}
 use Rattle.encoding.proofs.encode.put_model.Statement.{statement}

@@ -4,7 +4,7 @@ use mir.ValLaws.{toZ-ofZ}
 use Rattle.codec.specs.Encoded.{operand-words}
 use native.Mathlib.Omega.{arith}
 use Rattle.codec.specs.Sized.{SizedOperands}
-use Rattle.codec.specs.Pieces.{words-then}
+use Rattle.codec.specs.WordPieces.{words-then}
 use borrow.Author.Needs.{needs}
 use Rattle.encoding.proofs.encode.put_operands.Statement.{statement}
 use Rattle.encoding.proofs.encode.put_operands.Tie as tie

@@ -1,5 +1,5 @@
 -- `put_part` puts the component, the ratio and the state.
-use Rattle.codec.specs.Pieces.{words-then}
+use Rattle.codec.specs.WordPieces.{words-then}
 use Rattle.codec.specs.Encoded.{part-words}
 use borrow.Author.Needs.{needs}
 use Rattle.encoding.proofs.encode.put_part.Statement.{statement}

@@ -9,7 +9,7 @@ use Rattle.machine.specs.Model.{part-at}
 use Rattle.codec.specs.Words.{rows}
 use Rattle.codec.specs.Encoded.{part-words, parts-words}
 use Rattle.codec.specs.Sized.{SizedPart}
-use Rattle.codec.specs.Pieces.{PutFirst, no-words, put-more, put-all}
+use Rattle.codec.specs.WordPieces.{PutFirst, no-words, put-more, put-all}
 use borrow.Author.Needs.{needs}
 use Rattle.encoding.proofs.encode.put_parts.Statement.{statement}
 use Rattle.encoding.proofs.encode.put_parts.Tie as tie

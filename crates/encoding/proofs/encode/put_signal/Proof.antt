@@ -1,7 +1,7 @@
 -- `put_signal` puts the two words of the definition, by cases; a signed number passed through a word stays the same.
 use mir.Syntax.{w64}
 use mir.ValLaws.{toZ-ofZ}
-use Rattle.codec.specs.Pieces.{words-then}
+use Rattle.codec.specs.WordPieces.{words-then}
 use borrow.Author.Needs.{needs}
 use Rattle.encoding.proofs.encode.put_signal.Statement.{statement}
 use Rattle.encoding.proofs.encode.put_signal.Tie as tie

@@ -7,7 +7,7 @@ use mathlib.Core.List.{List, [], _∷_}
 use lib.ListN.{getD}
 use Rattle.codec.specs.Words.{rows}
 use Rattle.codec.specs.Encoded.{spans-words}
-use Rattle.codec.specs.Pieces.{PutFirst, no-words, words-as, put-more, put-all}
+use Rattle.codec.specs.WordPieces.{PutFirst, no-words, words-as, put-more, put-all}
 use Rattle.codec.specs.Tables.{rows-ones}
 use borrow.Author.Needs.{needs}
 use Rattle.encoding.proofs.encode.put_spans.Statement.{statement}

@@ -1,7 +1,7 @@
 -- `put_state` puts the words of the definition one behind the other; a signed number passed through a word stays the same.
 use mir.Syntax.{w64}
 use mir.ValLaws.{toZ-ofZ}
-use Rattle.codec.specs.Pieces.{words-then}
+use Rattle.codec.specs.WordPieces.{words-then}
 use Rattle.codec.specs.Encoded.{state-words}
 use borrow.Author.Needs.{needs}
 use Rattle.encoding.proofs.encode.put_state.Statement.{statement}

@@ -1,6 +1,6 @@
 -- `write_answer` makes the definition's test, and puts the words of the definition at the buffer's front.
 use native.Mathlib.Omega.{arith}
-use Rattle.codec.specs.Pieces.{words-then}
+use Rattle.codec.specs.WordPieces.{words-then}
 use Rattle.codec.specs.Encoded.{answer-words, answer-bytes}
 use Rattle.codec.specs.Widths.{answer-wide}
 use Rattle.encoding.proofs.Answers.{left-out, put-in}

@@ -1,6 +1,6 @@
 -- `write_loaded` makes the definition's test, and puts the words of the definition at the buffer's front.
 use native.Mathlib.Omega.{arith}
-use Rattle.codec.specs.Pieces.{words-then}
+use Rattle.codec.specs.WordPieces.{words-then}
 use Rattle.codec.specs.Encoded.{loaded-words, loaded-bytes}
 use Rattle.codec.specs.Widths.{loaded-wide}
 use Rattle.encoding.proofs.Answers.{left-out, put-in}

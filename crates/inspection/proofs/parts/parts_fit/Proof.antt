@@ -12,7 +12,7 @@ use Rattle.machine.specs.Model.{trimmed}
 use Rattle.machine.specs.Time.{tick}
 use Rattle.inspection.specs.Parts.{part-fits}
 use Rattle.laws.specs.Loops.{every-end}
-use Rattle.inspection.specs.Trimmed.{parts-count, parts-on}
+use Rattle.inspection.specs.TrimmedPlaces.{parts-count, parts-on}
 use Rattle.inspection.proofs.parts.parts_fit.Statement.{statement}
 use Rattle.inspection.proofs.parts.parts_fit.Tie as tie
 

@@ -14,7 +14,7 @@ use Rattle.placing.specs.declared.Direct.{Direct}
 use Rattle.placing.specs.Direct.{direct-of}
 use Rattle.laws.specs.Partway.{mapped-front, mapped-more}
 use Rattle.soundness.specs.Magnitude.{magnitude-end}
-use Rattle.inspection.specs.Trimmed.{preferences, preferences-count, preferences-on}
+use Rattle.inspection.specs.TrimmedPlaces.{preferences, preferences-count, preferences-on}
 use Rattle.inspection.proofs.survey.surveyed.Statement.{statement}
 use Rattle.inspection.proofs.survey.surveyed.Tie as tie
 

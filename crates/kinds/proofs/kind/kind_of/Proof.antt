@@ -5,7 +5,7 @@ use borrow.Author.Needs.{needs}
 use borrow.Author.Tests.{lt-ltb, le-ltb}
 use native.Mathlib.Omega.{arith}
 use Rattle.machine.specs.Kind.{kind-known, kind-of}
-use Rattle.kinds.specs.Found.{none-has}
+use Rattle.kinds.specs.KindMeant.{none-has}
 use Rattle.kinds.proofs.kind.kind_of.Statement.{statement}
 use Rattle.kinds.proofs.kind.kind_of.Tie as tie
 

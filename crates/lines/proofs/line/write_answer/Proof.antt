@@ -11,12 +11,12 @@ use Rattle.machine.specs.declared.model.Answer.{Answer}
 use Rattle.machine.specs.Time.{tick}
 use Rattle.machine.specs.Model.{blank-part, trimmed-answer}
 use Rattle.machine.specs.Rehearse.{answer-line, line-feed, outputs-text}
-use Rattle.laws.specs.Lists.{take-most}
+use Rattle.laws.specs.ListLaws.{take-most}
 use Rattle.writing.specs.Put.{Put}
 use Rattle.lines.specs.LineNumbers.{numbers-text}
 use Rattle.writing.specs.Pieces.{put-nothing, put-then, put-as}
 use Rattle.lines.proofs.Outputs.{outputs-more, refused-answer, committed-answer}
-use Rattle.lines.proofs.Bounds.{bounded}
+use Rattle.lines.proofs.LineBounds.{bounded}
 use Rattle.lines.proofs.line.write_answer.Statement.{statement}
 use Rattle.lines.proofs.line.write_answer.Tie as tie
 

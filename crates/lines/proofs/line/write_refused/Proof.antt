@@ -2,7 +2,7 @@
 use native.Mathlib.Omega.{arith}
 use lib.ListN.{length-take}
 use borrow.Author.Needs.{needs}
-use Rattle.lines.proofs.Bounds.{bounded}
+use Rattle.lines.proofs.LineBounds.{bounded}
 use Rattle.lines.proofs.line.write_refused.Statement.{statement}
 use Rattle.lines.proofs.line.write_refused.Tie as tie
 

@@ -2,7 +2,7 @@
 use mathlib.Core.Bool.{cond, not}
 use lib.Dec.{eqb, leb, ltb}
 use Rattle.refusals.specs.FirstRefusal.{above, cond-not, first-refusal}
-use Rattle.loading.specs.Ending.{end-number}
+use Rattle.loading.specs.EndRefusals.{end-number}
 use borrow.Author.Needs.{needs}
 use Rattle.loading.proofs.ending.end_refusal.Statement.{statement}
 use Rattle.loading.proofs.ending.end_refusal.Tie as tie

@@ -8,7 +8,7 @@ use Rattle.machine.specs.Load.{accepted, refused}
 use Rattle.machine.specs.Model.{trimmed-loaded}
 use Rattle.machine.specs.Table.{Table}
 use Rattle.loading.specs.Blank.{blank-model, refused-blank, refused-trimmed}
-use Rattle.loading.specs.Ending.{acceptable, refused-before, refused-at-end, accepted-at-end}
+use Rattle.loading.specs.EndRefusals.{acceptable, refused-before, refused-at-end, accepted-at-end}
 use borrow.Author.Needs.{needs}
 use Rattle.loading.proofs.ending.finished.Statement.{statement}
 use Rattle.loading.proofs.ending.finished.Tie as tie

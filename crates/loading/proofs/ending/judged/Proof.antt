@@ -5,8 +5,8 @@ use mathlib.Core.Path.{_≡_, sym, _∙_}
 use lib.ListN.{length, length-map}
 use Rattle.machine.specs.Table.{magnitude-of}
 use Rattle.table.specs.Concluded.{table-read}
-use Rattle.loading.specs.Places.{components, table-in}
-use Rattle.loading.specs.Ending.{magnitude-small, judged-number, judged-order, judged-places}
+use Rattle.loading.specs.Places.{components-read, table-in}
+use Rattle.loading.specs.EndRefusals.{magnitude-small, judged-number, judged-order, judged-places}
 use borrow.Author.Needs.{needs}
 use Rattle.loading.proofs.ending.judged.Statement.{statement}
 use Rattle.loading.proofs.ending.judged.Tie as tie
@@ -17,7 +17,7 @@ few c = omega (arith, c .pre .few, simp length-map at (c .good .0))
 
 -- the magnitude found is that of the table
 magnitude-found : (c : tie.After-master-magnitude) → c .master-magnitude .result ≡ magnitude-of (table-read (c .before .before .args .read))
-unfolding table-read table-in components
+unfolding table-read table-in components-read
 magnitude-found c = c .master-magnitude .ensures
 
 master-magnitude-requires : tie.Need-master-magnitude-requires

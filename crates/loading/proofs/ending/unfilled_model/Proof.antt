@@ -6,7 +6,7 @@ use mathlib.Core.List.{List, map}
 use lib.ListN.{length, length-map, take}
 use Rattle.machine.specs.declared.part.Part.{Part}
 use Rattle.machine.specs.Model.{trimmed, trimmed-part}
-use Rattle.loading.specs.Ending.{unfilled-is}
+use Rattle.loading.specs.EndRefusals.{unfilled-is}
 use Rattle.loading.specs.Places.{first-stored}
 use borrow.Author.Needs.{needs}
 use Rattle.loading.proofs.ending.unfilled_model.Statement.{statement}

@@ -7,14 +7,14 @@ use lib.ListN.{length, drop}
 use Rattle.machine.specs.Time.{master-magnitude}
 use Rattle.machine.specs.Table.{magnitude-of}
 use Rattle.soundness.specs.Magnitude.{magnitude-end}
-use Rattle.loading.specs.Places.{preferences, preferences-count, preferences-on, table-in}
+use Rattle.loading.specs.Places.{preferences-read, preferences-count, preferences-on, table-in}
 use borrow.Author.Needs.{needs}
 use Rattle.loading.proofs.ratios.master_magnitude.Statement.{statement}
 use Rattle.loading.proofs.ratios.master_magnitude.Tie as tie
 
 abbrev Inv-loop : tie.InvT-loop
 Inv-loop count default parts magnitude₀ i₀ magnitude i =
-    master-magnitude default (preferences count parts) ≡ master-magnitude magnitude (drop i (preferences count parts))
+    master-magnitude default (preferences-read count parts) ≡ master-magnitude magnitude (drop i (preferences-read count parts))
 
 abbrev μ-loop : tie.MeasureT-loop
 μ-loop count default parts magnitude₀ i₀ magnitude i = count - i
@@ -46,18 +46,18 @@ loop-again c =
     let parts = start .args .t1 in
     let few : count ≤ length parts = omega arith in
     loop .inv ∙ preferences-on count parts few (loop .magnitude) (loop .i) (test .loop-test .taken) ∙
-    ap (λ (e : ℕ). master-magnitude e (drop (loop .i + 1) (preferences count parts))) (sym (c .larger-of .ensures))
+    ap (λ (e : ℕ). master-magnitude e (drop (loop .i + 1) (preferences-read count parts))) (sym (c .larger-of .ensures))
 
 returns : tie.Need-returns Inv-loop μ-loop
-unfolding magnitude-of table-in preferences
+unfolding magnitude-of table-in preferences-read
 returns c =
     let loop = c .before .loop in
     let start = c .before .before in
     let count = start .args .count in
     let parts = start .args .t1 in
     let few : count ≤ length parts = omega arith in
-    let past : length (preferences count parts) ≤ loop .i = rw (preferences-count count parts few) (c .loop-test .left) in
-    sym (loop .inv ∙ magnitude-end (loop .magnitude) (preferences count parts) (loop .i) past)
+    let past : length (preferences-read count parts) ≤ loop .i = rw (preferences-count count parts few) (c .loop-test .left) in
+    sym (loop .inv ∙ magnitude-end (loop .magnitude) (preferences-read count parts) (loop .i) past)
 
 pub master-magnitude-spec : {M : Type 1} → statement M
 master-magnitude-spec =

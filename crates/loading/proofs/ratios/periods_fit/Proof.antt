@@ -6,13 +6,13 @@ use mathlib.Core.Path.{_≡_, _∙_, refl, sym}
 use mathlib.Core.Bool.{_&&_}
 use lib.ListN.{length, drop}
 use borrow.Author.Tests.{not-true, not-false}
-use Rattle.loading.specs.Places.{components, periods-within, periods-on, periods-end}
+use Rattle.loading.specs.Places.{components-read, periods-within, periods-on, periods-end}
 use borrow.Author.Needs.{needs}
 use Rattle.loading.proofs.ratios.periods_fit.Statement.{statement}
 use Rattle.loading.proofs.ratios.periods_fit.Tie as tie
 
 abbrev Inv-loop : tie.InvT-loop
-Inv-loop count magnitude parts i₀ i = periods-within magnitude (components count parts) ≡ periods-within magnitude (drop i (components count parts))
+Inv-loop count magnitude parts i₀ i = periods-within magnitude (components-read count parts) ≡ periods-within magnitude (drop i (components-read count parts))
 
 abbrev μ-loop : tie.MeasureT-loop
 μ-loop count magnitude parts i₀ i = count - i
@@ -21,7 +21,7 @@ abbrev μ-loop : tie.MeasureT-loop
 turn : (c : tie.After-period-fits Inv-loop μ-loop) →
     let test = c .before .before .before in
     let start = test .before .before in
-    let cs = components (start .args .count) (start .args .t1) in
+    let cs = components-read (start .args .count) (start .args .t1) in
     periods-within (start .args .magnitude) cs ≡
     (c .period-fits .result && periods-within (start .args .magnitude) (drop (test .before .loop .i + 1) cs))
 turn c =

@@ -33,11 +33,11 @@ start-of test = test .before .before .before
 abbrev test-of : tie.After-source-index Inv-loop μ-loop → tie.In-loop Inv-loop μ-loop
 test-of source = source .before .before .before
 
-abbrev source-of : tie.After-heard-of Inv-loop μ-loop → tie.After-source-index Inv-loop μ-loop
-source-of hears = hears .before .before .before
+abbrev source-read : tie.After-heard-of Inv-loop μ-loop → tie.After-source-index Inv-loop μ-loop
+source-read hears = hears .before .before .before
 
 abbrev test-of-asked : tie.After-due-of Inv-loop μ-loop → tie.In-loop Inv-loop μ-loop
-test-of-asked asked = test-of (source-of (asked .before))
+test-of-asked asked = test-of (source-read (asked .before))
 
 -- the places of the part asked, and of the source of its port 0
 place : (test : tie.In-loop Inv-loop μ-loop) → test .before .loop .i < most-parts
@@ -60,7 +60,7 @@ answers :
 unfolding trimmed
 answers asked =
     let hears = asked .before in
-    let source = source-of hears in
+    let source = source-read hears in
     let test = test-of source in
     let s = start-of test in
     let m = s .args .t1 in
@@ -94,7 +94,7 @@ heard-of-requires c κs = tt
 
 due-of-requires : tie.Need-due-of-requires Inv-loop μ-loop
 due-of-requires c κs =
-    let test = test-of (source-of c) in
+    let test = test-of (source-read c) in
     let s = start-of test in
     period-of (s .args .t1) (s .pre) (test .before .loop .i) (test .loop-test .taken)
 

@@ -26,11 +26,11 @@ start-of test = test .before .before .before
 abbrev test-of : tie.After-source-index Inv-loop μ-loop → tie.In-loop Inv-loop μ-loop
 test-of source = source .before .before .before
 
-abbrev source-of : tie.After-heard-of Inv-loop μ-loop → tie.After-source-index Inv-loop μ-loop
-source-of hears = hears .before .before .before
+abbrev source-read : tie.After-heard-of Inv-loop μ-loop → tie.After-source-index Inv-loop μ-loop
+source-read hears = hears .before .before .before
 
 abbrev test-of-asked : tie.After-longest-of Inv-loop μ-loop → tie.In-loop Inv-loop μ-loop
-test-of-asked asked = test-of (source-of (asked .before))
+test-of-asked asked = test-of (source-read (asked .before))
 
 -- the places of the part asked, and of the source of its port 0
 place : (test : tie.In-loop Inv-loop μ-loop) → test .before .loop .i < most-parts
@@ -54,7 +54,7 @@ replies :
     asked .longest-of .result .0 ≡ longest (trimmed-part p) (m .point) (reading0 (m .parts) p) (s .args .h .0)
 replies asked =
     let hears = asked .before in
-    let source = source-of hears in
+    let source = source-read hears in
     let s = start-of (test-of source) in
     let m = s .args .t1 in
     let p = part-at (m .parts) (test-of source .before .loop .i) in
@@ -86,7 +86,7 @@ heard-of-requires c κs = tt
 
 longest-of-requires : tie.Need-longest-of-requires Inv-loop μ-loop
 longest-of-requires c κs =
-    let test = test-of (source-of c) in
+    let test = test-of (source-read c) in
     let s = start-of test in
     askable (s .args .t1) (s .pre .0) (s .args .h .0) (test .before .loop .i) (s .pre .1) (test .loop-test .taken)
 

@@ -7,7 +7,7 @@ use mathlib.Core.List.{List}
 use borrow.Author.Needs.{needs}
 use Rattle.machine.specs.Load.{byte-at, word-at}
 use Rattle.operands.specs.declared.operands.PartOperands.{PartOperands}
-use Rattle.operands.specs.Operands.{Behind, ReadAt, byte-cases, cut-read, part-at, read-behind, whole-read, word-cases}
+use Rattle.operands.specs.Operands.{Behind, ReadAt, byte-cases, cut-read, part-operands-at, read-behind, whole-read, word-cases}
 use Rattle.operands.proofs.operands.part_operands.Statement.{statement}
 use Rattle.operands.proofs.operands.part_operands.Tie as tie
 
@@ -62,7 +62,7 @@ p-read c = read-behind word-at _ _ 10 4 _ _ _ (b-read (at-b c) .0) (rw (c .p .gi
 -- operands that are each the definition's are the definition's
 part-made : (bs : List ℕ) (at kind preference a b p : ℕ) → kind ≡ byte-at bs at → preference ≡ byte-at bs (at + 1) → a ≡ word-at bs (at + 2) →
     b ≡ word-at bs (at + 6) → p ≡ word-at bs (at + 10) →
-    _≡_ {A = PartOperands} (record { kind = kind; preference = preference; a = a; b = b; p = p }) (part-at bs at)
+    _≡_ {A = PartOperands} (record { kind = kind; preference = preference; a = a; b = b; p = p }) (part-operands-at bs at)
 part-made bs at kind preference a b p k q f g h = rw (k, q, f, g, h)
 
 byte-requires : tie.Need-byte-requires

@@ -7,7 +7,7 @@ use mathlib.Core.List.{List}
 use borrow.Author.Needs.{needs}
 use Rattle.machine.specs.Load.{byte-at}
 use Rattle.operands.specs.declared.operands.WireOperands.{WireOperands}
-use Rattle.operands.specs.Operands.{Behind, ReadAt, byte-cases, cut-read, read-behind, whole-read, wire-at}
+use Rattle.operands.specs.Operands.{Behind, ReadAt, byte-cases, cut-read, read-behind, whole-read, wire-operands-at}
 use Rattle.operands.proofs.operands.wire_operands.Statement.{statement}
 use Rattle.operands.proofs.operands.wire_operands.Tie as tie
 
@@ -45,7 +45,7 @@ port-read c = read-behind byte-at _ _ 2 1 _ _ _ (receiver-read (at-receiver c) .
 
 -- operands that are each the definition's are the definition's
 wire-made : (bs : List ℕ) (at source receiver port : ℕ) → source ≡ byte-at bs at → receiver ≡ byte-at bs (at + 1) → port ≡ byte-at bs (at + 2) →
-    _≡_ {A = WireOperands} (record { source = source; receiver = receiver; port = port }) (wire-at bs at)
+    _≡_ {A = WireOperands} (record { source = source; receiver = receiver; port = port }) (wire-operands-at bs at)
 wire-made bs at source receiver port f g h = rw (f, g, h)
 
 byte-requires : tie.Need-byte-requires

@@ -2,7 +2,7 @@
 use mathlib.Core.Bool.{cond, not}
 use Rattle.machine.specs.Load.{known-command}
 use Rattle.refusals.specs.FirstRefusal.{cond-not, first-refusal}
-use Rattle.operands.specs.Refusals.{command-number, placed}
+use Rattle.operands.specs.Refusals.{command-number, in-its-place}
 use borrow.Author.Needs.{needs}
 use Rattle.operands.proofs.refusal.command_refusal.Statement.{statement}
 use Rattle.operands.proofs.refusal.command_refusal.Tie as tie
@@ -28,7 +28,7 @@ returns c =
     let unknown = c .before .before .before in
     let args = unknown .before .before .args in
     let known = known-command (args .b) in
-    let here = placed (args .begun) (args .spannable) (args .b) in
+    let here = in-its-place (args .begun) (args .spannable) (args .b) in
     rw (
       c .first-of .ensures,
       c .before .refusal2 .ensures,

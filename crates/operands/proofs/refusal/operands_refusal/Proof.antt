@@ -4,7 +4,7 @@ use borrow.Author.Tests.{not-true, not-false}
 use mir.Syntax.{w64}
 use mir.ValLaws.{toZ-ofZ}
 use borrow.Author.Needs.{needs}
-use Rattle.kinds.specs.Found.{kind-cases}
+use Rattle.kinds.specs.KindMeant.{kind-cases}
 use Rattle.operands.specs.Refusals.{operands-number}
 use Rattle.refusals.specs.FirstRefusal.{cond-not}
 use Rattle.operands.proofs.refusal.operands_refusal.Statement.{statement}

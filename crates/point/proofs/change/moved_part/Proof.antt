@@ -13,7 +13,7 @@ use Rattle.machine.specs.Time.{gained, local-count}
 use Rattle.machine.specs.Model.{with-state}
 use Rattle.machine.specs.Step.{gain-of, moved, moved-held}
 use Rattle.point.specs.Gain.{gain-to}
-use Rattle.point.specs.Ranges.{StepFits}
+use Rattle.point.specs.PartRanges.{StepFits}
 use Rattle.laws.specs.Signed.{value-back}
 use Rattle.point.proofs.change.moved_part.Statement.{statement}
 use Rattle.point.proofs.change.moved_part.Tie as tie

@@ -1,7 +1,7 @@
 -- `component_of` is the definition, field by field; a signed operand passed through a word stays the same.
 use mir.Syntax.{w64}
 use mir.ValLaws.{toZ-ofZ}
-use Rattle.reading.specs.Made.{made-component}
+use Rattle.reading.specs.ComponentMade.{made-component}
 use borrow.Author.Needs.{needs}
 use Rattle.reading.proofs.progress.component_of.Statement.{statement}
 use Rattle.reading.proofs.progress.component_of.Tie as tie

@@ -11,7 +11,7 @@ use Rattle.machine.specs.declared.part.Component.{Component}
 use Rattle.machine.specs.Load.{is-drive, with-part}
 use Rattle.operands.specs.declared.operands.PartOperands.{PartOperands}
 use Rattle.reading.specs.declared.progress.Progress.{Progress}
-use Rattle.reading.specs.Made.{component-of, made-component}
+use Rattle.reading.specs.ComponentMade.{component-of, made-component}
 use Rattle.reading.specs.Progress.{with-row, reading-of}
 use Rattle.reading.specs.Rows.{joined-added}
 use borrow.Author.Needs.{needs}

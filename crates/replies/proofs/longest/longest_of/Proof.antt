@@ -17,7 +17,7 @@ use Rattle.machine.specs.Kind.{kind-of, period}
 use Rattle.machine.specs.Model.{trimmed-component, trimmed-part}
 use Rattle.machine.specs.Accept.{Class, waiting, driving, class, class-of, due, next-multiple, longest-as, longest}
 use Rattle.laws.specs.Kinds.{of-kinds-left}
-use Rattle.replies.specs.Trimmed.{due-trimmed}
+use Rattle.replies.specs.DueTrimmed.{due-trimmed}
 use Rattle.replies.proofs.longest.longest_of.Statement.{statement}
 use Rattle.replies.proofs.longest.longest_of.Tie as tie
 

@@ -20,7 +20,7 @@ use Rattle.machine.specs.Accept.{driving, allowed, largest-below, last-adding, 
 use Rattle.laws.specs.Bools.{or-false-left}
 use Rattle.acceptance.specs.Spans.{largest-below-is}
 use Rattle.point.specs.Gain.{gain-to}
-use Rattle.point.specs.Ranges.{StepFits}
+use Rattle.point.specs.PartRanges.{StepFits}
 use Rattle.replies.proofs.longest.longest_of_drive.Statement.{statement}
 use Rattle.replies.proofs.longest.longest_of_drive.Tie as tie
 

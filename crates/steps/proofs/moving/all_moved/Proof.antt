@@ -7,8 +7,8 @@ use Rattle.machine.specs.Model.{part-at, trimmed}
 use Rattle.machine.specs.Step.{moved, all-moved}
 use Rattle.steps.specs.Trimmed.{Changed, none-changed}
 use Rattle.steps.specs.Fillable.{Wired, place-fits}
-use Rattle.steps.specs.SoundParts.{sound-wired}
-use Rattle.steps.specs.InPlace.{changed-to, Turn, turn, all-changed}
+use Rattle.steps.specs.WiredParts.{sound-wired}
+use Rattle.steps.specs.InPlace.{changed-to, LoopTurn, turn, all-changed}
 use Rattle.steps.specs.Moving.{moving, movable, movable-untrimmed, movable-reading}
 use Rattle.steps.proofs.moving.all_moved.Statement.{statement}
 use Rattle.steps.proofs.moving.all_moved.Tie as tie
@@ -23,8 +23,8 @@ abbrev μ-loop : tie.MeasureT-loop
 abbrev start-of : tie.In-loop Inv-loop μ-loop → tie.Start Inv-loop μ-loop
 start-of test = test .before .before .before .before
 
-abbrev source-of : tie.After-moved-part Inv-loop μ-loop → tie.After-source-index Inv-loop μ-loop
-source-of c = c .before .before .before .before
+abbrev source-read : tie.After-moved-part Inv-loop μ-loop → tie.After-source-index Inv-loop μ-loop
+source-read c = c .before .before .before .before
 
 abbrev test-of : tie.After-source-index Inv-loop μ-loop → tie.In-loop Inv-loop μ-loop
 test-of source = source .before .before .before
@@ -36,7 +36,7 @@ wired s = sound-wired (trimmed (s .args .m)) (s .pre .0)
 -- the turn at the loop's test
 turn-at :
     (test : tie.In-loop Inv-loop μ-loop) →
-    Turn (moved (tick (start-of test .args .m .point)) (start-of test .args .h .0)) (start-of test .args .m) (test .before .loop .next) (test .before .loop .i)
+    LoopTurn (moved (tick (start-of test .args .m .point)) (start-of test .args .h .0)) (start-of test .args .m) (test .before .loop .next) (test .before .loop .i)
 turn-at test =
     let s = start-of test in
     let m = s .args .m in
@@ -83,25 +83,25 @@ moved-part-requires c κs =
 
 mul-moved : tie.Need-mul-moved Inv-loop μ-loop
 mul-moved c =
-    let test = test-of (source-of c) in
+    let test = test-of (source-read c) in
     place-fits (test .before .loop .i) (turn-at test .place)
 
 element-set-from-moved : tie.Need-element-set-from-moved Inv-loop μ-loop
-element-set-from-moved c = turn-at (test-of (source-of c)) .place
+element-set-from-moved c = turn-at (test-of (source-read c)) .place
 
 add-i : tie.Need-add-i Inv-loop μ-loop
 add-i c =
-    let at = turn-at (test-of (source-of c)) in
+    let at = turn-at (test-of (source-read c)) in
     omega (arith, at .place)
 
 loop-less : tie.Need-loop-less Inv-loop μ-loop
 loop-less c =
-    let at = turn-at (test-of (source-of c)) in
+    let at = turn-at (test-of (source-read c)) in
     omega (arith, at .within)
 
 loop-again : tie.Need-loop-again Inv-loop μ-loop
 loop-again c =
-    let source = source-of c in
+    let source = source-read c in
     let hears = c .before in
     let at = turn-at (test-of source) in
     let reads = at .reads (source .source-index .result) (hears .heard-of .result) (source .source-index .ensures) (hears .heard-of .ensures) in

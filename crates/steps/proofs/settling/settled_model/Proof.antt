@@ -11,9 +11,9 @@ use Rattle.machine.specs.Model.{reading0, part-at, trimmed, trimmed-part, trimm
 use Rattle.machine.specs.Step.{settled, all-settled}
 use Rattle.steps.specs.Trimmed.{Changed, none-changed}
 use Rattle.steps.specs.Fillable.{Wired, place-fits}
-use Rattle.steps.specs.InPlace.{changed-to, Turn, turn, all-changed}
+use Rattle.steps.specs.InPlace.{changed-to, LoopTurn, turn, all-changed}
 use Rattle.steps.specs.Settling.{settling, settles, settled-same}
-use Rattle.steps.specs.Made.{filled-settleable, finished}
+use Rattle.steps.specs.StepMade.{filled-settleable, filled-settled}
 use Rattle.steps.proofs.settling.settled_model.Statement.{statement}
 use Rattle.steps.proofs.settling.settled_model.Tie as tie
 
@@ -39,12 +39,12 @@ test-of-passed c = c .before .before .before .before
 abbrev test-of : tie.After-source-index Inv-loop μ-loop → tie.In-loop Inv-loop μ-loop
 test-of source = source .before .before .before .before .before
 
-abbrev source-of : tie.After-settled-part Inv-loop μ-loop → tie.After-source-index Inv-loop μ-loop
-source-of c = c .before .before .before .before
+abbrev source-read : tie.After-settled-part Inv-loop μ-loop → tie.After-source-index Inv-loop μ-loop
+source-read c = c .before .before .before .before
 
 -- the turn at the loop's test
 turn-at :
-    (test : tie.In-loop Inv-loop μ-loop) → Turn settled (filled-of (test .before .before)) (test .before .loop .next) (test .before .loop .i)
+    (test : tie.In-loop Inv-loop μ-loop) → LoopTurn settled (filled-of (test .before .before)) (test .before .loop .next) (test .before .loop .i)
 turn-at test =
     let s = test .before .before in
     let loop = test .before .loop in
@@ -104,25 +104,25 @@ settled-part-requires c κs = tt
 
 mul-settled : tie.Need-mul-settled Inv-loop μ-loop
 mul-settled c =
-    let test = test-of (source-of c) in
+    let test = test-of (source-read c) in
     place-fits (test .before .loop .i) (turn-at test .place)
 
 element-set-from-settled : tie.Need-element-set-from-settled Inv-loop μ-loop
-element-set-from-settled c = turn-at (test-of (source-of c)) .place
+element-set-from-settled c = turn-at (test-of (source-read c)) .place
 
 add-i-2 : tie.Need-add-i-2 Inv-loop μ-loop
 add-i-2 c =
-    let at = turn-at (test-of (source-of c)) in
+    let at = turn-at (test-of (source-read c)) in
     omega (arith, at .place)
 
 loop-less-2 : tie.Need-loop-less-2 Inv-loop μ-loop
 loop-less-2 c =
-    let at = turn-at (test-of (source-of c)) in
+    let at = turn-at (test-of (source-read c)) in
     omega (arith, at .within)
 
 loop-again-2 : tie.Need-loop-again-2 Inv-loop μ-loop
 loop-again-2 c =
-    let source = source-of c in
+    let source = source-read c in
     let hears = c .before in
     let at = turn-at (test-of source) in
     let reads = at .reads (source .source-index .result) (hears .heard-of .result) (source .source-index .ensures) (hears .heard-of .ensures) in
@@ -133,7 +133,7 @@ unfolding all-settled
 returns c =
     let s = c .before .before in
     let loop = c .before .loop in
-    finished (trimmed (s .before .args .old) .parts) (s .before .args .new) (filled-of s) (loop .next) (s .filled-model .ensures)
+    filled-settled (trimmed (s .before .args .old) .parts) (s .before .args .new) (filled-of s) (loop .next) (s .filled-model .ensures)
     (all-changed settled (filled-of s) (wired s) (loop .next) (loop .i) (loop .inv .1) (c .loop-test .left))
 
 pub settled-model-spec : {M : Type 1} → statement M

@@ -2,7 +2,7 @@
 -- within the time, so that it never leads past it.
 use mathlib.Core.Path.{sym, _∙_}
 use borrow.Author.Needs.{needs}
-use Rattle.steps.specs.Made.{leads-to, made-fillable, made-is, made-unused, never-past}
+use Rattle.steps.specs.StepMade.{leads-to, made-fillable, made-is, made-unused, never-past}
 use Rattle.steps.proofs.step.made.Statement.{statement}
 use Rattle.steps.proofs.step.made.Tie as tie
 

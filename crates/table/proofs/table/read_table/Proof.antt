@@ -11,7 +11,7 @@ use Rattle.reading.specs.declared.progress.Progress.{Progress}
 use Rattle.reading.specs.Progress.{reading-of}
 use Rattle.table.specs.declared.turn.TurnRead.{TurnRead}
 use Rattle.table.specs.Concluded.{EndHere, end-loaded, ended-concluded, refused-concluded}
-use Rattle.table.specs.Ending.{stopped-ended, stopped-refused}
+use Rattle.table.specs.EndReached.{stopped-ended, stopped-refused}
 use Rattle.table.specs.Judged.{turn-ended, turn-onward, turn-refused}
 use Rattle.table.specs.Stands.{Stands, stands-ended, stands-first, stands-on}
 use Rattle.table.specs.Turning.{rows-behind}

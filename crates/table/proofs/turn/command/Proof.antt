@@ -4,11 +4,11 @@ use native.Mathlib.Omega.{arith}
 use mathlib.Core.Path.{_≡_, refl}
 use mathlib.Core.List.{List}
 use Rattle.machine.specs.Load.{begin-command, command-width, part-command, span-command, whole-command, wire-command}
-use Rattle.reading.specs.declared.command.Step.{Step}
+use Rattle.reading.specs.declared.table_command.Step.{Step}
 use Rattle.reading.specs.declared.progress.Progress.{Progress}
 use Rattle.reading.specs.Progress.{reading-of}
 use Rattle.reading.specs.Spanned.{last-place, row-with, span-count}
-use Rattle.reading.specs.Steps.{span-refused-left, step-of, uncut}
+use Rattle.reading.specs.CommandSteps.{span-refused-left, step-of, uncut}
 use Rattle.table.specs.Turning.{rows-behind, sized-command}
 use borrow.Author.Needs.{needs}
 use Rattle.table.proofs.turn.command.Statement.{statement}

@@ -4,11 +4,11 @@ use native.Mathlib.Omega.{arith}
 use mathlib.Core.Path.{_≡_, _∙_, refl, sym}
 use mathlib.Core.List.{List}
 use borrow.Author.Tests.{eq-eqb, ne-eqb}
-use Rattle.reading.specs.declared.command.Step.{Step}
+use Rattle.reading.specs.declared.table_command.Step.{Step}
 use Rattle.reading.specs.declared.progress.Progress.{Progress}
 use Rattle.reading.specs.Progress.{reading-of}
-use Rattle.reading.specs.Steps.{step-of}
-use Rattle.table.specs.Ending.{end-judged}
+use Rattle.reading.specs.CommandSteps.{step-of}
+use Rattle.table.specs.EndReached.{end-judged}
 use Rattle.table.specs.Judged.{turn-ended}
 use Rattle.table.specs.Turned.{turn-of}
 use Rattle.table.specs.Turning.{rows-behind, sized-command}

@@ -5,7 +5,7 @@ use mathlib.Core.Path.{_≡_, _∙_, ap}
 use lib.ListN.{length, length-map}
 use Rattle.reading.specs.Beside.{span-beside-as}
 use Rattle.reading.specs.Spanned.{RowThere}
-use Rattle.reading.specs.Steps.{uncut}
+use Rattle.reading.specs.CommandSteps.{uncut}
 use borrow.Author.Needs.{needs}
 use Rattle.table.proofs.turn.span_beside.Statement.{statement}
 use Rattle.table.proofs.turn.span_beside.Tie as tie

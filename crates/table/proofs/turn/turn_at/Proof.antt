@@ -8,7 +8,7 @@ use borrow.Author.Needs.{needs}
 use Rattle.machine.specs.Load.{byte-at}
 use Rattle.reading.specs.Progress.{reading-of}
 use Rattle.table.specs.Stands.{turn-cut}
-use Rattle.table.specs.Kept.{span-asked}
+use Rattle.table.specs.SpansKept.{span-asked}
 use Rattle.table.specs.Judged.{command-byte, end-begun, end-in-place, judged-placed, judged-refused, placed-room, turn-refused}
 use Rattle.table.specs.Turned.{still-turn}
 use Rattle.table.proofs.turn.turn_at.Statement.{statement}

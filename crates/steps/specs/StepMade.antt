@@ -1,0 +1,137 @@
+-- A step made of moving, filling and settling: where it leads, what each asks of the model that the one before it gives, and what they come to. Assumes nothing.
+use Prim.Native.Nat.{ℕ, _+_, _≤_, _<_}
+use native.Mathlib.Omega.{arith}
+use mathlib.Core.Path.{_≡_, refl, sym, ap, subst, _∙_}
+use mathlib.Core.Bool.{Bool, true, false}
+use mathlib.Core.List.{List, map}
+use lib.Dec.{eqb}
+use lib.ListN.{length}
+use borrow.Author.Tests.{eqb-true, le-leb}
+use Rattle.machine.specs.declared.time.Point.{Point}
+use Rattle.machine.specs.declared.time.Stepped.the-variants.{To, Past}
+use Rattle.machine.specs.declared.part.Component.{Component}
+use Rattle.machine.specs.declared.part.Part.{Part}
+use Rattle.machine.specs.declared.model.Model.{Model}
+use Rattle.machine.specs.Lists.{All}
+use Rattle.machine.specs.Time.{in-time, last-microstep, last-tick, led-to, stepped, tick}
+use Rattle.machine.specs.Kind.{period}
+use Rattle.machine.specs.Model.{with-parts, reading0, trimmed, spare-spans, SameUnused}
+use Rattle.machine.specs.Table.{table-of, part-order}
+use Rattle.machine.specs.Step.{moved, all-moved, filled, all-settled, step-made}
+use Rattle.machine.specs.Sound.{sound}
+use Rattle.laws.specs.Alls.{map-kept, all-map, members-all}
+use Rattle.soundness.specs.Facts.{table-facts, sound-facts}
+use Rattle.soundness.specs.RangesKept.{all-moved-in-range}
+use Rattle.soundness.specs.CoreKept.{filled-kept}
+use Rattle.soundness.specs.Stepped.{in-range}
+use Rattle.ordering.specs.Order.{order-below, order-length}
+use Rattle.steps.specs.Trimmed.{Changed, changed-count, unused-through}
+use Rattle.steps.specs.Fillable.{Wired, Fillable, kept-wired, changed-wired}
+use Rattle.steps.specs.WiredParts.{sound-wired, sound-periods, sound-many}
+
+-- the numbers of a part order are those of the components
+pub order-numbers : (cs : List Component) → All (λ (k : ℕ). k < length cs) (part-order cs)
+order-numbers cs = members-all (λ (k : ℕ). k < length cs) (part-order cs) (order-below cs)
+
+-- once a sound model's parts are moved, its outputs can be filled
+moved-fillable :
+    (m : Model) (now : Point) (h : ℕ) → sound m ≡ true → Fillable m (with-parts m now (all-moved (tick (m .point)) h (m .parts)))
+unfolding all-moved moved table-of
+moved-fillable m now h s =
+    let facts = sound-facts m s in
+    let t = tick (m .point) in
+    let f : Part → Part = λ p. moved t h (reading0 (m .parts) p) p in
+    let cs = table-of m .parts in
+    record {
+      wired = kept-wired m now (map f (m .parts)) (map-kept (λ (p : Part). p .component) f (m .parts) (λ p. refl)) (sound-wired m s);
+      counted = facts .counted;
+      same = refl;
+      places = sym (ap length (facts .order) ∙ order-length cs (table-facts (table-of m) (facts .table) .order) ∙ sound-many m s);
+      order = rw (facts .order, ← sound-many m s) (order-numbers cs);
+      periods =
+          all-map f (λ (p : Part). period p ≤ last-tick) (λ (p : Part). period p ≤ last-tick) (m .parts) (λ p w. w) (sound-periods m s);
+      before = in-range m s;
+      ranges = all-moved-in-range t h (m .parts) (in-range m s);
+    }
+
+-- a model with its outputs filled, and then settled
+pub filled-settled :
+    (old : List Part) (b f r : Model) → Changed b (filled old (b .point) (trimmed b .order) (trimmed b .parts)) f →
+    Changed f (all-settled (trimmed f .parts)) r →
+    Changed b (all-settled (filled old (b .point) (trimmed b .order) (trimmed b .parts))) r
+unfolding trimmed
+filled-settled old b f r fills settles =
+    record {
+      is = settles .is ∙ ap (λ (x : Model). with-parts x (x .point) (all-settled (x .parts))) (fills .is);
+      unused =
+          unused-through b f r (changed-count b (filled old (b .point) (trimmed b .order) (trimmed b .parts)) f fills) (fills .unused) (settles .unused);
+    }
+
+-- the model a at another point
+abbrev pub at-point : Model → Point → Model
+at-point a now = with-parts a now (a .parts)
+
+-- the model m with its parts moved, at the new point
+moved-is :
+    (m a : Model) (now : Point) (ps : List Part) → Changed m ps a → trimmed (at-point a now) ≡ with-parts (trimmed m) now ps
+unfolding trimmed
+moved-is m a now ps moves = ap (λ (x : Model). with-parts x now (x .parts)) (moves .is)
+
+-- its places in no use are those of m
+moved-unused : (m a : Model) (now : Point) (ps : List Part) → Changed m ps a → SameUnused m (at-point a now)
+unfolding spare-spans
+moved-unused m a now ps moves =
+    record { orders = moves .unused .orders; parts = moves .unused .parts; spans = moves .unused .spans }
+
+-- a step within the time leads to a point of it
+leads-by : (b : Bool) (p : Point) (h : ℕ) → eqb h 0 ≡ b → tick p + h ≤ last-tick → (h ≡ 0 → p .n < last-microstep) → stepped p h ≡ To (led-to p h)
+unfolding stepped in-time led-to
+leads-by true p h e within before =
+    let zero = before (eqb-true h 0 e) in simp (e, le-leb (tick p) last-tick (omega arith), le-leb (p .n + 1) last-microstep (omega arith))
+leads-by false p h e within before = simp (e, le-leb (tick p + h) last-tick within)
+
+leads : (p : Point) (h : ℕ) → tick p + h ≤ last-tick → (h ≡ 0 → p .n < last-microstep) → stepped p h ≡ To (led-to p h)
+leads p h within before = leads-by (eqb h 0) p h refl within before
+
+-- so it is not past the time, and where it leads is the definition's point
+pub never-past : (p : Point) (h : ℕ) → tick p + h ≤ last-tick → (h ≡ 0 → p .n < last-microstep) → stepped p h ≡ Past → ⊥
+never-past p h within before past = let e = leads p h within before in let z : _≡_ {A = ℕ} 0 1 = cc in omega arith
+
+pub leads-to : (p q : Point) (h : ℕ) → tick p + h ≤ last-tick → (h ≡ 0 → p .n < last-microstep) → stepped p h ≡ To q → q ≡ led-to p h
+leads-to p q h within before to = let e = leads p h within before in cc
+
+-- moved, filled and settled, a model has made the step
+pub made-is :
+    (m a r : Model) (now : Point) (h : ℕ) → now ≡ led-to (m .point) h →
+    Changed m (all-moved (tick (m .point)) h (trimmed m .parts)) a →
+    Changed (at-point a now) (all-settled (filled (trimmed m .parts) now (trimmed (at-point a now) .order) (trimmed (at-point a now) .parts))) r →
+    trimmed r ≡ step-made (trimmed m) h
+unfolding step-made trimmed
+made-is m a r now h e moves settles =
+    let old = trimmed m .parts in
+    settles .is ∙
+    ap (λ (x : Model). with-parts x now (all-settled (filled old now (x .order) (x .parts))))
+    (moved-is m a now (all-moved (tick (m .point)) h old) moves) ∙
+    ap (λ (p : Point). with-parts (trimmed m) p (all-settled (filled old p (trimmed m .order) (all-moved (tick (m .point)) h old)))) e
+
+-- what filling asks of the moved model
+pub made-fillable :
+    (m a : Model) (now : Point) (h : ℕ) → sound (trimmed m) ≡ true →
+    Changed m (all-moved (tick (m .point)) h (trimmed m .parts)) a → Fillable (trimmed m) (trimmed (at-point a now))
+unfolding trimmed
+made-fillable m a now h s moves =
+    subst (λ (x : Model). Fillable (trimmed m) x) (sym (moved-is m a now (all-moved (tick (m .point)) h (trimmed m .parts)) moves))
+    (moved-fillable (trimmed m) now h s)
+
+-- what settling asks of the filled one
+pub filled-settleable :
+    (old : List Part) (b f : Model) → Wired (trimmed b) → Changed b (filled old (b .point) (trimmed b .order) (trimmed b .parts)) f →
+    Wired (trimmed f)
+filled-settleable old b f wired fills =
+    changed-wired b (filled old (b .point) (trimmed b .order) (trimmed b .parts)) f fills
+    (filled-kept (λ (p : Part). p .component) (λ p out. refl) old (b .point) (trimmed b .order) (trimmed b .parts)) wired
+
+-- the places in no use stay as they were through the step
+pub made-unused : (m a r : Model) (now : Point) (ps qs : List Part) → Changed m ps a → Changed (at-point a now) qs r → SameUnused m r
+made-unused m a r now ps qs moves settles =
+    unused-through m (at-point a now) r (changed-count m ps a moves) (moved-unused m a now ps moves) (settles .unused)
