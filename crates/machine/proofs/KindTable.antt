@@ -49,8 +49,7 @@ unfolding computing
 kind-table =
     record {
       constant = λ a q now x y before. refl;
-      gain = λ q now y before. (refl, refl);
-      gain-absent = λ a q now y before. refl;
+      gain = λ a q now y before. (refl, refl, refl);
       adder = λ q now before. (refl, refl);
       adder-one = λ v q now before e. (ap Value (clamp-of-value v e), ap Value (clamp-of-value v e), refl);
       square = λ a b q x y before. (refl, refl, refl, refl, refl);

@@ -74,13 +74,12 @@ seen side x q = settled x (keeping (pos 0) Absent side Clear (of-kind Detector (
 pub record KindTable : Type 0 where
   -- 0 constant: "a"
   pub constant : (a : ℤ) (q : Part) (now : Point) (x y before : Signal) → output (of-kind Constant a (pos 0) 0 q) now x y before ≡ Value a
-  -- 1 gain: "clamp(a × x)": 3 × −4; and 10^9 × −2, clamped
+  -- 1 gain: "clamp(a × x)": 3 × −4; and 10^9 × −2, clamped; "absent if x is"
   pub gain :
-      (q : Part) (now : Point) (y before : Signal) →
+      (a : ℤ) (q : Part) (now : Point) (y before : Signal) →
       (output (of-kind Gain (pos 3) (pos 0) 0 q) now (Value (negsuc 3)) y before ≡ Value (negsuc 11)) ×
-      (output (of-kind Gain (pos 1_000_000_000) (pos 0) 0 q) now (Value (negsuc 1)) y before ≡ Value (negsuc 999_999_999))
-  -- "absent if x is"
-  pub gain-absent : (a : ℤ) (q : Part) (now : Point) (y before : Signal) → output (of-kind Gain a (pos 0) 0 q) now Absent y before ≡ Absent
+      (output (of-kind Gain (pos 1_000_000_000) (pos 0) 0 q) now (Value (negsuc 1)) y before ≡ Value (negsuc 999_999_999)) ×
+      (output (of-kind Gain a (pos 0) 0 q) now Absent y before ≡ Absent)
   -- 2 adder: "clamped sum of the present inputs": 2 and −5; and 10^9 and 1, clamped
   pub adder :
       (q : Part) (now : Point) (before : Signal) →
