@@ -16,7 +16,7 @@ use Rattle.machine.specs.Rehearse.{most-read, refused-at-line, loaded-lines, re
 use Rattle.writing.specs.Put.{Put}
 use Rattle.rehearse.specs.declared.play.Rehearsing.{Rehearsing}
 use Rattle.rehearse.specs.Playing.{unprinted, PlayedSome}
-use Rattle.rehearse.specs.Batches.{BytesRead, to-come, Batched, SoFar}
+use Rattle.rehearse.specs.Batches.{BytesRead, to-come, Batched, PrintedSoFar}
 use Rattle.rehearse.proofs.Lines.{lines-go-on}
 
 -- a rehearsal with nothing put into a buffer
@@ -76,10 +76,10 @@ batch-of-score {input = input} {n = n} {from = from} {next = next} goes loaded r
     }
 
 -- at first nothing is printed, and a batch prints its text behind what was printed before it
-pub nothing-so-far : (input : List ℕ) (s : Rehearsing) → to-come input s ≡ rehearsed input → SoFar input s
+pub nothing-so-far : (input : List ℕ) (s : Rehearsing) → to-come input s ≡ rehearsed input → PrintedSoFar input s
 nothing-so-far input s begun = record { printed = []; whole = begun }
 
-pub one-batch-more : {input buffer : List ℕ} {s next : Rehearsing} → SoFar input s → Batched input s buffer next → SoFar input next
+pub one-batch-more : {input buffer : List ℕ} {s next : Rehearsing} → PrintedSoFar input s → Batched input s buffer next → PrintedSoFar input next
 one-batch-more {buffer = buffer} {next = next} so-far batch =
     record {
       printed = so-far .printed ++ take (next .used) buffer;

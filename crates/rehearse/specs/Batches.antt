@@ -25,7 +25,7 @@ pub record Batched (input : List ℕ) (from : Rehearsing) (buffer : List ℕ) (n
   pub later : next .ended ≡ false → 1024 ≤ length buffer → (from .at < next .at) × (from .at < length input)
 
 -- what was printed so far and what is to come are what is rehearsed
-pub record SoFar (input : List ℕ) (s : Rehearsing) : Type 0 where
+pub record PrintedSoFar (input : List ℕ) (s : Rehearsing) : Type 0 where
   pub printed : List ℕ
   pub whole : printed ++ to-come input s ≡ rehearsed input
 

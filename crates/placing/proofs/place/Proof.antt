@@ -20,7 +20,7 @@ use Rattle.placing.proofs.place.Statement.{statement}
 use Rattle.placing.proofs.place.Tie as tie
 
 -- a turn that finds the part k: its mark can be cleared, and there is a place for it
-record Turn (count : ℕ) (direct : List Direct) (w k : ℕ) : Type 0 where
+record PlacingTurn (count : ℕ) (direct : List Direct) (w k : ℕ) : Type 0 where
   found : lowest-among (marks-of count w) (marks-of count w) 0 (take count direct) ≡ some k
   rest : Cleared count w k
   below : k < 32
@@ -29,7 +29,7 @@ record Turn (count : ℕ) (direct : List Direct) (w k : ℕ) : Type 0 where
 
 -- the code's answer says that it is such a turn
 turn : (count : ℕ) (direct : List Direct) (w k : ℕ) → count ≤ 32 → w < 2 ^ count →
-    found-as (lowest-among (marks-of 32 w) (marks-of 32 w) 0 direct) ≡ At k → Turn count direct w k
+    found-as (lowest-among (marks-of 32 w) (marks-of 32 w) 0 direct) ≡ At k → PlacingTurn count direct w k
 turn count direct w k few fits answer =
     let marks = marks-of count w in
     let found = sym (lowest-word count w direct few fits) ∙ found-at _ k answer in
@@ -55,7 +55,7 @@ few-ones c = ones-le (c .before .before .before .args .count) (c .loop .marks) (
 -- the turn, where the code has found a part
 turn-of : (c : tie.After-known-told Inv-loop μ-loop) →
     let loop = c .before .before .before .before in
-    Turn (loop .before .before .before .args .count) (loop .before .before .all-direct .result) (loop .loop .marks) (c .before .k .given .0 .0)
+    PlacingTurn (loop .before .before .before .args .count) (loop .before .before .all-direct .result) (loop .loop .marks) (c .before .k .given .0 .0)
 turn-of c =
     let asked = c .before .before .before in
     let loop = asked .before in

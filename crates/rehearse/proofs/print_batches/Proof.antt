@@ -5,13 +5,13 @@ use native.Mathlib.Omega.{arith}
 use Prim.Native.Nat.{_-_}
 use mathlib.Core.Path.{_≡_}
 use lib.ListN.{length, length-take}
-use Rattle.rehearse.specs.Batches.{SoFar}
+use Rattle.rehearse.specs.Batches.{PrintedSoFar}
 use Rattle.rehearse.proofs.Batching.{nothing-so-far, one-batch-more}
 use Rattle.rehearse.proofs.print_batches.Statement.{statement}
 use Rattle.rehearse.proofs.print_batches.Tie as tie
 
 abbrev Inv-loop : tie.InvT-loop
-Inv-loop input lines₀ now₀ lines now = (length lines ≡ 65536) × SoFar input now
+Inv-loop input lines₀ now₀ lines now = (length lines ≡ 65536) × PrintedSoFar input now
 
 abbrev μ-loop : tie.MeasureT-loop
 μ-loop input lines₀ now₀ lines now = length input - now .at
