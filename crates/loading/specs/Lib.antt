@@ -1,4 +1,4 @@
--- No model, the places of a table's parts, what End comes to, positions; and what `load`'s contract comes to for a caller (`Owed`).
+-- No model, the places of a table's parts, what End comes to, positions; and what `load`'s contract comes to for a caller (`LoadOwed`).
 pub mod Blank
 pub mod Places
 pub mod EndRefusals

@@ -1,5 +1,6 @@
 -- Document 01's table of kinds, line by line, with the sentences below it that say what a step changes: a small law or two of each kind, as rows of a single
--- statement. Each row is read off the paper and not off the definitions, so that a definition that is bent makes a row false. Assumes nothing.
+-- statement. Each row has the paper's words above it, and says them of every part of its kind, so that a definition that is bent makes a row false. Assumes
+-- nothing.
 use Prim.Native.Nat.{ℕ}
 use mathlib.Core.Path.{_≡_}
 use mathlib.Core.Bool.{true, false}

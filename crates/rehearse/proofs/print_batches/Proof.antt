@@ -1,6 +1,6 @@
--- `print_batches` ends, and what it writes at each turn is the batch's text. The invariant: the buffer keeps its length, and what was printed so far with what is to come
--- is what is rehearsed, where printed is the text of each batch behind the others, as handed to `write_all` (`one-batch-more`). The measure is what is left of the
--- input, since a batch that is not the last moves on.
+-- `print_batches` is safe and ends. The invariant: the buffer keeps its length, and some text with what is to come is what is rehearsed; that text grows by each batch's
+-- own (`one-batch-more`). It does not say that this text was written: no contract speaks of what `write_all` is given, so that is read off the code. The measure
+-- is what is left of the input, since a batch that is not the last moves on.
 use native.Mathlib.Omega.{arith}
 use Prim.Native.Nat.{_-_}
 use mathlib.Core.Path.{_≡_}
