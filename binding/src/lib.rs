@@ -47,12 +47,12 @@ pub const KINDS: [Kind; 12] = [
     Kind::Drive,
 ];
 
-/// The side on which a detector last saw its input.
+/// The side of zero on which a detector last saw its input; zero itself is on neither.
 #[derive(Clone, Copy, Debug, PartialEq, Eq)]
 pub enum Side {
     Unset,
     Negative,
-    NotNegative,
+    Positive,
 }
 
 /// A detector's pending mark: none, 1 or -1.

@@ -47,7 +47,7 @@ impl<'a> Reader<'a> {
     fn side(&mut self) -> Side {
         match self.word() {
             1 => Side::Negative,
-            2 => Side::NotNegative,
+            2 => Side::Positive,
             _ => Side::Unset,
         }
     }

@@ -72,7 +72,7 @@ fn integrator_into_detector() {
     }
     assert_eq!((steps, revisions), (vec![2, 1, 1, 0], vec![2, 3, 3, 0]));
     assert_eq!((model.t, model.n, model.parts[2].output), (4, 1, Some(1)));
-    assert_eq!((model.parts[2].side, model.parts[2].mark), (Side::NotNegative, Mark::Clear));
+    assert_eq!((model.parts[2].side, model.parts[2].mark), (Side::Positive, Mark::Clear));
     assert_eq!(Model::from_bytes(&model.bytes()), model);
 }
 

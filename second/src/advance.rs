@@ -148,7 +148,7 @@ impl Model {
                 Kind::Detector { .. } => {
                     let x = port(part, 0, next);
                     part.mark = crossing(part.side, x);
-                    part.side = x.map(Side::of).or(part.side);
+                    part.side = Side::of(x).or(part.side);
                 }
                 _ => {}
             }
@@ -242,7 +242,7 @@ fn objects(part: &Part, h: u64, next: &[Signal; MOST_PARTS]) -> bool {
 
 /// The mark that a detector sets which last saw `side` and now sees `x`.
 fn crossing(side: Option<Side>, x: Signal) -> Option<Side> {
-    let now = Side::of(x?);
+    let now = Side::of(x)?;
     (side? != now).then_some(now)
 }
 

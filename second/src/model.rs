@@ -1,6 +1,7 @@
 //! Points of time, parts and models, and the test whether a model is one that loading and advancing can give.
 
 use crate::order;
+use std::cmp::Ordering;
 
 pub const LAST_TICK: u64 = 1_000_000_000_000_000_000;
 pub const LAST_MICROSTEP: u16 = 999;
@@ -48,15 +49,16 @@ pub type Signal = Option<i32>;
 #[derive(Clone, Copy, Debug, PartialEq, Eq)]
 pub enum Side {
     Negative,
-    NotNegative,
+    Positive,
 }
 
 impl Side {
-    pub fn of(x: i32) -> Side {
-        if x < 0 {
-            Side::Negative
-        } else {
-            Side::NotNegative
+    /// The side that an input is on: none where it is zero or absent, and a detector then stays on its own.
+    pub fn of(x: Signal) -> Option<Side> {
+        match x?.cmp(&0) {
+            Ordering::Less => Some(Side::Negative),
+            Ordering::Equal => None,
+            Ordering::Greater => Some(Side::Positive),
         }
     }
 
@@ -64,7 +66,7 @@ impl Side {
     pub fn mark(self) -> i32 {
         match self {
             Side::Negative => -1,
-            Side::NotNegative => 1,
+            Side::Positive => 1,
         }
     }
 }

@@ -128,7 +128,7 @@ fn side_code(side: Option<Side>) -> u64 {
     match side {
         None => 0,
         Some(Side::Negative) => 1,
-        Some(Side::NotNegative) => 2,
+        Some(Side::Positive) => 2,
     }
 }
 
@@ -168,7 +168,7 @@ fn put_part(words: &mut [u64], part: &Part) {
     // A mark says where the input went: up is 1, down is 2.
     words[MARK] = match part.mark {
         None => 0,
-        Some(Side::NotNegative) => 1,
+        Some(Side::Positive) => 1,
         Some(Side::Negative) => 2,
     };
 }
@@ -225,7 +225,7 @@ fn part_of(words: &[u64]) -> Option<Part> {
         output: signal(OUTPUT)?,
         held: value(words, HELD)?,
         kept: signal(SIGNAL)?,
-        side: [None, Some(Side::Negative), Some(Side::NotNegative)][words[SIDE] as usize],
-        mark: [None, Some(Side::NotNegative), Some(Side::Negative)][words[MARK] as usize],
+        side: [None, Some(Side::Negative), Some(Side::Positive)][words[SIDE] as usize],
+        mark: [None, Some(Side::Positive), Some(Side::Negative)][words[MARK] as usize],
     })
 }

@@ -69,7 +69,7 @@ fn side(word: &str) -> Option<Side> {
     match word {
         "unset" => Some(Side::Unset),
         "negative" => Some(Side::Negative),
-        "positive" => Some(Side::NotNegative),
+        "positive" => Some(Side::Positive),
         _ => None,
     }
 }

@@ -9,7 +9,7 @@ use Rattle.machine.specs.declared.signal.Signal.the-variants.{Absent, Value}
 use Rattle.machine.specs.declared.part.Source.{Source}
 use Rattle.machine.specs.declared.part.Source.the-variants.{Unwired, From}
 use Rattle.machine.specs.declared.part.Side.{Side}
-use Rattle.machine.specs.declared.part.Side.the-variants.{Unset, Negative, NotNegative}
+use Rattle.machine.specs.declared.part.Side.the-variants.{Unset, Negative, Positive}
 use Rattle.machine.specs.declared.part.Mark.{Mark}
 use Rattle.machine.specs.declared.part.Mark.the-variants.{Clear, Rising, Falling}
 use Rattle.machine.specs.declared.part.Component.{Component}
@@ -25,7 +25,7 @@ source-coded w = cond (eqb w 0) Unwired (From ((w - 1) % 65536))
 
 -- a side, and a mark, by its word
 unfoldable pub side-coded : ℕ → Side
-side-coded w = cond (eqb w 1) Negative (cond (eqb w 2) NotNegative Unset)
+side-coded w = cond (eqb w 1) Negative (cond (eqb w 2) Positive Unset)
 
 unfoldable pub mark-coded : ℕ → Mark
 mark-coded w = cond (eqb w 1) Rising (cond (eqb w 2) Falling Clear)

@@ -10,7 +10,7 @@ use Rattle.machine.specs.declared.part.Kind.{Kind}
 use Rattle.machine.specs.declared.part.Source.{Source}
 use Rattle.machine.specs.declared.part.Source.the-variants.{Unwired, From}
 use Rattle.machine.specs.declared.part.Side.{Side}
-use Rattle.machine.specs.declared.part.Side.the-variants.{Unset, Negative, NotNegative}
+use Rattle.machine.specs.declared.part.Side.the-variants.{Unset, Negative, Positive}
 use Rattle.machine.specs.declared.part.Mark.{Mark}
 use Rattle.machine.specs.declared.part.Mark.the-variants.{Clear, Rising, Falling}
 use Rattle.machine.specs.declared.part.Component.{Component}
@@ -33,7 +33,7 @@ source-code (From k) = k + 1
 abbrev pub side-code : Side → ℕ
 side-code Unset = 0
 side-code Negative = 1
-side-code NotNegative = 2
+side-code Positive = 2
 
 abbrev pub mark-code : Mark → ℕ
 mark-code Clear = 0

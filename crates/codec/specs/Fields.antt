@@ -14,7 +14,7 @@ use Rattle.machine.specs.declared.part.Kind.the-variants.{Constant, Gain, Adder
 use Rattle.machine.specs.declared.part.Source.{Source}
 use Rattle.machine.specs.declared.part.Source.the-variants.{Unwired, From}
 use Rattle.machine.specs.declared.part.Side.{Side}
-use Rattle.machine.specs.declared.part.Side.the-variants.{Unset, Negative, NotNegative}
+use Rattle.machine.specs.declared.part.Side.the-variants.{Unset, Negative, Positive}
 use Rattle.machine.specs.declared.part.Mark.{Mark}
 use Rattle.machine.specs.declared.part.Mark.the-variants.{Clear, Rising, Falling}
 use Rattle.machine.specs.Kind.{kind-number, kind-of}
@@ -136,7 +136,7 @@ pub side-back : (s : Side) → side-coded (in-word (side-code s)) ≡ s
 unfolding side-coded
 side-back Unset = refl
 side-back Negative = refl
-side-back NotNegative = refl
+side-back Positive = refl
 
 pub mark-back : (m : Mark) → mark-coded (in-word (mark-code m)) ≡ m
 unfolding mark-coded

@@ -62,7 +62,7 @@ pub fn side_code(s: Side) -> u64
     match s {
         Side::Unset => 0,
         Side::Negative => 1,
-        Side::NotNegative => 2,
+        Side::Positive => 2,
     }
 }
 
@@ -74,7 +74,7 @@ pub(crate) fn side_coded(w: u64) -> Side
         return Side::Negative;
     }
     if w == 2 {
-        return Side::NotNegative;
+        return Side::Positive;
     }
     Side::Unset
 }

@@ -27,6 +27,16 @@ pub not-negative : (v : ℤ) → ltZ v (pos 0) ≡ false → v ≡ pos (mag v)
 not-negative (pos n) from = refl
 not-negative (negsuc n) from = absurd (true≢false from)
 
+-- of those that are not below 0, one above 0 is the next of another, and one that is not above 0 is 0
+pub positive : (v : ℤ) → ltZ (pos 0) v ≡ true → v ≡ pos (suc (mag v - 1))
+positive (pos zero) above = absurd (omega (arith, ltb-true 0 0 above))
+positive (pos (suc n)) above = let same : n ≡ suc n - 1 = omega arith in ap (λ (k : ℕ). pos (suc k)) same
+positive (negsuc n) above = absurd (false≢true above)
+
+pub only-zero : (v : ℤ) → ltZ v (pos 0) ≡ false → ltZ (pos 0) v ≡ false → v ≡ pos zero
+only-zero (pos n) from to = ap pos (omega (arith, ltb-false 0 n to))
+only-zero (negsuc n) from to = absurd (true≢false from)
+
 -- a word's bits are 0 where its number is
 pub zero-bits : (v : ℤ) → SFits w64 v → eqb (ofZ w64 v) 0 ≡ is-zero v
 zero-bits (pos n) f = refl

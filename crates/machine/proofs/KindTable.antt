@@ -8,10 +8,10 @@ use lib.IntN.{ℤ, pos, negsuc}
 use borrow.Author.Tests.{leb-true, lt-ltb}
 use Rattle.machine.specs.declared.signal.Signal.the-variants.{Absent, Value}
 use Rattle.machine.specs.declared.part.Side.{Side}
-use Rattle.machine.specs.declared.part.Side.the-variants.{Unset, Negative, NotNegative}
+use Rattle.machine.specs.declared.part.Side.the-variants.{Unset, Negative, Positive}
 use Rattle.machine.specs.declared.part.Mark.the-variants.{Clear}
 use Rattle.machine.specs.Signal.{clamp, integral, is-value}
-use Rattle.machine.specs.Kind.{integrates, mark-after, side-after}
+use Rattle.machine.specs.Kind.{integrates, mark-between}
 use Rattle.machine.specs.KindTable.{KindTable}
 use Rattle.machine.proofs.Computing.{computing}
 
@@ -32,12 +32,11 @@ integral-absent (negsuc n) d e =
     let above : 0 < suc n = omega arith in
     let less : suc n - 1 ≡ n = omega arith in rw (none, lt-ltb 0 (suc n) above, less) (clamp-of-value (negsuc n) e)
 
--- an absent input sets no mark
-absent-unmarked : (side : Side) → mark-after side Absent ≡ Clear
-unfolding mark-after side-after
-absent-unmarked Unset = refl
-absent-unmarked Negative = refl
-absent-unmarked NotNegative = refl
+-- a side that stays sets no mark
+pub kept-unmarked : (side : Side) → mark-between side side ≡ Clear
+kept-unmarked Unset = refl
+kept-unmarked Negative = refl
+kept-unmarked Positive = refl
 
 -- what a test picks from two that are alike
 alike : (b : Bool) (x y z : ℤ) → x ≡ z → y ≡ z → cond b x y ≡ z
@@ -63,8 +62,9 @@ kind-table =
       reset = λ a held v s q now x before. (refl, refl);
       reset-held = λ a v q now next x before other last. refl;
       detector = λ side held s q now x y before. (refl, refl, refl);
-      crossed = λ q. (refl, refl, refl, refl);
-      uncrossed = λ side v q. (refl, refl, refl, absent-unmarked side, refl);
+      crossed = λ n q. (refl, refl, refl, refl);
+      uncrossed = λ side v q. (refl, refl, refl, kept-unmarked side, refl);
+      at-zero = λ side q. (refl, kept-unmarked side);
       hold = λ v held s c q now y before. (refl, refl, refl);
       hold-kept = λ v q now next y before other last. refl;
       sampler = λ w q now x before. (refl, refl);

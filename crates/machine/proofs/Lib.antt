@@ -1,7 +1,8 @@
 -- What is proved of the definitions themselves: `played`, the ten marked examples, `rehearsals`, what is printed of refused and of long streams,
--- `chained`, an example of a chain of calls, and `kind-table`, the table of kinds line by line.
+-- `chained`, an example of a chain of calls, `kind-table`, the table of kinds line by line, and `crossings`, that zeros leave no trace at a detector.
 pub mod Computing
 pub mod Played
 pub mod Rehearsals
 pub mod Chained
 pub mod KindTable
+pub mod Crossings

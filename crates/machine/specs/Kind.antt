@@ -1,6 +1,6 @@
 -- Document 01, "Kinds of part": numbers, ports, direct ports, operands; the output of each kind at a point; what sides and marks become.
 -- Document 01's own terms, a mark, a side and a direct port, are explained where they are defined. Assumes nothing.
-use Prim.Native.Nat.{ℕ, _-_, _*_, _/_, _%_}
+use Prim.Native.Nat.{ℕ, zero, suc, _-_, _*_, _/_, _%_}
 use mathlib.Core.Bool.{Bool, true, false, cond, _&&_}
 use mathlib.Core.List.{List, [], _∷_}
 use lib.ListN.{getD}
@@ -12,7 +12,7 @@ use Rattle.machine.specs.declared.signal.Signal.the-variants.{Absent, Va
 use Rattle.machine.specs.declared.part.Kind.{Kind}
 use Rattle.machine.specs.declared.part.Kind.the-variants.{Constant, Gain, Adder, Square, Pulse, Delay, Integrator, ResetIntegrator, Detector, Hold, Sampler, Drive}
 use Rattle.machine.specs.declared.part.Side.{Side}
-use Rattle.machine.specs.declared.part.Side.the-variants.{Unset, Negative, NotNegative}
+use Rattle.machine.specs.declared.part.Side.the-variants.{Unset, Negative, Positive}
 use Rattle.machine.specs.declared.part.Mark.{Mark}
 use Rattle.machine.specs.declared.part.Mark.the-variants.{Clear, Rising, Falling}
 use Rattle.machine.specs.declared.part.Part.{Part}
@@ -222,25 +222,23 @@ integrates Hold = false
 integrates Sampler = false
 integrates Drive = true
 
--- a side: "A detector sees its input as negative or not negative"
-abbrev pub side-of : ℤ → Side
-side-of (pos n) = NotNegative
-side-of (negsuc n) = Negative
-
--- "Its side then becomes the input's; an absent input keeps it"
+-- a side: "A detector sees its input as negative or not negative", and "Its side then becomes the input's; an absent input keeps it". Request 1: "The trade now
+-- counts zero as the side held before. A detector whose side is unset stays unset at zero." So zero keeps the side too, and not negative is positive
 unfoldable pub side-after : Side → Signal → Side
 side-after s Absent = s
-side-after s (Value v) = side-of v
+side-after s (Value (negsuc n)) = Negative
+side-after s (Value (pos zero)) = s
+side-after s (Value (pos (suc n))) = Positive
 
--- the mark, by the sides before and after: 1 (now not negative), −1, or none where they are the same or either is unset
+-- the mark, by the sides before and after: 1 (now "not negative": positive), −1, or none where they are the same or either is unset
 abbrev pub mark-between : Side → Side → Mark
 mark-between Unset s = Clear
 mark-between Negative Unset = Clear
 mark-between Negative Negative = Clear
-mark-between Negative NotNegative = Rising
-mark-between NotNegative Unset = Clear
-mark-between NotNegative Negative = Falling
-mark-between NotNegative NotNegative = Clear
+mark-between Negative Positive = Rising
+mark-between Positive Unset = Clear
+mark-between Positive Negative = Falling
+mark-between Positive Positive = Clear
 
 -- "If present and of another side than its last, the mark becomes 1 (now not negative) or −1; otherwise none"
 unfoldable pub mark-after : Side → Signal → Mark

@@ -1,7 +1,7 @@
 -- Document 01's table of kinds, line by line, with the sentences below it that say what a step changes: a small law or two of each kind, as rows of a single
 -- statement. Each row has the paper's words above it, and says them of every part of its kind, so that a definition that is bent makes a row false. Assumes
 -- nothing.
-use Prim.Native.Nat.{ℕ}
+use Prim.Native.Nat.{ℕ, suc}
 use mathlib.Core.Path.{_≡_}
 use mathlib.Core.Bool.{true, false}
 use lib.IntN.{ℤ, pos, negsuc}
@@ -11,7 +11,7 @@ use Rattle.machine.specs.declared.signal.Signal.the-variants.{Absent, Va
 use Rattle.machine.specs.declared.part.Kind.{Kind}
 use Rattle.machine.specs.declared.part.Kind.the-variants.{Constant, Gain, Adder, Square, Pulse, Delay, Integrator, ResetIntegrator, Detector, Hold, Sampler, Drive}
 use Rattle.machine.specs.declared.part.Side.{Side}
-use Rattle.machine.specs.declared.part.Side.the-variants.{Unset, Negative, NotNegative}
+use Rattle.machine.specs.declared.part.Side.the-variants.{Unset, Negative, Positive}
 use Rattle.machine.specs.declared.part.Mark.{Mark}
 use Rattle.machine.specs.declared.part.Mark.the-variants.{Clear, Rising, Falling}
 use Rattle.machine.specs.declared.part.Component.{Component}
@@ -147,16 +147,18 @@ pub record KindTable : Type 0 where
       (output (keeping held s side Rising (of-kind Detector (pos 0) (pos 0) 1 q)) now x y before ≡ Value (pos 1)) ×
       (output (keeping held s side Falling (of-kind Detector (pos 0) (pos 0) 1 q)) now x y before ≡ Value (negsuc 0)) ×
       (output (keeping held s side Clear (of-kind Detector (pos 0) (pos 0) 1 q)) now x y before ≡ Absent)
-  -- "of another side than its last, the mark becomes 1 (now not negative) or −1"; 0 is not negative
+  -- "of another side than its last, the mark becomes 1 (now not negative) or −1", not negative being positive by request 1
   pub crossed :
-      (q : Part) →
-      (seen Negative (Value (pos 0)) q .mark ≡ Rising) × (seen Negative (Value (pos 0)) q .side ≡ NotNegative) ×
-      (seen NotNegative (Value (negsuc 0)) q .mark ≡ Falling) × (seen NotNegative (Value (negsuc 0)) q .side ≡ Negative)
+      (n : ℕ) (q : Part) →
+      (seen Negative (Value (pos (suc n))) q .mark ≡ Rising) × (seen Negative (Value (pos (suc n))) q .side ≡ Positive) ×
+      (seen Positive (Value (negsuc n)) q .mark ≡ Falling) × (seen Positive (Value (negsuc n)) q .side ≡ Negative)
   -- "otherwise none": the same side again; "an absent input keeps it"; "unset until a first value, which sets no mark"
   pub uncrossed :
       (side : Side) (v : ℤ) (q : Part) →
-      (seen Negative (Value (negsuc 0)) q .mark ≡ Clear) × (seen NotNegative (Value (pos 0)) q .mark ≡ Clear) ×
+      (seen Negative (Value (negsuc 0)) q .mark ≡ Clear) × (seen Positive (Value (pos 1)) q .mark ≡ Clear) ×
       (seen side Absent q .side ≡ side) × (seen side Absent q .mark ≡ Clear) × (seen Unset (Value v) q .mark ≡ Clear)
+  -- request 1: "counts zero as the side held before. A detector whose side is unset stays unset at zero"
+  pub at-zero : (side : Side) (q : Part) → (seen side (Value (pos 0)) q .side ≡ side) × (seen side (Value (pos 0)) q .mark ≡ Clear)
   -- 9 hold: "x if present (direct), else the held signal, at first absent"
   pub hold :
       (v held : ℤ) (s : Signal) (c : Component) (q : Part) (now : Point) (y before : Signal) →

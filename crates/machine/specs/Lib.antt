@@ -19,3 +19,4 @@ pub mod Rehearse
 pub mod Played
 pub mod Rehearsals
 pub mod KindTable
+pub mod Crossings

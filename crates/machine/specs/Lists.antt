@@ -1,6 +1,6 @@
 -- What the other files say of lists in general; nothing here is document 01's. Assumes nothing.
 use Prim.Native.Nat.{ℕ}
-use mathlib.Core.Bool.{Bool, true, false, _&&_, _||_}
+use mathlib.Core.Bool.{Bool, true, false, cond, _&&_, _||_}
 use mathlib.Core.List.{List, [], _∷_}
 use lib.Dec.{eqb}
 
@@ -13,6 +13,11 @@ every f (x ∷ xs) = f x && every f xs
 unfoldable pub any {ℓ} : {A : Type ℓ} → (A → Bool) → List A → Bool
 any f [] = false
 any f (x ∷ xs) = f x || any f xs
+
+-- the elements of which f holds, in their order
+unfoldable pub selected {ℓ} : {A : Type ℓ} → (A → Bool) → List A → List A
+selected f [] = []
+selected f (x ∷ xs) = cond (f x) (x ∷ selected f xs) (selected f xs)
 
 -- the number n is in the list
 unfoldable pub member : ℕ → List ℕ → Bool

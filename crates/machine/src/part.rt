@@ -28,11 +28,12 @@ pub enum Source {
     From(u16),
 }
 
-// The side on which a zero-crossing detector last saw its input.
+// The side of zero on which a zero-crossing detector last saw its input; zero itself is on neither.
+// Document 01 has negative and not negative, and request 1 made the second positive.
 pub enum Side {
     Unset,
     Negative,
-    NotNegative,
+    Positive,
 }
 
 // A zero-crossing detector's pending mark: none, 1 or -1.

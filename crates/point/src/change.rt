@@ -24,17 +24,20 @@ ghost use Rattle.machine.specs.Step.{gain-of, moved, settled, settled-as, with-
 ghost use Rattle.point.specs.States.{with-held, with-mark, with-signal};
 ghost use Rattle.point.specs.PartRanges.{PartFits, StepFits};
 
-// The side on which a detector sees its input; an absent one keeps the side `s`.
-fn side_after(s: Side, x: Signal) -> Side
-    ensures { λ r. ⌜ r ≡ side-after s x ⌝ }
+// The side on which a detector sees its input; zero and an absent one keep the side `kept`.
+fn side_after(kept: Side, x: Signal) -> Side
+    ensures { λ r. ⌜ r ≡ side-after kept x ⌝ }
 {
     let Signal::Value(v) = x else {
-        return s;
+        return kept;
     };
     if v < 0 {
         return Side::Negative;
     }
-    Side::NotNegative
+    if 0 < v {
+        return Side::Positive;
+    }
+    kept
 }
 
 // The mark that a detector sets, by its sides before and after.
@@ -46,12 +49,12 @@ fn mark_between(before: Side, after: Side) -> Mark
         Side::Negative => match after {
             Side::Unset => Mark::Clear,
             Side::Negative => Mark::Clear,
-            Side::NotNegative => Mark::Rising,
+            Side::Positive => Mark::Rising,
         },
-        Side::NotNegative => match after {
+        Side::Positive => match after {
             Side::Unset => Mark::Clear,
             Side::Negative => Mark::Falling,
-            Side::NotNegative => Mark::Clear,
+            Side::Positive => Mark::Clear,
         },
     }
 }

@@ -94,7 +94,7 @@ fn print_side(s: Side) {
     match s {
         Side::Unset => print(b", side unset"),
         Side::Negative => print(b", side negative"),
-        Side::NotNegative => print(b", side not negative"),
+        Side::Positive => print(b", side positive"),
     }
 }
 

@@ -213,13 +213,14 @@ fn group(draft: &mut Draft, scale: Scale, random: &mut Random) {
     if draft.is_full(8) {
         return;
     }
-    match random.below(9) {
+    match random.below(10) {
         0..=2 => watched(draft, scale, random),
         3 => sampled(draft, scale, random),
         4 => delayed(draft, scale, random),
         5 => to_and_fro(draft, scale, random),
         6 => switched(draft, scale, random),
         7 => seen_at_times(draft, scale, random),
+        8 => at_zero(draft, random),
         _ => drives(draft, scale, random),
     }
 }
@@ -299,6 +300,28 @@ fn seen_at_times(draft: &mut Draft, scale: Scale, random: &mut Random) {
     }
     let sampler = draft.add_joining(SAMPLER, level, pulse);
     draft.add_reading(sampler, DETECTOR, 0, scale.tolerance(random));
+}
+
+/// A level that comes to exactly zero, or starts there, rests there or not, and goes back or through: with a detector on
+/// it, and mostly one on its mirror image.
+fn at_zero(draft: &mut Draft, random: &mut Random) {
+    let (rate, ticks) = (random.between(1, 3) as i32, random.between(1, 5) as u32);
+    let (rests, back, starts) = (random.once_in(2), random.once_in(2), random.once_in(4));
+    // Its rates in turn, for so many ticks each.
+    let second = if rests { 0 } else { random.pick(&[-rate, rate]) };
+    let (first, second) = if starts { (second, -rate) } else { (-rate, second) };
+    let mut push = draft.add(SQUARE, first, second, ticks);
+    if rests && back {
+        let other = draft.add(SQUARE, 0, 2 * rate, 2 * ticks);
+        push = draft.add_joining(ADDER, push, other);
+    }
+    let start = if starts { 0 } else { rate * ticks as i32 };
+    let level = draft.add_reading(push, INTEGRATOR, start, 0);
+    draft.add_reading(level, DETECTOR, 0, random.between(1, 4) as u32);
+    if !random.once_in(4) {
+        let mirrored = draft.add_reading(level, GAIN, -1, 0);
+        draft.add_reading(mirrored, DETECTOR, 0, random.between(1, 4) as u32);
+    }
 }
 
 /// Drives behind one source.

@@ -14,6 +14,7 @@ mod program;
 mod random;
 mod seen;
 mod swept;
+mod zeros;
 
 use named::Named;
 use program::Program;

@@ -60,6 +60,7 @@ fn case(name: &'static str, stream: Vec<u8>, expected: &str, wrong_reading: Opti
 
 pub fn named() -> Vec<Named> {
     let mut all = readings_that_miss();
+    all.extend(zeros_that_mark());
     all.extend(played_examples());
     all.push(restless());
     all.push(case("played: the empty stream", Vec::new(), "refused 1 at 0\n", None));
@@ -99,6 +100,30 @@ fn readings_that_miss() -> Vec<Named> {
             Table::new(0).part(PULSE, 7, 0, 4).score(&[10, 10, 10, 10]),
             "4 0 4 2 0 -\n4 1 0 2 0 7\n8 0 4 2 0 -\n8 1 0 2 0 7\n",
             Some("4 0 4 2 0 -\n8 0 4 2 0 -\n12 0 4 2 0 -\n16 0 4 2 0 -\n"),
+        ),
+    ]
+}
+
+/// What zero was before request 1, not negative: a touch from below then sets two marks, and a passage one too soon.
+fn zeros_that_mark() -> Vec<Named> {
+    vec![
+        case(
+            "missed: a mark at a touch of zero from below",
+            Table::new(0).part(SQUARE, -1, 0, 2).part(DETECTOR, 0, 0, 1).wire(0, 1, 0).score(&[2; 5]),
+            "2 0 2 1 0 -1 -\n2 1 0 2 0 0 -\n4 0 2 1 0 0 -\n4 1 0 2 0 -1 -\n6 0 2 1 0 -1 -\n",
+            Some("2 0 2 1 0 -1 -\n2 1 0 2 0 0 -\n2 2 0 2 0 0 1\n4 0 2 1 0 0 -\n4 1 0 2 0 -1 -\n"),
+        ),
+        case(
+            "missed: a mark at zero on the way through it",
+            Table::new(0)
+                .part(CONSTANT, 1, 0, 0)
+                .part(INTEGRATOR, -2, 0, 0)
+                .part(DETECTOR, 0, 0, 1)
+                .wire(0, 1, 0)
+                .wire(1, 2, 0)
+                .score(&[1; 4]),
+            "1 0 1 1 0 1 -1 -\n2 0 1 1 0 1 0 -\n3 0 1 1 0 1 1 -\n3 1 0 2 0 1 1 1\n",
+            Some("1 0 1 1 0 1 -1 -\n2 0 1 1 0 1 0 -\n2 1 0 2 0 1 0 1\n3 0 1 1 0 1 1 -\n"),
         ),
     ]
 }

@@ -1,6 +1,7 @@
 //! What the cases reached.
 
 use crate::draft::KINDS;
+use crate::zeros::Zeros;
 use second::load;
 
 /// Refusals that a stream of at most 65,536 bytes can reach. 23 needs a tick near 10^18 and 24 a model that no load gives.
@@ -21,16 +22,19 @@ pub struct Seen {
     most_revisions: u64,
     /// Steps of 0 and longer ones.
     steps: [u64; 2],
+    zeros: Zeros,
 }
 
 impl Seen {
     /// Counts a case and what it was answered.
     pub fn count(&mut self, stream: &[u8], output: &[u8]) {
         self.cases += 1;
+        let output = String::from_utf8_lossy(output);
         let accepted = match load(stream) {
             Ok(accepted) => {
                 self.accepted += 1;
                 count_kinds(&mut self.accepted_kinds, &stream[..accepted.end]);
+                self.zeros.count(&accepted.model, &output);
                 true
             }
             Err(refusal) => {
@@ -38,7 +42,7 @@ impl Seen {
                 false
             }
         };
-        for line in String::from_utf8_lossy(output).lines() {
+        for line in output.lines() {
             self.lines += 1;
             let words: Vec<&str> = line.split(' ').collect();
             let number = |at: usize| words.get(at).and_then(|word| word.parse::<u64>().ok()).unwrap_or(0);
@@ -62,6 +66,7 @@ impl Seen {
         add_each(&mut self.accepted_kinds, &other.accepted_kinds);
         add_each(&mut self.refused_kinds, &other.refused_kinds);
         add_each(&mut self.steps, &other.steps);
+        self.zeros.add(&other.zeros);
         self.most_rounds = self.most_rounds.max(other.most_rounds);
         self.most_revisions = self.most_revisions.max(other.most_revisions);
     }
@@ -85,6 +90,9 @@ impl Seen {
             must(self.refused_kinds[kind] > 0, format!("kind {kind} in a refused table"));
         }
         must(self.steps[0] > 0 && self.steps[1] > 0, "steps of 0 and longer ones".to_string());
+        for (name, count) in self.zeros.named() {
+            must(count > 0, format!("{name}, at a detector"));
+        }
         must(
             self.most_revisions == 29,
             format!("29 revisions, and no more (at most {} were made)", self.most_revisions),
@@ -98,9 +106,10 @@ impl Seen {
             let reached = counts.iter().enumerate().filter(|(_, &count)| count > 0);
             reached.map(|(number, count)| format!(" {number}:{count}")).collect()
         };
+        let zeros: Vec<String> = self.zeros.named().map(|(name, count)| format!("{name} {count}")).collect();
         format!(
             "{} tables accepted, {} refused; {} lines; refusals{}; in scores{}; kinds accepted{}; kinds refused{}; \
-             steps of 0 {}, longer {}; at most {} rounds and {} revisions",
+             steps of 0 {}, longer {}; at most {} rounds and {} revisions; at detectors {}",
             self.accepted,
             self.cases - self.accepted,
             self.lines,
@@ -112,11 +121,12 @@ impl Seen {
             self.steps[1],
             self.most_rounds,
             self.most_revisions,
+            zeros.join(", "),
         )
     }
 }
 
-fn add_each(to: &mut [u64], from: &[u64]) {
+pub fn add_each(to: &mut [u64], from: &[u64]) {
     for (to, from) in to.iter_mut().zip(from) {
         *to += from;
     }
