@@ -13,10 +13,10 @@ use Rattle.machine.specs.declared.signal.Signal.the-variants.{Absent, Va
 use Rattle.machine.specs.declared.part.Side.{Side}
 use Rattle.machine.specs.declared.part.Side.the-variants.{Negative, Positive}
 use Rattle.machine.specs.declared.part.Mark.the-variants.{Clear}
-use Rattle.machine.specs.Lists.{every, selected}
+use Rattle.machine.specs.Lists.{All, every, selected}
 use Rattle.machine.specs.Kind.{side-after, mark-after}
 use Rattle.machine.specs.Step.{settled-as}
-use Rattle.machine.specs.Crossings.{Crossings, Sighting, marks, resting, sighted, sightings, unmarked}
+use Rattle.machine.specs.Crossings.{Crossings, Sighting, marks, zero-or-absent, sighted, sightings, unmarked}
 use Rattle.machine.proofs.KindTable.{kept-unmarked}
 
 -- what is above zero is not zero
@@ -24,29 +24,36 @@ above-zero : (n : ℕ) → eqb (suc n) 0 ≡ false
 above-zero n = ne-eqb (suc n) 0 (λ e. omega arith)
 
 -- zero and an absent input keep the side and set no mark
-rested : (s : Side) (x : Signal) → resting x ≡ true → (sighted s x .after ≡ s) × (sighted s x .mark ≡ Clear)
+rested : (s : Side) (x : Signal) → zero-or-absent x ≡ true → (sighted s x .after ≡ s) × (sighted s x .mark ≡ Clear)
 unfolding side-after mark-after
 rested s Absent e = (refl, kept-unmarked s)
 rested s (Value (pos zero)) e = (refl, kept-unmarked s)
 rested s (Value (pos (suc n))) e = absurd (false≢true (rw (above-zero n) at e))
 rested s (Value (negsuc n)) e = absurd (false≢true e)
 
+-- at each point of a list
+at-each : (s : Side) (xs : List Signal) →
+    All (λ (e : Sighting). zero-or-absent (e .input) ≡ true → (e .after ≡ e .before) × (e .mark ≡ Clear)) (sightings s xs)
+unfolding sightings
+at-each s [] = tt
+at-each s (x ∷ xs) = (rested s x, at-each (side-after s x) xs)
+
 -- left out, they change nothing at the others
-left-out : (s : Side) (xs : List Signal) →
-    selected (λ (e : Sighting). not (resting (e .input))) (sightings s xs) ≡ sightings s (selected (λ (x : Signal). not (resting x)) xs)
+without-zeros : (s : Side) (xs : List Signal) →
+    selected (λ (e : Sighting). not (zero-or-absent (e .input))) (sightings s xs) ≡ sightings s (selected (λ (x : Signal). not (zero-or-absent x)) xs)
 unfolding selected sightings side-after
-left-out s [] = refl
-left-out s (Absent ∷ xs) = left-out s xs
-left-out s (Value (pos zero) ∷ xs) = left-out s xs
-left-out s (Value (pos (suc n)) ∷ xs) = rw (above-zero n) (ap (λ es. sighted s (Value (pos (suc n))) ∷ es) (left-out Positive xs))
-left-out s (Value (negsuc n) ∷ xs) = ap (λ es. sighted s (Value (negsuc n)) ∷ es) (left-out Negative xs)
+without-zeros s [] = refl
+without-zeros s (Absent ∷ xs) = without-zeros s xs
+without-zeros s (Value (pos zero) ∷ xs) = without-zeros s xs
+without-zeros s (Value (pos (suc n)) ∷ xs) = rw (above-zero n) (ap (λ es. sighted s (Value (pos (suc n))) ∷ es) (without-zeros Positive xs))
+without-zeros s (Value (negsuc n) ∷ xs) = ap (λ es. sighted s (Value (negsuc n)) ∷ es) (without-zeros Negative xs)
 
 -- behind a run of them, what follows is seen from the side before it
-behind : (s : Side) (rest later : List Signal) → every resting rest ≡ true → marks s (rest ++ later) ≡ unmarked rest ++ marks s later
+behind : (s : Side) (rest later : List Signal) → every zero-or-absent rest ≡ true → marks s (rest ++ later) ≡ unmarked rest ++ marks s later
 unfolding every marks sightings
 behind s [] later e = refl
 behind s (x ∷ rest) later e =
-    let (first, others) = and-eq-true-iff (resting x) (every resting rest) .0 e in
+    let (first, others) = and-eq-true-iff (zero-or-absent x) (every zero-or-absent rest) .0 e in
     rw (rested s x first .0, rested s x first .1) (ap (λ ms. Clear ∷ ms) (behind s rest later others))
 
 pub crossings : Crossings
@@ -54,9 +61,9 @@ unfolding marks sightings side-after mark-after settled-as
 crossings =
     record {
       taken = λ x s. (refl, refl);
-      traceless = left-out;
-      at-rest = rested;
-      touched = λ n rest later e. (behind _ rest _ e, behind _ rest _ e);
-      passed = λ n rest later e. (behind _ rest _ e, behind _ rest _ e);
-      first = λ n rest later e. (behind _ rest _ e, behind _ rest _ e);
+      untraced = without-zeros;
+      at-rest = at-each;
+      touch = λ n rest later e. (behind _ rest _ e, behind _ rest _ e);
+      passage = λ n rest later e. (behind _ rest _ e, behind _ rest _ e);
+      first-side = λ n rest later e. (behind _ rest _ e, behind _ rest _ e);
     }

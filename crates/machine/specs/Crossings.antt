@@ -2,7 +2,7 @@
 -- trace, as absent inputs leave none. A single statement; each row has the words above it that it says of every side and list. Assumes nothing.
 use Prim.Native.Nat.{ℕ, suc}
 use mathlib.Core.Path.{_≡_}
-use mathlib.Core.Bool.{Bool, true, cond, not}
+use mathlib.Core.Bool.{Bool, true, not}
 use mathlib.Core.List.{List, [], _∷_, _++_, map}
 use lib.IntN.{pos, negsuc}
 use Rattle.machine.specs.declared.signal.Signal.{Signal}
@@ -13,7 +13,7 @@ use Rattle.machine.specs.declared.part.Side.the-variants.{Unset, Negativ
 use Rattle.machine.specs.declared.part.Mark.{Mark}
 use Rattle.machine.specs.declared.part.Mark.the-variants.{Clear, Rising, Falling}
 use Rattle.machine.specs.declared.part.State.{State}
-use Rattle.machine.specs.Lists.{every, selected}
+use Rattle.machine.specs.Lists.{All, every, selected}
 use Rattle.machine.specs.Kind.{is-zero, side-after, mark-after}
 use Rattle.machine.specs.Step.{settled-as}
 
@@ -38,9 +38,9 @@ unfoldable pub marks : Side → List Signal → List Mark
 marks s xs = map (λ (e : Sighting). e .mark) (sightings s xs)
 
 -- an input is zero or absent
-abbrev pub resting : Signal → Bool
-resting Absent = true
-resting (Value v) = is-zero v
+abbrev pub zero-or-absent : Signal → Bool
+zero-or-absent Absent = true
+zero-or-absent (Value v) = is-zero v
 
 -- no mark at any of these points
 abbrev pub unmarked : List Signal → List Mark
@@ -53,23 +53,25 @@ pub record Crossings : Type 0 where
       (x : Signal) (s : State) →
       (settled-as Detector x s .side ≡ sighted (s .side) x .after) × (settled-as Detector x s .mark ≡ sighted (s .side) x .mark)
   -- zeros leave no trace: at the other inputs, sides before and after and marks are those of the list without its zeros and absent inputs
-  pub traceless :
+  pub untraced :
       (s : Side) (xs : List Signal) →
-      selected (λ (e : Sighting). not (resting (e .input))) (sightings s xs) ≡ sightings s (selected (λ (x : Signal). not (resting x)) xs)
-  -- and at a point left out there is no mark and the side stays, be it unset or not
-  pub at-rest : (s : Side) (x : Signal) → resting x ≡ true → (sighted s x .after ≡ s) × (sighted s x .mark ≡ Clear)
+      selected (λ (e : Sighting). not (zero-or-absent (e .input))) (sightings s xs) ≡ sightings s (selected (λ (x : Signal). not (zero-or-absent x)) xs)
+  -- and at each point left out there is no mark and the side stays, be it unset or not
+  pub at-rest :
+      (s : Side) (xs : List Signal) →
+      All (λ (e : Sighting). zero-or-absent (e .input) ≡ true → (e .after ≡ e .before) × (e .mark ≡ Clear)) (sightings s xs)
   -- a touch of zero from either side, however long the input rests there, sets no mark
-  pub touched :
-      (n : ℕ) (rest later : List Signal) → every resting rest ≡ true →
+  pub touch :
+      (n : ℕ) (rest later : List Signal) → every zero-or-absent rest ≡ true →
       (marks Negative (rest ++ (Value (negsuc n) ∷ later)) ≡ unmarked rest ++ (Clear ∷ marks Negative later)) ×
       (marks Positive (rest ++ (Value (pos (suc n)) ∷ later)) ≡ unmarked rest ++ (Clear ∷ marks Positive later))
   -- a passage through zero sets exactly one, at the first value beyond it
-  pub passed :
-      (n : ℕ) (rest later : List Signal) → every resting rest ≡ true →
+  pub passage :
+      (n : ℕ) (rest later : List Signal) → every zero-or-absent rest ≡ true →
       (marks Negative (rest ++ (Value (pos (suc n)) ∷ later)) ≡ unmarked rest ++ (Rising ∷ marks Positive later)) ×
       (marks Positive (rest ++ (Value (negsuc n) ∷ later)) ≡ unmarked rest ++ (Falling ∷ marks Negative later))
   -- "A detector whose side is unset stays unset at zero": the first value other than zero is the first that sets a side, and "sets no mark"
-  pub first :
-      (n : ℕ) (rest later : List Signal) → every resting rest ≡ true →
+  pub first-side :
+      (n : ℕ) (rest later : List Signal) → every zero-or-absent rest ≡ true →
       (marks Unset (rest ++ (Value (negsuc n) ∷ later)) ≡ unmarked rest ++ (Clear ∷ marks Negative later)) ×
       (marks Unset (rest ++ (Value (pos (suc n)) ∷ later)) ≡ unmarked rest ++ (Clear ∷ marks Positive later))

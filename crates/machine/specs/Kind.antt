@@ -1,4 +1,4 @@
--- Document 01, "Kinds of part": numbers, ports, direct ports, operands; the output of each kind at a point; what sides and marks become.
+-- Document 01, "Kinds of part", with request 1: numbers, ports, direct ports, operands; the output of each kind at a point; what sides and marks become.
 -- Document 01's own terms, a mark, a side and a direct port, are explained where they are defined. Assumes nothing.
 use Prim.Native.Nat.{ℕ, zero, suc, _-_, _*_, _/_, _%_}
 use mathlib.Core.Bool.{Bool, true, false, cond, _&&_}

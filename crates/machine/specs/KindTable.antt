@@ -157,8 +157,10 @@ pub record KindTable : Type 0 where
       (side : Side) (v : ℤ) (q : Part) →
       (seen Negative (Value (negsuc 0)) q .mark ≡ Clear) × (seen Positive (Value (pos 1)) q .mark ≡ Clear) ×
       (seen side Absent q .side ≡ side) × (seen side Absent q .mark ≡ Clear) × (seen Unset (Value v) q .mark ≡ Clear)
-  -- request 1: "counts zero as the side held before. A detector whose side is unset stays unset at zero"
-  pub at-zero : (side : Side) (q : Part) → (seen side (Value (pos 0)) q .side ≡ side) × (seen side (Value (pos 0)) q .mark ≡ Clear)
+  -- request 1: "A detector whose side is unset stays unset at zero", and "counts zero as the side held before"
+  pub at-zero :
+      (side : Side) (q : Part) →
+      (seen Unset (Value (pos 0)) q .side ≡ Unset) × (seen side (Value (pos 0)) q .side ≡ side) × (seen side (Value (pos 0)) q .mark ≡ Clear)
   -- 9 hold: "x if present (direct), else the held signal, at first absent"
   pub hold :
       (v held : ℤ) (s : Signal) (c : Component) (q : Part) (now : Point) (y before : Signal) →
