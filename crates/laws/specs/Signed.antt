@@ -27,7 +27,7 @@ pub not-negative : (v : ℤ) → ltZ v (pos 0) ≡ false → v ≡ pos (mag v)
 not-negative (pos n) from = refl
 not-negative (negsuc n) from = absurd (true≢false from)
 
--- of those that are not below 0, one above 0 is the next of another, and one that is not above 0 is 0
+-- a number above 0 is n + 1, n being one less than what `mag` gives, and one neither below nor above 0 is 0
 pub positive : (v : ℤ) → ltZ (pos 0) v ≡ true → v ≡ pos (suc (mag v - 1))
 positive (pos zero) above = absurd (omega (arith, ltb-true 0 0 above))
 positive (pos (suc n)) above = let same : n ≡ suc n - 1 = omega arith in ap (λ (k : ℕ). pos (suc k)) same

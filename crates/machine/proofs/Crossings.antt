@@ -56,6 +56,7 @@ behind s (x ∷ rest) later e =
     let (first, others) = and-eq-true-iff (zero-or-absent x) (every zero-or-absent rest) .0 e in
     rw (rested s x first .0, rested s x first .1) (ap (λ ms. Clear ∷ ms) (behind s rest later others))
 
+-- the rows: by the laws above, and by computing what the first value behind a run does
 pub crossings : Crossings
 unfolding marks sightings side-after mark-after settled-as
 crossings =
