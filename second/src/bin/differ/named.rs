@@ -53,6 +53,12 @@ impl Table {
     }
 }
 
+/// A constant into an integrator into a detector of tolerance 1.
+fn watched(rate: i32, start: i32) -> Table {
+    let parts = Table::new(0).part(CONSTANT, rate, 0, 0).part(INTEGRATOR, start, 0, 0).part(DETECTOR, 0, 0, 1);
+    parts.wire(0, 1, 0).wire(1, 2, 0)
+}
+
 /// A case with the answer that the document gives, and that of a wrong reading.
 fn case(name: &'static str, stream: Vec<u8>, expected: &str, wrong_reading: Option<&'static str>) -> Named {
     Named { name, stream, expected: expected.to_string(), wrong_reading }
@@ -85,13 +91,7 @@ fn readings_that_miss() -> Vec<Named> {
         ),
         case(
             "missed: a detector's side changed after a dropped trial",
-            Table::new(0)
-                .part(CONSTANT, 2, 0, 0)
-                .part(INTEGRATOR, -7, 0, 0)
-                .part(DETECTOR, 0, 0, 1)
-                .wire(0, 1, 0)
-                .wire(1, 2, 0)
-                .score(&[8, 8, 8, 8]),
+            watched(2, -7).score(&[8; 4]),
             "2 0 2 3 2 2 -3 -\n3 0 1 4 3 2 -1 -\n4 0 1 4 3 2 1 -\n4 1 0 2 0 2 1 1\n",
             Some("4 0 4 2 1 2 1 -\n12 0 8 1 0 2 17 -\n20 0 8 1 0 2 33 -\n28 0 8 1 0 2 49 -\n"),
         ),
@@ -115,13 +115,7 @@ fn zeros_that_mark() -> Vec<Named> {
         ),
         case(
             "missed: a mark at zero on the way through it",
-            Table::new(0)
-                .part(CONSTANT, 1, 0, 0)
-                .part(INTEGRATOR, -2, 0, 0)
-                .part(DETECTOR, 0, 0, 1)
-                .wire(0, 1, 0)
-                .wire(1, 2, 0)
-                .score(&[1; 4]),
+            watched(1, -2).score(&[1; 4]),
             "1 0 1 1 0 1 -1 -\n2 0 1 1 0 1 0 -\n3 0 1 1 0 1 1 -\n3 1 0 2 0 1 1 1\n",
             Some("1 0 1 1 0 1 -1 -\n2 0 1 1 0 1 0 -\n2 1 0 2 0 1 0 1\n3 0 1 1 0 1 1 -\n"),
         ),
