@@ -10,9 +10,9 @@ pub const PARTS: usize = 32;
 pub const SPANS: usize = 8;
 
 /// How many bytes a model has, a load's answer, and an advance's.
-pub const MODEL_BYTES: usize = 6688;
-pub const LOADED_BYTES: usize = 6704;
-pub const ANSWER_BYTES: usize = 6728;
+pub const MODEL_BYTES: usize = 6944;
+pub const LOADED_BYTES: usize = 6960;
+pub const ANSWER_BYTES: usize = 6984;
 
 /// The kinds of part, in the order of their numbers.
 #[derive(Clone, Copy, Debug, PartialEq, Eq)]
@@ -29,10 +29,11 @@ pub enum Kind {
     Hold,
     Sampler,
     Drive,
+    Clapper,
 }
 
 /// The kinds by their numbers.
-pub const KINDS: [Kind; 12] = [
+pub const KINDS: [Kind; 13] = [
     Kind::Constant,
     Kind::Gain,
     Kind::Adder,
@@ -45,6 +46,7 @@ pub const KINDS: [Kind; 12] = [
     Kind::Hold,
     Kind::Sampler,
     Kind::Drive,
+    Kind::Clapper,
 ];
 
 /// The side of zero on which a detector last saw its input; zero itself is on neither.
@@ -64,7 +66,8 @@ pub enum Mark {
 }
 
 /// A part. Of `spans` the first `span_count` are in use; a port is `None` where it is unwired, else the
-/// number of its source part; a signal is `None` where it is absent.
+/// number of its source part; a signal is `None` where it is absent. `held` is the held number, a clapper's
+/// position, and `speed` the second held number, a clapper's speed: of another kind it is 0 in a sound model.
 #[derive(Clone, Copy, Debug, PartialEq, Eq)]
 pub struct Part {
     pub kind: Kind,
@@ -79,6 +82,7 @@ pub struct Part {
     pub ratio: u64,
     pub local: u64,
     pub held: i64,
+    pub speed: i64,
     pub signal: Option<i64>,
     pub output: Option<i64>,
     pub side: Side,

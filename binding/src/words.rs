@@ -75,6 +75,7 @@ impl<'a> Reader<'a> {
             ratio: self.word(),
             local: self.word(),
             held: self.signed(),
+            speed: self.signed(),
             signal: self.signal(),
             output: self.signal(),
             side: self.side(),
@@ -136,6 +137,7 @@ impl Writer {
         self.word(part.ratio);
         self.word(part.local);
         self.word(part.held as u64);
+        self.word(part.speed as u64);
         self.signal(part.signal);
         self.signal(part.output);
         self.word(part.side as u64);

@@ -1,5 +1,5 @@
-//! Document 01's played examples through the binding: what crosses the boundary comes back whole.
-use dozhumek::{advance, load, Answer, Kind, Mark, Model, Side, MODEL_BYTES};
+//! Document 01's played examples and a clapper through the binding: what crosses the boundary comes back whole.
+use dozhumek::{advance, load, Answer, Kind, Mark, Model, Part, Side, MODEL_BYTES};
 
 /// A Part command.
 fn part(kind: u8, a: i32, b: i32, p: u32) -> Vec<u8> {
@@ -74,6 +74,53 @@ fn integrator_into_detector() {
     assert_eq!((model.t, model.n, model.parts[2].output), (4, 1, Some(1)));
     assert_eq!((model.parts[2].side, model.parts[2].mark), (Side::Positive, Mark::Clear));
     assert_eq!(Model::from_bytes(&model.bytes()), model);
+}
+
+/// Position, speed, output.
+fn motion(part: &Part) -> (i64, i64, Option<i64>) {
+    (part.held, part.speed, part.output)
+}
+
+#[test]
+fn constant_into_clapper() {
+    let stream = table(&[part(0, 3, 0, 0), part(12, 10, -2, 0), wire(0, 1, 0)]);
+    let loaded = load(&stream);
+    assert_eq!((loaded.number, loaded.position), (0, stream.len() as u64));
+    let clapper = loaded.model.parts[1];
+    assert_eq!((clapper.kind, clapper.a, clapper.b, clapper.port0), (Kind::Clapper, 10, -2, Some(0)));
+    assert_eq!(motion(&clapper), (10, -2, Some(10)));
+
+    // The speed becomes -2 + 3 x 5, the position 10 + 13 x 5.
+    let first = advance(&loaded.model, 5);
+    assert_eq!((first.number, line(&first)), (0, [5, 0, 5, 1, 0]));
+    assert_eq!((first.model.parts[0].speed, motion(&first.model.parts[1])), (0, (75, 13, Some(75))));
+    let bytes = first.model.bytes();
+    assert_eq!(bytes[8 * (4 + 32 + 26 + 18)..][..16], [75, 0, 0, 0, 0, 0, 0, 0, 13, 0, 0, 0, 0, 0, 0, 0]);
+    assert_eq!((bytes.len(), Model::from_bytes(&bytes)), (MODEL_BYTES, first.model.clone()));
+
+    // A speed of another kind, and a clapper's that is no value.
+    for (part, speed) in [(0, 1), (0, -1), (1, 1_000_000_001), (1, -1_000_000_001), (1, i64::MIN)] {
+        let mut model = first.model.clone();
+        model.parts[part].speed = speed;
+        let answer = advance(&model, 1);
+        assert_eq!((answer.number, answer.ceiling, &answer.model), (24, 0, &model));
+    }
+    // Another speed: it becomes -20 + 3 x 2, and the position 75 - 14 x 2.
+    let mut model = first.model;
+    model.parts[1].speed = -20;
+    let second = advance(&model, 2);
+    assert_eq!((second.number, motion(&second.model.parts[1])), (0, (47, -14, Some(47))));
+}
+
+#[test]
+fn clappers_refused() {
+    let beyond = 1_000_000_001;
+    for row in [part(12, beyond, 0, 0), part(12, 0, -beyond, 0), part(12, 0, 0, 1), part(13, 0, 0, 0)] {
+        let loaded = load(&table(&[row]));
+        assert_eq!((loaded.number, loaded.position, loaded.model.count), (5, 2, 0));
+    }
+    let second_port = load(&table(&[part(0, 3, 0, 0), part(12, 10, -2, 0), wire(0, 1, 1)]));
+    assert_eq!((second_port.number, second_port.position, second_port.model.count), (7, 32, 0));
 }
 
 #[test]

@@ -79,6 +79,7 @@ impl Model {
                 made.ceiling = h / 2;
                 continue;
             }
+            self.speed_up(&asked.clappers, h);
             self.commit(to, &next);
             return Outcome { step: h, ..made };
         }
@@ -87,7 +88,7 @@ impl Model {
     /// Asks all parts once for a call. Within it they stay as they are, so that only drives need asking again.
     fn asked(&self) -> Asked {
         let Point { t, n } = self.point;
-        let mut asked = Asked { due: false, limit: u64::MAX, drives: Numbers::none(), detectors: Numbers::none() };
+        let mut asked = Asked::nothing();
         for (number, part) in self.parts.iter().enumerate() {
             match part.kind {
                 Kind::Square { p, .. } | Kind::Pulse { p, .. } => {
@@ -105,6 +106,7 @@ impl Model {
                     asked.detectors.push(number);
                 }
                 Kind::Drive { .. } => asked.drives.push(number),
+                Kind::Clapper { .. } => asked.clappers.push(number),
                 _ => {}
             }
         }
@@ -118,7 +120,7 @@ impl Model {
     fn outputs_at(&self, to: Point, h: u64, next: &mut [Signal; MOST_PARTS]) {
         for number in self.order.iter().copied().map(usize::from) {
             let part = &self.parts[number];
-            next[number] = output(part, to, || self.read(part, 0), || self.moved(part, h), next);
+            next[number] = output(part, to, || self.read(part, 0), || self.moved(part, h).0, next);
         }
     }
 
@@ -127,10 +129,24 @@ impl Model {
         part.inputs[port].and_then(|source| self.parts[usize::from(source)].output)
     }
 
-    /// The number that an integrating part holds after a step of `h`.
-    fn moved(&self, part: &Part, h: u64) -> i32 {
-        let x = i64::from(self.read(part, 0).unwrap_or(0));
-        clamp(i64::from(part.held) + x * local_step(part, self.point.t, h) as i64)
+    /// The number that an integrating part holds after a step of `h`, and its speed.
+    fn moved(&self, part: &Part, h: u64) -> (i32, i32) {
+        let x = self.read(part, 0).unwrap_or(0);
+        let d = local_step(part, self.point.t, h);
+        match part.kind {
+            Kind::Clapper { .. } => {
+                let speed = integrated(part.speed, x, d);
+                (integrated(part.held, speed, d), speed)
+            }
+            _ => (integrated(part.held, x, d), part.speed),
+        }
+    }
+
+    /// Gives clappers the speeds that they have after a step of `h`; all else is still as before the step.
+    fn speed_up(&mut self, clappers: &Numbers, h: u64) {
+        for number in clappers.iter() {
+            self.parts[number].speed = self.moved(&self.parts[number], h).1;
+        }
     }
 
     /// Makes `to` the model's point, where the outputs are `next`.
@@ -141,7 +157,7 @@ impl Model {
             part.output = output;
             match part.kind {
                 // These show the number that they hold, or hold what they show.
-                Kind::Integrator { .. } | Kind::ResetIntegrator { .. } | Kind::Drive { .. } => {
+                Kind::Integrator { .. } | Kind::ResetIntegrator { .. } | Kind::Drive { .. } | Kind::Clapper { .. } => {
                     part.held = output.unwrap_or(part.held)
                 }
                 Kind::Hold => part.kept = output,
@@ -163,6 +179,15 @@ struct Asked {
     limit: u64,
     drives: Numbers,
     detectors: Numbers,
+    clappers: Numbers,
+}
+
+impl Asked {
+    /// Before a part has been asked.
+    fn nothing() -> Asked {
+        let none = Numbers::none;
+        Asked { due: false, limit: u64::MAX, drives: none(), detectors: none(), clappers: none() }
+    }
 }
 
 /// The numbers of some parts.
@@ -221,7 +246,7 @@ fn output(
         Kind::Pulse { a, p } => (to.n == 1 && to.t > 0 && to.t.is_multiple_of(part.period(p))).then_some(a),
         Kind::Delay if to.n > 0 => before(),
         Kind::Delay => None,
-        Kind::Integrator { .. } | Kind::Drive { .. } => Some(held()),
+        Kind::Integrator { .. } | Kind::Drive { .. } | Kind::Clapper { .. } => Some(held()),
         Kind::ResetIntegrator { .. } => read(1).or_else(|| Some(held())),
         Kind::Detector { .. } => part.mark.map(Side::mark),
         Kind::Hold => read(0).or(part.kept),
@@ -262,6 +287,11 @@ pub(crate) fn longest_of_drive(part: &Part, t: u64, h: u64) -> u64 {
     } else {
         (part.local + grown + 1) * part.ratio - 1 - t
     }
+}
+
+/// A number after `d` local ticks, to which each of them adds `rate`.
+fn integrated(number: i32, rate: i32, d: u64) -> i32 {
+    clamp(i64::from(number) + i64::from(rate) * d as i64)
 }
 
 fn clamp(x: i64) -> i32 {

@@ -1,5 +1,5 @@
-//! A second implementation of the rehearsal master, by document 01 alone and sharing nothing with the
-//! verified one. It is what the verified program is compared with, and the baseline of the benchmark.
+//! A second implementation of the rehearsal master, by document 01 and the requests of document 02 alone, and sharing
+//! nothing with the verified one. It is what the verified program is compared with, and the baseline of the benchmark.
 
 pub mod advance;
 pub mod load;

@@ -94,6 +94,7 @@ fn part(kind: u8, preference: u8, a: i32, b: i32, p: u32) -> Option<Part> {
         9 => (Kind::Hold, false, false, false),
         10 => (Kind::Sampler, false, false, false),
         11 => (Kind::Drive { a, spans: Vec::new() }, true, false, false),
+        12 => (Kind::Clapper { a, b }, true, true, false),
         _ => return None,
     };
     let preference = match preference {

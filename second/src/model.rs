@@ -85,6 +85,7 @@ pub enum Kind {
     Hold,
     Sampler,
     Drive { a: i32, spans: Vec<u32> },
+    Clapper { a: i32, b: i32 },
 }
 
 impl Kind {
@@ -118,7 +119,15 @@ impl Kind {
     /// Where the held number starts: at operand a of the kinds that integrate. The others hold no number; theirs is 0.
     pub fn first_held(&self) -> i32 {
         match *self {
-            Kind::Integrator { a } | Kind::ResetIntegrator { a } | Kind::Drive { a, .. } => a,
+            Kind::Integrator { a } | Kind::ResetIntegrator { a } | Kind::Drive { a, .. } | Kind::Clapper { a, .. } => a,
+            _ => 0,
+        }
+    }
+
+    /// Where the speed starts: at operand b of a clapper. The others have none; theirs is 0.
+    pub fn first_speed(&self) -> i32 {
+        match *self {
+            Kind::Clapper { b, .. } => b,
             _ => 0,
         }
     }
@@ -154,8 +163,10 @@ pub struct Part {
     pub ratio: u64,
     pub local: u64,
     pub output: Signal,
-    /// The held number of the kinds that integrate.
+    /// The held number of the kinds that integrate; a clapper's position.
     pub held: i32,
+    /// The second held number: a clapper's speed.
+    pub speed: i32,
     /// The held signal of a hold.
     pub kept: Signal,
     pub side: Option<Side>,
@@ -172,6 +183,7 @@ impl Part {
             local: 0,
             output: None,
             held: kind.first_held(),
+            speed: kind.first_speed(),
             kept: None,
             side: None,
             mark: None,
@@ -210,11 +222,13 @@ impl Part {
                 is_value(a)
             }
             Kind::Square { a, b, p } => is_value(a) && is_value(b) && is_count(p) && self.is_period(p),
+            Kind::Clapper { a, b } => is_value(a) && is_value(b),
             Kind::Pulse { a, p } => is_value(a) && is_count(p) && self.is_period(p),
             Kind::Detector { p } => is_count(p) && self.is_period(p),
             Kind::Drive { a, ref spans } => is_value(a) && are_spans(spans),
             Kind::Adder | Kind::Delay | Kind::Hold | Kind::Sampler => true,
         };
+        let is_speed = if let Kind::Clapper { .. } = self.kind { is_value(self.speed) } else { self.speed == 0 };
         let ports = self.kind.ports();
         let is_wire = |port: usize| match self.inputs[port] {
             None => true,
@@ -228,6 +242,7 @@ impl Part {
             && self.local.checked_mul(self.ratio).is_some_and(|tick| tick <= t && t - tick < self.ratio)
             && is_signal(self.output)
             && is_value(self.held)
+            && is_speed
             && is_signal(self.kept)
     }
 }

@@ -1,5 +1,5 @@
-//! What the program's output cannot show: refusals 23 and 24, last ceilings, and the two places where the library
-//! does not follow the document word by word (a drive's longest step, the test of an order), against ones that do.
+//! What the program's output cannot show: refusals 23 and 24, last ceilings, speeds, and the two places where the
+//! library does not follow the document word by word (a drive's longest step, the test of an order), against ones that do.
 
 #[allow(dead_code)]
 #[path = "bin/differ/random.rs"]
@@ -138,8 +138,9 @@ fn everything() -> Model {
         &part(10, 0xFF, 0, 0, 0),
         &part(11, 1, 1, 0, 0),
         &bytes("03 01 00 00 00 03 02 00 00 00 03 10 00 00 00"),
+        &part(12, 1, -8, 2, 0),
         &bytes("04 00 01 00 04 01 02 00 04 03 02 01 04 04 05 00 04 03 06 00 04 03 07 00 04 08 07 01"),
-        &bytes("04 06 08 00 04 05 09 00 04 07 0A 00 04 04 0A 01 04 02 0B 00"),
+        &bytes("04 06 08 00 04 05 09 00 04 07 0A 00 04 04 0A 01 04 02 0B 00 04 03 0C 00"),
     ])
 }
 
@@ -160,6 +161,8 @@ const UNSOUND: &[Edit] = &[
     ("ratio 0", |m| m.parts[0].ratio = 0),
     ("operand a", |m| m.parts[0].kind = Kind::Constant { a: 1_000_000_001 }),
     ("operand b", |m| m.parts[3].kind = Kind::Square { a: 5, b: i32::MIN, p: 4 }),
+    ("operand a of a clapper", |m| m.parts[12].kind = Kind::Clapper { a: -1_000_000_001, b: 2 }),
+    ("operand b of a clapper", |m| m.parts[12].kind = Kind::Clapper { a: -8, b: 1_000_000_001 }),
     ("operand p 0", |m| m.parts[8].kind = Kind::Detector { p: 0 }),
     ("operand p", |m| m.parts[8].kind = Kind::Detector { p: 1_000_000_001 }),
     ("P", |m| {
@@ -176,15 +179,16 @@ const UNSOUND: &[Edit] = &[
     ("span", |m| m.parts[11].kind = Kind::Drive { a: 1, spans: vec![1_000_000_001] }),
     ("equal spans", |m| m.parts[11].kind = Kind::Drive { a: 1, spans: vec![2, 2] }),
     ("nine spans", |m| m.parts[11].kind = Kind::Drive { a: 1, spans: (1..10).collect() }),
-    ("unknown source", |m| m.parts[6].inputs[0] = Some(12)),
+    ("unknown source", |m| m.parts[6].inputs[0] = Some(13)),
     ("unknown source far off", |m| m.parts[1].inputs[0] = Some(u8::MAX)),
     ("port 0 of a constant", |m| m.parts[0].inputs[0] = Some(1)),
     ("port 1 of an integrator", |m| m.parts[6].inputs[1] = Some(1)),
+    ("port 1 of a clapper", |m| m.parts[12].inputs[1] = Some(1)),
     ("loop", |m| m.parts[1].inputs[0] = Some(2)),
-    ("order short", |m| m.order.truncate(11)),
+    ("order short", |m| m.order.truncate(12)),
     ("order long", |m| m.order.push(0)),
     ("order twice", |m| m.order[0] = m.order[1]),
-    ("order unknown", |m| m.order[0] = 12),
+    ("order unknown", |m| m.order[0] = 13),
     ("order swapped", |m| m.order.swap(0, 3)),
     ("t", |m| *m = at(m.clone(), LAST_TICK + 1)),
     ("n", |m| m.point.n = 1000),
@@ -194,6 +198,12 @@ const UNSOUND: &[Edit] = &[
     ("output", |m| m.parts[0].output = Some(-1_000_000_001)),
     ("held number", |m| m.parts[7].held = i32::MAX),
     ("held number of a kind that holds none", |m| m.parts[0].held = i32::MIN),
+    ("position of a clapper", |m| m.parts[12].held = 1_000_000_001),
+    ("speed of a clapper", |m| m.parts[12].speed = 1_000_000_001),
+    ("speed of a clapper below", |m| m.parts[12].speed = -1_000_000_001),
+    ("speed of a constant", |m| m.parts[0].speed = 1),
+    ("speed of an integrator", |m| m.parts[6].speed = -1),
+    ("speed of a drive", |m| m.parts[11].speed = 1_000_000_000),
     ("held signal", |m| m.parts[9].kept = Some(1_000_000_001)),
     ("held signal of a kind that holds none", |m| m.parts[0].kept = Some(1_000_000_001)),
 ];
@@ -224,6 +234,9 @@ fn sound_models_that_no_run_reaches_are_accepted() {
         |m| m.parts[8].side = None,
         |m| m.parts[9].kept = Some(1_000_000_000),
         |m| m.parts[0].held = -1_000_000_000,
+        |m| m.parts[12].speed = 1_000_000_000,
+        |m| m.parts[12].speed = -1_000_000_000,
+        |m| (m.parts[12].held, m.parts[12].output) = (1_000_000_000, None),
         |m| *m = at(m.clone(), LAST_TICK - 10),
         |m| m.point.n = 999,
     ];
@@ -247,6 +260,55 @@ fn what_loading_and_advancing_give_is_sound() {
         model = answer.model;
     }
     assert!(model.point.t > 1000);
+}
+
+/// A constant into a clapper.
+fn fed(x: i32, a: i32, b: i32) -> Model {
+    fresh(&[&[1, 0], &part(0, 0xFF, x, 0, 0), &part(12, 0xFF, a, b, 0), &[4, 0, 1, 0]])
+}
+
+/// Position, speed and output of the clapper of `fed`.
+fn clapper(model: &Model) -> (i32, i32, Option<i32>) {
+    let Part { held, speed, output, .. } = model.parts[1];
+    (held, speed, output)
+}
+
+#[test]
+fn a_fresh_clapper_has_position_a_and_speed_b() {
+    assert_eq!(clapper(&fed(1, 7, -3)), (7, -3, Some(7)));
+    assert!(everything().parts[..12].iter().all(|part| part.speed == 0));
+}
+
+#[test]
+fn a_clappers_new_speed_moves_its_position() {
+    let whole = advance(fed(1, 0, 0), 2).model;
+    assert_eq!(clapper(&whole), (4, 2, Some(4)));
+    let half = advance(fed(1, 0, 0), 1).model;
+    assert_eq!(clapper(&half), (1, 1, Some(1)));
+    assert_eq!(clapper(&advance(half, 1).model), (3, 2, Some(3)));
+}
+
+#[test]
+fn a_clappers_speed_is_clamped_before_it_moves_the_position() {
+    let billion = 1_000_000_000;
+    let up = advance(fed(billion, -billion, billion), 1).model;
+    assert_eq!(clapper(&up), (0, billion, Some(0)));
+    let down = advance(fed(-billion, billion, -billion), 1).model;
+    assert_eq!(clapper(&down), (0, -billion, Some(0)));
+    // The largest numbers: both are clamped, and the speed stays where the position has come to its end.
+    let far = advance(fed(billion, billion, billion), 1_000_000_000).model;
+    assert_eq!(clapper(&far), (billion, billion, Some(billion)));
+}
+
+#[test]
+fn a_dropped_trial_leaves_a_clappers_speed() {
+    let detector = [&part(8, 0xFF, 0, 0, 1)[..], &[4, 0, 1, 0, 4, 1, 2, 0]].concat();
+    let parts: [&[u8]; 4] = [&[1, 0], &part(0, 0xFF, 1, 0, 0), &part(12, 0xFF, -10, 0, 0), &detector];
+    let answer = advance(fresh(&parts), 8);
+    // Steps of 8 and 4 would lead to 54 and 6.
+    assert_eq!(counts(&answer), (0, 2, 3, 2, 2));
+    assert_eq!(clapper(&answer.model), (-6, 2, Some(-6)));
+    assert_eq!(clapper(&advance(answer.model, 1).model), (-3, 3, Some(-3)));
 }
 
 #[test]

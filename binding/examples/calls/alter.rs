@@ -18,6 +18,9 @@ pub enum Then {
 /// A name, what the altered model is, and the alteration, which answers false where the model has nothing to alter.
 pub type Sort = (&'static str, Then, fn(&mut Words, &mut Random) -> bool);
 
+/// How many of the sorts, the first ones, are sound.
+pub const SOUND: usize = 12;
+
 pub const SORTS: &[Sort] = &[
     ("as it was", Then::Sound, |_, _| true),
     ("any tick", Then::Sound, |words, random| at_tick(words, random.of_any_size(LAST_TICK))),
@@ -53,12 +56,29 @@ pub const SORTS: &[Sort] = &[
         for number in 0..words.count() {
             let part = words.part_mut(number);
             part[HELD] = value(random);
+            part[SPEED] = if part[KIND] == 12 { value(random) } else { 0 };
             for signal in [SIGNAL, OUTPUT] {
                 part[signal] = random.below(2) as u64;
                 part[signal + 1] = if part[signal] == 1 { value(random) } else { 0 };
             }
             (part[SIDE], part[MARK]) = (random.below(3) as u64, random.below(3) as u64);
         }
+        true
+    }),
+    ("another speed of a clapper", Then::Sound, |words, random| {
+        let Some(clapper) = some_part(words, random, |part| part[KIND] == 12) else { return false };
+        set(&mut words.part_mut(clapper)[SPEED], value(random))
+    }),
+    ("a clapper near an end of its speed", Then::Sound, |words, random| {
+        let Some(clapper) = some_part(words, random, |part| part[KIND] == 12 && part[PORT] > 0) else { return false };
+        let sign = random.pick(&[1, -1]);
+        let mut near = |end: i64| (sign * (end + random.between(0, 9))) as u64;
+        // One local tick takes the speed to its end, and the position from the other end to the middle.
+        let (held, speed, x) = (near(-(BILLION as i64)), near(BILLION as i64 - 9), near(100));
+        let part = words.part_mut(clapper);
+        (part[HELD], part[SPEED]) = (held, speed);
+        let source = part[PORT] as usize - 1;
+        words.part_mut(source)[OUTPUT..][..2].copy_from_slice(&[1, x]);
         true
     }),
     ("other magnitudes", Then::Sound, |words, random| {
@@ -220,6 +240,14 @@ pub const SORTS: &[Sort] = &[
         let number = random.below(words.count());
         set(&mut words.part_mut(number)[HELD], no_value(random))
     }),
+    ("a clapper's speed out of range", Then::Unsound, |words, random| {
+        let Some(clapper) = some_part(words, random, |part| part[KIND] == 12) else { return false };
+        set(&mut words.part_mut(clapper)[SPEED], no_value(random))
+    }),
+    ("a speed of a part that is no clapper", Then::Unsound, |words, random| {
+        let Some(part) = some_part(words, random, |part| part[KIND] != 12) else { return false };
+        set(&mut words.part_mut(part)[SPEED], not_zero(random))
+    }),
     ("a held signal out of range", Then::Unsound, |words, random| {
         let number = random.below(words.count());
         words.part_mut(number)[SIGNAL..SIGNAL + 2].copy_from_slice(&[1, no_value(random)]);
@@ -235,7 +263,7 @@ pub const SORTS: &[Sort] = &[
         set(&mut words.part_mut(part)[A], no_value(random))
     }),
     ("operand b out of range", Then::Unsound, |words, random| {
-        let Some(part) = some_part(words, random, |part| part[KIND] == 3) else { return false };
+        let Some(part) = some_part(words, random, |part| names_b(part[KIND])) else { return false };
         set(&mut words.part_mut(part)[B], no_value(random))
     }),
     ("operand p out of range", Then::Unsound, |words, random| {
@@ -247,7 +275,7 @@ pub const SORTS: &[Sort] = &[
         set(&mut words.part_mut(part)[A], not_zero(random))
     }),
     ("operand b that is not named", Then::Unsound, |words, random| {
-        let Some(part) = some_part(words, random, |part| part[KIND] != 3) else { return false };
+        let Some(part) = some_part(words, random, |part| !names_b(part[KIND])) else { return false };
         set(&mut words.part_mut(part)[B], not_zero(random))
     }),
     ("operand p that is not named", Then::Unsound, |words, random| {
@@ -295,7 +323,7 @@ pub const SORTS: &[Sort] = &[
     }),
     ("another kind", Then::Either, |words, random| {
         let number = random.below(words.count());
-        set(&mut words.part_mut(number)[KIND], random.below(12) as u64)
+        set(&mut words.part_mut(number)[KIND], random.below(KINDS) as u64)
     }),
     ("another bit", Then::Either, |words, random| {
         let at = word_in_use(words, random);
@@ -422,7 +450,11 @@ fn ports(kind: u64) -> usize {
 }
 
 fn names_a(kind: u64) -> bool {
-    matches!(kind, 0 | 1 | 3 | 4 | 6 | 7 | 11)
+    matches!(kind, 0 | 1 | 3 | 4 | 6 | 7 | 11 | 12)
+}
+
+fn names_b(kind: u64) -> bool {
+    matches!(kind, 3 | 12)
 }
 
 fn names_p(kind: u64) -> bool {

@@ -32,7 +32,7 @@ mod swept;
 mod wanted;
 mod words;
 
-use alter::{Then, SORTS};
+use alter::{Then, SORTS, SOUND};
 use dozhumek::{ANSWER_BYTES, LOADED_BYTES, MODEL_BYTES};
 use random::Random;
 use second::Model;
@@ -166,7 +166,7 @@ fn handed_in(given: &Words, random: &mut Random, seen: &mut Seen) -> (Vec<u8>, W
         }
         1 if seen.may_cut => {
             let length = random.below(MODEL_BYTES);
-            bytes.truncate(random.pick(&[0, 1, 7, 8, 16, 32, 288, 488, MODEL_BYTES - 1, length]));
+            bytes.truncate(random.pick(&[0, 1, 7, 8, 16, 32, 288, 496, MODEL_BYTES - 1, length]));
             seen.count("missing bytes");
             let meant = Words::from_bytes(&bytes);
             return (bytes, meant);
@@ -270,7 +270,7 @@ fn play_altered(words: &mut Words, random: &mut Random, seen: &mut Seen, last: &
     let (name, then, alteration) = random.pick(SORTS);
     let mut altered = words.clone();
     // Some faults are far from the start.
-    let first = random.pick(&SORTS[..10]);
+    let first = random.pick(&SORTS[..SOUND]);
     let moved = first.1 == Then::Sound && random.once_in(3) && first.2(&mut altered, random);
     if !moved {
         altered = words.clone();

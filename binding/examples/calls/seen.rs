@@ -20,7 +20,7 @@ pub struct Seen {
     sorts: BTreeMap<&'static str, [u64; 2]>,
     /// What else was tried, by name.
     others: BTreeMap<&'static str, u64>,
-    kinds: [u64; 12],
+    kinds: [u64; KINDS],
     most_rounds: u64,
     most_revisions: u64,
 }
@@ -40,7 +40,7 @@ const WANTED: [(&str, fn(u64) -> bool); 10] = [
 ];
 
 /// What else has to be tried.
-const OTHERS: [&str; 17] = [
+const OTHERS: [&str; 21] = [
     "load through the binding",
     "load with too little room",
     "advance through the binding",
@@ -58,6 +58,10 @@ const OTHERS: [&str; 17] = [
     "23 at the last point",
     "21 above 9 x 10^17",
     "20 at the last point",
+    "a clapper's speed changed",
+    "a clapper's speed taken to an end, its position not",
+    "a clapper's position taken to an end",
+    "a clapper moved without an input",
 ];
 
 impl Seen {
@@ -104,6 +108,31 @@ impl Seen {
         must(number == 23 && t == LAST_TICK && n == 999, "23 at the last point");
         must(number == 21 && far, "21 above 9 x 10^17");
         must(number == 20 && t == LAST_TICK && n == 999, "20 at the last point");
+        if number == 0 {
+            self.clappers(given, after);
+        }
+    }
+
+    /// Counts what a committed step did to the clappers.
+    fn clappers(&mut self, given: &Words, after: &Words) {
+        let is_end = |word: u64| (word as i64).unsigned_abs() == BILLION;
+        for number in 0..after.count() {
+            let (old, new) = (given.part(number), after.part(number));
+            if new[KIND] != 12 {
+                continue;
+            }
+            let mut must = |is_one: bool, name| {
+                if is_one {
+                    self.count(name);
+                }
+            };
+            let ended = |at: usize| is_end(new[at]) && !is_end(old[at]);
+            let input = new[PORT].checked_sub(1).is_some_and(|source| given.part(source as usize)[OUTPUT] == 1);
+            must(new[SPEED] != old[SPEED], "a clapper's speed changed");
+            must(ended(SPEED) && !is_end(new[HELD]), "a clapper's speed taken to an end, its position not");
+            must(ended(HELD), "a clapper's position taken to an end");
+            must(!input && new[HELD] != old[HELD], "a clapper moved without an input");
+        }
     }
 
     /// What was not reached and should have been.

@@ -16,7 +16,11 @@ pub fn wanted(words: &Words, random: &mut Random) -> u64 {
         5..=9 => random.of_any_size(BILLION),
         10..=14 if (1..=32).contains(&words.0[COUNT]) => {
             let part = words.part(random.below(words.count()));
-            let count = if matches!(part[KIND], 3 | 4 | 8) { part[P] } else { part[FIRST_SPAN] };
+            let count = match part[KIND] {
+                3 | 4 | 8 => part[P],
+                12 => 1,
+                _ => part[FIRST_SPAN],
+            };
             let telling = count.saturating_mul(part[RATIO]).clamp(1, BILLION);
             (telling * random.between(1, 3) as u64 + random.below(3) as u64 - 1).clamp(1, BILLION)
         }

@@ -1,11 +1,12 @@
-//! A model as the 836 words that cross the boundary, read and written without the binding's own code, and the models
+//! A model as the 868 words that cross the boundary, read and written without the binding's own code, and the models
 //! of the second implementation that such words mean.
 
 use second::{Kind, Model, Part, Point, Side, Signal};
 
-pub const WORDS: usize = 836;
+pub const WORDS: usize = 868;
 pub const PARTS: usize = 32;
 pub const SPANS: usize = 8;
+pub const KINDS: usize = 13;
 
 // A model's words.
 pub const MAGNITUDE: usize = 0;
@@ -27,11 +28,12 @@ pub const PORT: usize = FIRST_SPAN + SPANS;
 pub const RATIO: usize = PORT + 2;
 pub const LOCAL: usize = 17;
 pub const HELD: usize = 18;
-pub const SIGNAL: usize = 19;
-pub const OUTPUT: usize = 21;
-pub const SIDE: usize = 23;
-pub const MARK: usize = 24;
-pub const PART_WORDS: usize = 25;
+pub const SPEED: usize = 19;
+pub const SIGNAL: usize = 20;
+pub const OUTPUT: usize = 22;
+pub const SIDE: usize = 24;
+pub const MARK: usize = 25;
+pub const PART_WORDS: usize = 26;
 
 pub const NO_PREFERENCE: u64 = 255;
 
@@ -86,7 +88,7 @@ impl Words {
         words.0[ORDER..FIRST_PART].iter_mut().for_each(|number| *number &= 0xFFFF);
         for number in 0..PARTS {
             let part = words.part_mut(number);
-            part[KIND] = if part[KIND] < 12 { part[KIND] } else { 0 };
+            part[KIND] = if part[KIND] < KINDS as u64 { part[KIND] } else { 0 };
             part[PREFERENCE] &= 0xFF;
             part[P] &= 0xFFFF_FFFF;
             part[FIRST_SPAN..PORT].iter_mut().for_each(|span| *span &= 0xFFFF_FFFF);
@@ -132,8 +134,9 @@ fn side_code(side: Option<Side>) -> u64 {
     }
 }
 
-fn put_part(words: &mut [u64], part: &Part) {
-    let (kind, a, b, p) = match part.kind {
+/// A kind's number, and its operands a, b and p.
+fn operands(kind: &Kind) -> (u64, i32, i32, u32) {
+    match *kind {
         Kind::Constant { a } => (0, a, 0, 0),
         Kind::Gain { a } => (1, a, 0, 0),
         Kind::Adder => (2, 0, 0, 0),
@@ -146,7 +149,12 @@ fn put_part(words: &mut [u64], part: &Part) {
         Kind::Hold => (9, 0, 0, 0),
         Kind::Sampler => (10, 0, 0, 0),
         Kind::Drive { a, .. } => (11, a, 0, 0),
-    };
+        Kind::Clapper { a, b } => (12, a, b, 0),
+    }
+}
+
+fn put_part(words: &mut [u64], part: &Part) {
+    let (kind, a, b, p) = operands(&part.kind);
     words[KIND] = kind;
     words[PREFERENCE] = part.preference.map_or(NO_PREFERENCE, u64::from);
     (words[A], words[B], words[P]) = (signed(a), signed(b), p.into());
@@ -161,6 +169,7 @@ fn put_part(words: &mut [u64], part: &Part) {
     words[RATIO] = part.ratio;
     words[LOCAL] = part.local;
     words[HELD] = signed(part.held);
+    words[SPEED] = signed(part.speed);
     for (at, signal) in [(SIGNAL, part.kept), (OUTPUT, part.output)] {
         (words[at], words[at + 1]) = signal.map_or((0, 0), |value| (1, signed(value)));
     }
@@ -199,7 +208,8 @@ fn kind_of(words: &[u64]) -> Option<Kind> {
         8 => (Kind::Detector { p }, (a, b, 0)),
         9 => (Kind::Hold, (a, b, p)),
         10 => (Kind::Sampler, (a, b, p)),
-        _ => (Kind::Drive { a, spans }, (0, b, p)),
+        11 => (Kind::Drive { a, spans }, (0, b, p)),
+        _ => (Kind::Clapper { a, b }, (0, 0, p)),
     };
     (unnamed == (0, 0, 0)).then_some(kind)
 }
@@ -224,6 +234,7 @@ fn part_of(words: &[u64]) -> Option<Part> {
         local: words[LOCAL],
         output: signal(OUTPUT)?,
         held: value(words, HELD)?,
+        speed: value(words, SPEED)?,
         kept: signal(SIGNAL)?,
         side: [None, Some(Side::Negative), Some(Side::Positive)][words[SIDE] as usize],
         mark: [None, Some(Side::Positive), Some(Side::Negative)][words[MARK] as usize],

@@ -33,6 +33,7 @@ fn alter_part(part: &mut Part, field: &[&str], value: &str) -> Option<()> {
         ["ratio"] => part.ratio = number(value)?,
         ["local"] => part.local = number(value)?,
         ["held"] => part.held = number(value)?,
+        ["speed"] => part.speed = number(value)?,
         ["signal"] => part.signal = number_or_none(value)?,
         ["output"] => part.output = number_or_none(value)?,
         ["side"] => part.side = side(value)?,

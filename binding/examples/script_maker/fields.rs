@@ -3,7 +3,7 @@
 use crate::words::*;
 
 /// The names, without the numbers of parts, places and spans.
-pub const NAMES: [&str; 21] = [
+pub const NAMES: [&str; 22] = [
     "magnitude",
     "count",
     "tick",
@@ -21,6 +21,7 @@ pub const NAMES: [&str; 21] = [
     "ratio",
     "local",
     "held",
+    "speed",
     "signal",
     "output",
     "side",
@@ -70,6 +71,7 @@ fn of_part(part: &[u64]) -> Vec<(String, String)> {
         ("ratio", plain(RATIO)),
         ("local", plain(LOCAL)),
         ("held", signed(HELD)),
+        ("speed", signed(SPEED)),
         ("signal", signal(SIGNAL)),
         ("output", signal(OUTPUT)),
         ("side", ["unset", "negative", "positive"][part[SIDE] as usize].to_string()),

@@ -42,7 +42,7 @@ mod wanted;
 #[path = "../calls/words.rs"]
 mod words;
 
-use alter::{Then, SORTS};
+use alter::{Then, SORTS, SOUND};
 use implementations::Second;
 use random::Random;
 use registers::Registers;
@@ -107,7 +107,7 @@ impl Made {
         let (sort, _, alteration) = random.pick(SORTS);
         let mut altered = before.clone();
         // Some faults are far from the start.
-        let first = random.pick(&SORTS[..10]);
+        let first = random.pick(&SORTS[..SOUND]);
         if first.1 != Then::Sound || !random.once_in(3) || !first.2(&mut altered, random) {
             altered = before.clone();
         }

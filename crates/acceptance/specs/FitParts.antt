@@ -10,7 +10,7 @@ use lib.ListN.{length}
 use lib.Dec.{eqb}
 use borrow.Author.Tests.{leb-true}
 use Rattle.machine.specs.declared.part.Kind.{Kind}
-use Rattle.machine.specs.declared.part.Kind.the-variants.{Constant, Gain, Adder, Square, Pulse, Delay, Integrator, ResetIntegrator, Detector, Hold, Sampler, Drive}
+use Rattle.machine.specs.declared.part.Kind.the-variants.{Constant, Gain, Adder, Square, Pulse, Delay, Integrator, ResetIntegrator, Detector, Hold, Sampler, Drive, Clapper}
 use Rattle.machine.specs.declared.part.Component.{Component}
 use Rattle.machine.specs.declared.model.Model.{Model}
 use Rattle.machine.specs.Time.{ratio-of, no-preference}
@@ -53,6 +53,7 @@ named-by-class Detector = refl
 named-by-class Hold = refl
 named-by-class Sampler = refl
 named-by-class Drive = refl
+named-by-class Clapper = refl
 
 -- p, where a kind names it, is at least 1
 named-positive : (c : Component) → operands-fit (c .kind) (c .a) (c .b) (c .p) ≡ true → names-p (c .kind) ≡ true → 0 < c .p

@@ -19,13 +19,13 @@ pub record LoadedInto (stream before after : List ℕ) (number : ℕ) : Type 0 w
   pub answer : Loaded
   pub machine : trimmed-loaded answer ≡ load stream
   pub refused : (answer .number ≡ 0 → ⊥) → answer .model ≡ blank-model
-  pub written : WrittenInto (loaded-bytes answer) 6704 before after number
-  pub again : number ≡ 0 → model-of (take 6688 (drop 16 after)) ≡ answer .model
+  pub written : WrittenInto (loaded-bytes answer) 6960 before after number
+  pub again : number ≡ 0 → model-of (take 6944 (drop 16 after)) ≡ answer .model
 
 -- The bytes of a model, a wanted step, the buffer before and after an advance, and the call's number: there is an answer that advancing the model
 -- gives, and its bytes were written. Handed in again, the model's bytes mean that very model, so that calls behind calls are a chain of advances.
 pub record AdvancedInto (model : List ℕ) (wanted : ℕ) (before after : List ℕ) (number : ℕ) : Type 0 where
   pub answer : Answer
   pub machine : Advanced (model-of model) wanted answer
-  pub written : WrittenInto (answer-bytes answer) 6728 before after number
-  pub again : number ≡ 0 → model-of (take 6688 (drop 40 after)) ≡ answer .model
+  pub written : WrittenInto (answer-bytes answer) 6984 before after number
+  pub again : number ≡ 0 → model-of (take 6944 (drop 40 after)) ≡ answer .model

@@ -62,10 +62,11 @@ state-of bs k =
     record {
       local = record { 0 = word-in bs k };
       held = word-signed (word-in bs (k + 1));
-      signal = signal-in bs (k + 2);
-      output = signal-in bs (k + 4);
-      side = side-coded (word-in bs (k + 6));
-      mark = mark-coded (word-in bs (k + 7));
+      speed = word-signed (word-in bs (k + 2));
+      signal = signal-in bs (k + 3);
+      output = signal-in bs (k + 5);
+      side = side-coded (word-in bs (k + 7));
+      mark = mark-coded (word-in bs (k + 8));
     }
 
 unfoldable pub part-of : List ℕ → ℕ → Part
@@ -76,7 +77,7 @@ unfoldable pub order-of : List ℕ → List ℕ
 order-of bs = table (λ i. word-in bs (4 + i) % 65536) 32
 
 unfoldable pub parts-of : List ℕ → List Part
-parts-of bs = table (λ i. part-of bs (36 + 25 * i)) 32
+parts-of bs = table (λ i. part-of bs (36 + 26 * i)) 32
 
 -- the model
 unfoldable pub model-of : List ℕ → Model

@@ -1,5 +1,5 @@
--- The words of a model, of a load's answer and of an advance's: fixed rows of numbers, with a number for each case of an enum. A model has 836 words:
--- 4, its order (32), and 32 parts of 25 words each. Assumes nothing.
+-- The words of a model, of a load's answer and of an advance's: fixed rows of numbers, with a number for each case of an enum. A model has 868 words:
+-- 4, its order (32), and 32 parts of 26 words each. Assumes nothing.
 use Prim.Native.Nat.{ℕ, _+_}
 use mathlib.Core.List.{List, [], _∷_, _++_}
 use lib.ListN.{getD}
@@ -69,13 +69,13 @@ component-words c =
     operand-words (c .kind) (c .preference) (c .a) (c .b) (c .p) (c .«span_count») ++
     (spans-words (c .spans) ++ (source-code (c .port0) ∷ source-code (c .port1) ∷ []))
 
--- what a step changes of a part: 8 words
+-- what a step changes of a part: 9 words
 unfoldable pub state-words : State → List ℕ
 state-words s =
-    (s .local .0 ∷ signed-word (s .held) ∷ []) ++
+    (s .local .0 ∷ signed-word (s .held) ∷ signed-word (s .speed) ∷ []) ++
     (signal-words (s .signal) ++ (signal-words (s .output) ++ (side-code (s .side) ∷ mark-code (s .mark) ∷ [])))
 
--- a part: 25 words
+-- a part: 26 words
 unfoldable pub part-words : Part → List ℕ
 part-words p = component-words (p .component) ++ (p .ratio ∷ state-words (p .state))
 
@@ -83,12 +83,12 @@ part-words p = component-words (p .component) ++ (p .ratio ∷ state-words (p .s
 unfoldable pub parts-words : List Part → List ℕ
 parts-words parts = rows (λ i. part-words (part-at parts i)) 32
 
--- a model: 836 words
+-- a model: 868 words
 unfoldable pub model-words : Model → List ℕ
 model-words m =
     (m .magnitude ∷ m .count ∷ tick (m .point) ∷ m .point .n ∷ []) ++ (order-words (m .order) ++ parts-words (m .parts))
 
--- what loading answers: 838 words; what advancing answers: 841
+-- what loading answers: 870 words; what advancing answers: 873
 unfoldable pub loaded-words : Loaded → List ℕ
 loaded-words r = r .number ∷ r .position ∷ model-words (r .model)
 

@@ -104,7 +104,7 @@ module _ (bs : List ℕ) (k : ℕ) (c : Component) (sized : SizedComponent c)
 
 -- a state, in the same way
 module _ (bs : List ℕ) (k : ℕ) (s : State) (sized : SizedState s)
-    (h : (j : ℕ) → j < 8 → word-in bs (k + j) ≡ in-word (getD (state-words s) j 0)) where
+    (h : (j : ℕ) → j < 9 → word-in bs (k + j) ≡ in-word (getD (state-words s) j 0)) where
   local-read : word-in bs k ≡ s .local .0
   unfolding state-words
   local-read =
@@ -117,33 +117,37 @@ module _ (bs : List ℕ) (k : ℕ) (s : State) (sized : SizedState s)
   unfolding state-words
   held-read = ap word-signed (h 1 (omega arith)) ∙ signed-back (s .held) (sized .held)
 
-  signal-read : signal-in bs (k + 2) ≡ s .signal
+  speed-read : word-signed (word-in bs (k + 2)) ≡ s .speed
+  unfolding state-words
+  speed-read = ap word-signed (h 2 (omega arith)) ∙ signed-back (s .speed) (sized .speed)
+
+  signal-read : signal-in bs (k + 3) ≡ s .signal
   unfolding state-words signal-in
   signal-read =
-      let next : k + 2 + 1 ≡ k + 3 = omega arith in
-      ap₂ signal-of (h 2 (omega arith)) (ap (word-in bs) next ∙ h 3 (omega arith)) ∙ signal-back (s .signal) (sized .signal)
+      let next : k + 3 + 1 ≡ k + 4 = omega arith in
+      ap₂ signal-of (h 3 (omega arith)) (ap (word-in bs) next ∙ h 4 (omega arith)) ∙ signal-back (s .signal) (sized .signal)
 
-  output-read : signal-in bs (k + 4) ≡ s .output
+  output-read : signal-in bs (k + 5) ≡ s .output
   unfolding state-words signal-in
   output-read =
-      let next : k + 4 + 1 ≡ k + 5 = omega arith in
-      ap₂ signal-of (h 4 (omega arith)) (ap (word-in bs) next ∙ h 5 (omega arith)) ∙ signal-back (s .output) (sized .output)
+      let next : k + 5 + 1 ≡ k + 6 = omega arith in
+      ap₂ signal-of (h 5 (omega arith)) (ap (word-in bs) next ∙ h 6 (omega arith)) ∙ signal-back (s .output) (sized .output)
 
-  side-read : side-coded (word-in bs (k + 6)) ≡ s .side
+  side-read : side-coded (word-in bs (k + 7)) ≡ s .side
   unfolding state-words
-  side-read = ap side-coded (h 6 (omega arith)) ∙ side-back (s .side)
+  side-read = ap side-coded (h 7 (omega arith)) ∙ side-back (s .side)
 
-  mark-read : mark-coded (word-in bs (k + 7)) ≡ s .mark
+  mark-read : mark-coded (word-in bs (k + 8)) ≡ s .mark
   unfolding state-words
-  mark-read = ap mark-coded (h 7 (omega arith)) ∙ mark-back (s .mark)
+  mark-read = ap mark-coded (h 8 (omega arith)) ∙ mark-back (s .mark)
 
   state-back : state-of bs k ≡ s
   unfolding state-of
-  state-back = rw (local-read, held-read, signal-read, output-read, side-read, mark-read) refl
+  state-back = rw (local-read, held-read, speed-read, signal-read, output-read, side-read, mark-read) refl
 
 -- a part: its component, its ratio and its state
 module _ (bs : List ℕ) (k : ℕ) (p : Part) (sized : SizedPart p)
-    (h : (j : ℕ) → j < 25 → word-in bs (k + j) ≡ in-word (getD (part-words p) j 0)) where
+    (h : (j : ℕ) → j < 26 → word-in bs (k + j) ≡ in-word (getD (part-words p) j 0)) where
   component-window : (j : ℕ) → j < 16 → word-in bs (k + j) ≡ in-word (getD (component-words (p .component)) j 0)
   unfolding part-words
   component-window j low =
@@ -159,7 +163,7 @@ module _ (bs : List ℕ) (k : ℕ) (p : Part) (sized : SizedPart p)
       let low = sized .ratio in
       omega arith
 
-  state-window : (j : ℕ) → j < 8 → word-in bs (k + 17 + j) ≡ in-word (getD (state-words (p .state)) j 0)
+  state-window : (j : ℕ) → j < 9 → word-in bs (k + 17 + j) ≡ in-word (getD (state-words (p .state)) j 0)
   unfolding part-words
   state-window j low =
       let c = component-words (p .component) in
@@ -189,14 +193,14 @@ order-word m i low =
     ap (λ (n : ℕ). getD (model-words m) n 0) place ∙ List·getD-append (table f 32) (parts-words (m .parts)) 0 i inside ∙
     table-at f 32 i 0 low
 
-part-word : (m : Model) (i j : ℕ) → i < 32 → j < 25 → getD (model-words m) (36 + 25 * i + j) 0 ≡ getD (part-words (part-at (m .parts) i)) j 0
+part-word : (m : Model) (i j : ℕ) → i < 32 → j < 26 → getD (model-words m) (36 + 26 * i + j) 0 ≡ getD (part-words (part-at (m .parts) i)) j 0
 unfolding model-words order-words parts-words
 part-word m i j here low =
     let f : ℕ → ℕ = λ (n : ℕ). getD (m .order) n 0 in
     let g : ℕ → List ℕ = λ (n : ℕ). part-words (part-at (m .parts) n) in
     let wide = length-table f 32 in
-    let place : 36 + 25 * i + j ≡ suc (suc (suc (suc (length (table f 32) + (25 * i + j))))) = omega arith in
-    ap (λ (n : ℕ). getD (model-words m) n 0) place ∙ getD-append-add (table f 32) (parts-words (m .parts)) (25 * i + j) 0 ∙
+    let place : 36 + 26 * i + j ≡ suc (suc (suc (suc (length (table f 32) + (26 * i + j))))) = omega arith in
+    ap (λ (n : ℕ). getD (model-words m) n 0) place ∙ getD-append-add (table f 32) (parts-words (m .parts)) (26 * i + j) 0 ∙
     rows-at g 32 i j (λ n. part-wide (part-at (m .parts) n)) here low
 
 -- a model's own bytes, field by field
@@ -243,16 +247,16 @@ module _ (m : Model) (sized : Sized m) where
       table-same (λ (i : ℕ). word-in (model-bytes m) (4 + i) % 65536) (λ (i : ℕ). getD (m .order) i 0) 32 place-read ∙
       table-list (m .order) 0 32 (sized .order .places)
 
-  part-read : (i : ℕ) → i < 32 → part-of (model-bytes m) (36 + 25 * i) ≡ part-at (m .parts) i
+  part-read : (i : ℕ) → i < 32 → part-of (model-bytes m) (36 + 26 * i) ≡ part-at (m .parts) i
   unfolding model-bytes
   part-read i inside =
-      part-back (model-bytes m) (36 + 25 * i) (part-at (m .parts) i) (sized .parts .each i inside)
-      (λ j low. word-of (model-words m) (36 + 25 * i + j) ∙ ap in-word (part-word m i j inside low))
+      part-back (model-bytes m) (36 + 26 * i) (part-at (m .parts) i) (sized .parts .each i inside)
+      (λ j low. word-of (model-words m) (36 + 26 * i + j) ∙ ap in-word (part-word m i j inside low))
 
   parts-read : parts-of (model-bytes m) ≡ m .parts
   unfolding parts-of
   parts-read =
-      table-same (λ (i : ℕ). part-of (model-bytes m) (36 + 25 * i)) (λ (i : ℕ). part-at (m .parts) i) 32 part-read ∙
+      table-same (λ (i : ℕ). part-of (model-bytes m) (36 + 26 * i)) (λ (i : ℕ). part-at (m .parts) i) 32 part-read ∙
       table-list (m .parts) blank-part 32 (sized .parts .places)
 
   -- the law
@@ -262,14 +266,14 @@ module _ (m : Model) (sized : Sized m) where
 
 -- a model's bytes behind other words, as in the calls' answers: taken out of a buffer they mean that model
 pub model-taken : (front : List ℕ) (m : Model) (rest : List ℕ) → Sized m →
-    model-of (take 6688 (drop (8 * length front) (bytes-of (front ++ model-words m) ++ rest))) ≡ m
+    model-of (take 6944 (drop (8 * length front) (bytes-of (front ++ model-words m) ++ rest))) ≡ m
 unfolding model-bytes
 model-taken front m rest sized =
     let all = bytes-of (model-words m) in
-    let wide : length all ≡ 6688 = simp (length-bytes, model-wide) in
+    let wide : length all ≡ 6944 = simp (length-bytes, model-wide) in
     rw (
       bytes-append front (model-words m),
       append-assoc,
       drop-at (bytes-of front) (all ++ rest) (8 * length front) (length-bytes front),
-      take-at all rest 6688 wide,
+      take-at all rest 6944 wide,
     ) (model-back m sized)

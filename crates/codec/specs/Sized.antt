@@ -54,6 +54,7 @@ pub record SizedComponent (c : Component) : Type 0 where
 pub record SizedState (s : State) : Type 0 where
   pub local : FitsWord (s .local .0)
   pub held : FitsSigned (s .held)
+  pub speed : FitsSigned (s .speed)
   pub signal : FitsSignal (s .signal)
   pub output : FitsSignal (s .output)
 

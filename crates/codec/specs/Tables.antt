@@ -87,25 +87,25 @@ length-rows k f (suc n) wide =
     let last = wide n in
     rw (length-append (rows f n) (f n)) (omega arith)
 
--- what stands at a place of lists of 25 each
-pub rows-at : (f : ℕ → List ℕ) (n i j : ℕ) → ((i : ℕ) → length (f i) ≡ 25) → i < n → j < 25 → getD (rows f n) (25 * i + j) 0 ≡ getD (f i) j 0
+-- what stands at a place of lists of 26 each
+pub rows-at : (f : ℕ → List ℕ) (n i j : ℕ) → ((i : ℕ) → length (f i) ≡ 26) → i < n → j < 26 → getD (rows f n) (26 * i + j) 0 ≡ getD (f i) j 0
 unfolding rows
 rows-at f zero i j wide h low = absurd (omega arith)
 rows-at f (suc n) i j wide h low = cases (either (ltb i n)) (rows-at f n i j wide)
   where
     cases :
         (ltb i n ≡ true) ⊎ (ltb i n ≡ false) →
-        (i < n → j < 25 → getD (rows f n) (25 * i + j) 0 ≡ getD (f i) j 0) →
-        getD (rows f (suc n)) (25 * i + j) 0 ≡ getD (f i) j 0
+        (i < n → j < 26 → getD (rows f n) (26 * i + j) 0 ≡ getD (f i) j 0) →
+        getD (rows f (suc n)) (26 * i + j) 0 ≡ getD (f i) j 0
     cases (inl e) later =
         let before = ltb-true i n e in
-        let many = length-rows 25 f n wide in
-        let inside : 25 * i + j < length (rows f n) = omega arith in
-        List·getD-append (rows f n) (f n) 0 (25 * i + j) inside ∙ later before low
+        let many = length-rows 26 f n wide in
+        let inside : 26 * i + j < length (rows f n) = omega arith in
+        List·getD-append (rows f n) (f n) 0 (26 * i + j) inside ∙ later before low
     cases (inr e) later =
         let same : i ≡ n = omega (arith, ltb-false i n e) in
-        let many = length-rows 25 f n wide in
-        let place : 25 * i + j ≡ length (rows f n) + j = omega arith in
+        let many = length-rows 26 f n wide in
+        let place : 26 * i + j ≡ length (rows f n) + j = omega arith in
         ap (λ (k : ℕ). getD (rows f n ++ f n) k 0) place ∙ getD-append-add (rows f n) (f n) j 0 ∙
         ap (λ (k : ℕ). getD (f k) j 0) (sym same)
 

@@ -39,27 +39,27 @@ pub component-wide : (c : Component) → length (component-words c) ≡ 16
 unfolding component-words operand-words spans-words
 component-wide c = simp (length-append, length-table)
 
-state-wide : (s : State) → length (state-words s) ≡ 8
+state-wide : (s : State) → length (state-words s) ≡ 9
 unfolding state-words
 state-wide s = refl
 
-pub part-wide : (p : Part) → length (part-words p) ≡ 25
+pub part-wide : (p : Part) → length (part-words p) ≡ 26
 unfolding part-words
 part-wide p = simp (length-append, component-wide, state-wide)
 
-parts-wide : (ps : List Part) → length (parts-words ps) ≡ 800
+parts-wide : (ps : List Part) → length (parts-words ps) ≡ 832
 unfolding parts-words
-parts-wide ps = length-rows 25 (λ (i : ℕ). part-words (part-at ps i)) 32 (λ i. part-wide (part-at ps i))
+parts-wide ps = length-rows 26 (λ (i : ℕ). part-words (part-at ps i)) 32 (λ i. part-wide (part-at ps i))
 
-pub model-wide : (m : Model) → length (model-words m) ≡ 836
+pub model-wide : (m : Model) → length (model-words m) ≡ 868
 unfolding model-words order-words
 model-wide m = simp (length-append, length-table, parts-wide)
 
 -- the bytes of a load's answer, and of an advance's
-pub loaded-wide : (r : Loaded) → length (loaded-bytes r) ≡ 6704
+pub loaded-wide : (r : Loaded) → length (loaded-bytes r) ≡ 6960
 unfolding loaded-bytes loaded-words
 loaded-wide r = simp (length-bytes, model-wide)
 
-pub answer-wide : (r : Answer) → length (answer-bytes r) ≡ 6728
+pub answer-wide : (r : Answer) → length (answer-bytes r) ≡ 6984
 unfolding answer-bytes answer-words
 answer-wide r = simp (length-bytes, model-wide)

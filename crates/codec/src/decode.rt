@@ -1,5 +1,5 @@
 // The model that bytes mean, whatever bytes they are. A field is read from the words from number k on; the
-// condition is that these are words of a model, which has 836. The contracts cite `specs/Decoded.antt`.
+// condition is that these are words of a model, which has 868. The contracts cite `specs/Decoded.antt`.
 use crate::fields::kind_coded;
 use crate::fields::mark_coded;
 use crate::fields::side_coded;
@@ -25,7 +25,7 @@ ghost use Rattle.codec.specs.Decoded.{component-coded, model-of, order-o
 
 // A signed number.
 fn signed_at(bytes: &[u8], k: usize) -> i64
-    requires { ⌜ k < 836 ⌝ }
+    requires { ⌜ k < 868 ⌝ }
     ensures { λ r. ⌜ r ≡ word-signed (word-in (now (bytes .entry)) k) ⌝ }
 {
     word_signed(word(bytes, k))
@@ -33,7 +33,7 @@ fn signed_at(bytes: &[u8], k: usize) -> i64
 
 // A port.
 fn source_at(bytes: &[u8], k: usize) -> Source
-    requires { ⌜ k < 836 ⌝ }
+    requires { ⌜ k < 868 ⌝ }
     ensures { λ r. ⌜ r ≡ source-coded (word-in (now (bytes .entry)) k) ⌝ }
 {
     source_coded(word(bytes, k))
@@ -41,7 +41,7 @@ fn source_at(bytes: &[u8], k: usize) -> Source
 
 // A signal, which has two words.
 fn signal_at(bytes: &[u8], k: usize) -> Signal
-    requires { ⌜ k + 2 ≤ 836 ⌝ }
+    requires { ⌜ k + 2 ≤ 868 ⌝ }
     ensures { λ r. ⌜ r ≡ signal-in (now (bytes .entry)) k ⌝ }
 {
     signal_coded(word(bytes, k), word(bytes, k + 1))
@@ -49,7 +49,7 @@ fn signal_at(bytes: &[u8], k: usize) -> Signal
 
 // The spans.
 fn spans_at(bytes: &[u8], k: usize) -> [u32; SPANS]
-    requires { ⌜ k + 8 ≤ 836 ⌝ }
+    requires { ⌜ k + 8 ≤ 868 ⌝ }
     ensures { λ r. ⌜ r ≡ spans-of (now (bytes .entry)) k ⌝ }
 {
     let mut spans = [0u32; SPANS];
@@ -63,7 +63,7 @@ fn spans_at(bytes: &[u8], k: usize) -> [u32; SPANS]
 
 // What the table fixes of a part.
 fn component_at(bytes: &[u8], k: usize) -> Component
-    requires { ⌜ k + 16 ≤ 836 ⌝ }
+    requires { ⌜ k + 16 ≤ 868 ⌝ }
     ensures { λ r. ⌜ r ≡ component-coded (now (bytes .entry)) k ⌝ }
 {
     let kind = kind_coded(word(bytes, k));
@@ -90,18 +90,20 @@ fn component_at(bytes: &[u8], k: usize) -> Component
 
 // What a step changes of a part.
 fn state_at(bytes: &[u8], k: usize) -> State
-    requires { ⌜ k + 8 ≤ 836 ⌝ }
+    requires { ⌜ k + 9 ≤ 868 ⌝ }
     ensures { λ r. ⌜ r ≡ state-of (now (bytes .entry)) k ⌝ }
 {
     let local = LocalTicks(word(bytes, k));
     let held = signed_at(bytes, k + 1);
-    let signal = signal_at(bytes, k + 2);
-    let output = signal_at(bytes, k + 4);
-    let side = side_coded(word(bytes, k + 6));
-    let mark = mark_coded(word(bytes, k + 7));
+    let speed = signed_at(bytes, k + 2);
+    let signal = signal_at(bytes, k + 3);
+    let output = signal_at(bytes, k + 5);
+    let side = side_coded(word(bytes, k + 7));
+    let mark = mark_coded(word(bytes, k + 8));
     State {
         local: local,
         held: held,
+        speed: speed,
         signal: signal,
         output: output,
         side: side,
@@ -111,7 +113,7 @@ fn state_at(bytes: &[u8], k: usize) -> State
 
 // A part.
 fn part_at(bytes: &[u8], k: usize) -> Part
-    requires { ⌜ k + 25 ≤ 836 ⌝ }
+    requires { ⌜ k + 26 ≤ 868 ⌝ }
     ensures { λ r. ⌜ r ≡ part-of (now (bytes .entry)) k ⌝ }
 {
     let component = component_at(bytes, k);
@@ -145,7 +147,7 @@ fn parts_at(bytes: &[u8]) -> [Part; PARTS]
     let mut parts = [first; PARTS];
     let mut i: usize = 0;
     while i < PARTS {
-        let p = part_at(bytes, 36 + 25 * i);
+        let p = part_at(bytes, 36 + 26 * i);
         parts[i] = p;
         i += 1;
     }

@@ -15,7 +15,7 @@ ghost use Rattle.codec.specs.Decoded.{mark-coded, side-coded, signal-of,
 ghost use Rattle.codec.specs.Sized.{FitsSource};
 
 // How many kinds there are.
-const KIND_COUNT: u64 = 12;
+const KIND_COUNT: u64 = 13;
 
 // The number of a kind.
 pub fn kind_code(k: Kind) -> u64

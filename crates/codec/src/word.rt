@@ -58,7 +58,7 @@ fn byte(bytes: &[u8], at: usize) -> u64
 
 // The four bytes from a position on as a number, the lowest first.
 fn four(bytes: &[u8], at: usize) -> u64
-    requires { ⌜ at + 4 ≤ 6688 ⌝ }
+    requires { ⌜ at + 4 ≤ 6944 ⌝ }
     ensures { λ r. ⌜ (r ≡ word-at (now (bytes .entry)) at) × (r < 4294967296) ⌝ }
 {
     byte(bytes, at)
@@ -67,9 +67,9 @@ fn four(bytes: &[u8], at: usize) -> u64
         + 16777216 * byte(bytes, at + 3)
 }
 
-// The word with the number k, of the 836 that a model has.
+// The word with the number k, of the 868 that a model has.
 pub(crate) fn word(bytes: &[u8], k: usize) -> u64
-    requires { ⌜ k < 836 ⌝ }
+    requires { ⌜ k < 868 ⌝ }
     ensures { λ r. ⌜ r ≡ word-in (now (bytes .entry)) k ⌝ }
 {
     let at = 8 * k;

@@ -22,7 +22,7 @@ ghost use lib.ListN.{length};
 ghost use Rattle.codec.specs.Words.{signed-word};
 ghost use Rattle.codec.specs.Encoded.{component-words, model-words, operand-words, order-words, part-words, parts-words, signal-words, spans-words, state-words};
 ghost use Rattle.codec.specs.WordsPut.{WordsPut};
-ghost use Rattle.codec.specs.Sized.{FitsSigned, FitsSignal, Sized, SizedComponent, SizedOperands, SizedOrder, SizedPart, SizedParts, SizedSpans, SizedState};
+ghost use Rattle.codec.specs.Sized.{FitsSigned, FitsSignal, FitsWord, Sized, SizedComponent, SizedOperands, SizedOrder, SizedPart, SizedParts, SizedSpans, SizedState};
 
 // A signed number.
 fn put_signed(out: &mut [u8], at: usize, v: i64) -> usize
@@ -129,18 +129,28 @@ fn put_component(out: &mut [u8], at: usize, c: Component) -> usize
     put_word(out, at, source_code(port1))
 }
 
+// The local count, the held number and the speed.
+fn put_numbers(out: &mut [u8], at: usize, local: u64, held: i64, speed: i64) -> usize
+    requires { ⌜ at + 24 ≤ length (now out) ⌝ }
+    ensures { λ r. ⌜ WordsPut 3 (local ∷ signed-word held ∷ signed-word speed ∷ []) at (now (out .entry)) (now (out .exit)) r ⌝ }
+    ensures fits { λ r. ⌜ FitsWord local × FitsSigned held × FitsSigned speed ⌝ }
+{
+    let at = put_word(out, at, local);
+    let at = put_signed(out, at, held);
+    put_signed(out, at, speed)
+}
+
 // What a step changes of a part.
 fn put_state(out: &mut [u8], at: usize, s: State) -> usize
-    requires { ⌜ at + 64 ≤ length (now out) ⌝ }
-    ensures { λ r. ⌜ WordsPut 8 (state-words s) at (now (out .entry)) (now (out .exit)) r ⌝ }
+    requires { ⌜ at + 72 ≤ length (now out) ⌝ }
+    ensures { λ r. ⌜ WordsPut 9 (state-words s) at (now (out .entry)) (now (out .exit)) r ⌝ }
     ensures fits { λ r. ⌜ SizedState s ⌝ }
 {
     let signal = s.signal;
     let output = s.output;
     let side = s.side;
     let mark = s.mark;
-    let at = put_word(out, at, s.local.0);
-    let at = put_signed(out, at, s.held);
+    let at = put_numbers(out, at, s.local.0, s.held, s.speed);
     let at = put_signal(out, at, signal);
     let at = put_signal(out, at, output);
     let at = put_word(out, at, side_code(side));
@@ -149,8 +159,8 @@ fn put_state(out: &mut [u8], at: usize, s: State) -> usize
 
 // A part.
 fn put_part(out: &mut [u8], at: usize, p: Part) -> usize
-    requires { ⌜ at + 200 ≤ length (now out) ⌝ }
-    ensures { λ r. ⌜ WordsPut 25 (part-words p) at (now (out .entry)) (now (out .exit)) r ⌝ }
+    requires { ⌜ at + 208 ≤ length (now out) ⌝ }
+    ensures { λ r. ⌜ WordsPut 26 (part-words p) at (now (out .entry)) (now (out .exit)) r ⌝ }
     ensures fits { λ r. ⌜ SizedPart p ⌝ }
 {
     let component = p.component;
@@ -177,8 +187,8 @@ fn put_order(out: &mut [u8], at: usize, order: [u16; PARTS]) -> usize
 
 // The places for parts.
 fn put_parts(out: &mut [u8], at: usize, parts: [Part; PARTS]) -> usize
-    requires { ⌜ at + 6400 ≤ length (now out) ⌝ }
-    ensures { λ r. ⌜ WordsPut 800 (parts-words parts) at (now (out .entry)) (now (out .exit)) r ⌝ }
+    requires { ⌜ at + 6656 ≤ length (now out) ⌝ }
+    ensures { λ r. ⌜ WordsPut 832 (parts-words parts) at (now (out .entry)) (now (out .exit)) r ⌝ }
     ensures fits { λ r. ⌜ SizedParts parts ⌝ }
 {
     let mut next = at;
@@ -193,8 +203,8 @@ fn put_parts(out: &mut [u8], at: usize, parts: [Part; PARTS]) -> usize
 
 // A model.
 pub(crate) fn put_model(out: &mut [u8], at: usize, m: Model) -> usize
-    requires { ⌜ at + 6688 ≤ length (now out) ⌝ }
-    ensures { λ r. ⌜ WordsPut 836 (model-words m) at (now (out .entry)) (now (out .exit)) r ⌝ }
+    requires { ⌜ at + 6944 ≤ length (now out) ⌝ }
+    ensures { λ r. ⌜ WordsPut 868 (model-words m) at (now (out .entry)) (now (out .exit)) r ⌝ }
     ensures fits { λ r. ⌜ Sized m ⌝ }
 {
     let order = m.order;

@@ -11,13 +11,13 @@ ghost use Rattle.codec.specs.Sized.{Sized};
 ghost use Rattle.encoding.specs.WrittenInto.{WrittenInto};
 
 // How many bytes a load's answer has, and an advance's.
-const LOADED_WIDTH: usize = 6704;
+const LOADED_WIDTH: usize = 6960;
 
-const ANSWER_WIDTH: usize = 6728;
+const ANSWER_WIDTH: usize = 6984;
 
 // A load's answer.
 pub fn write_loaded(loaded: Loaded, out: &mut [u8]) -> u64
-    ensures { λ n. ⌜ WrittenInto (loaded-bytes loaded) 6704 (now (out .entry)) (now (out .exit)) n ⌝ }
+    ensures { λ n. ⌜ WrittenInto (loaded-bytes loaded) 6960 (now (out .entry)) (now (out .exit)) n ⌝ }
     ensures fits { λ n. ⌜ (n ≡ 0 → Sized (loaded .model)) ⌝ }
 {
     if out.len() < LOADED_WIDTH {
@@ -32,7 +32,7 @@ pub fn write_loaded(loaded: Loaded, out: &mut [u8]) -> u64
 
 // An advance's answer.
 pub fn write_answer(answer: Answer, out: &mut [u8]) -> u64
-    ensures { λ n. ⌜ WrittenInto (answer-bytes answer) 6728 (now (out .entry)) (now (out .exit)) n ⌝ }
+    ensures { λ n. ⌜ WrittenInto (answer-bytes answer) 6984 (now (out .entry)) (now (out .exit)) n ⌝ }
     ensures fits { λ n. ⌜ (n ≡ 0 → Sized (answer .model)) ⌝ }
 {
     if out.len() < ANSWER_WIDTH {

@@ -24,9 +24,9 @@ use Rattle.inspection.specs.Parts.{state-holds, part-fits}
 use Rattle.inspection.specs.TrimmedPlaces.{parts-count, components-count}
 
 -- a state by the part's own ratio, and by the table's where the two are the same
-state-by : (t r : ℕ) (p : Part) → p .ratio ≡ r → state-fits t p ≡ state-holds t r (p .state)
+state-by : (t r : ℕ) (p : Part) → p .ratio ≡ r → state-fits t p ≡ state-holds t r (p .component .kind) (p .state)
 unfolding state-fits state-holds
-state-by t r p e = ap (λ (x : ℕ). state-holds t x (p .state)) e
+state-by t r p e = ap (λ (x : ℕ). state-holds t x (p .component .kind) (p .state)) e
 
 -- what the machine asks of one part, by the master's magnitude g, among n parts at tick t
 record PartTests (n g t : ℕ) (p : Part) : Type 0 where

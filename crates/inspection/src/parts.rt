@@ -1,11 +1,13 @@
 // The tests of the parts of a model, one by one. Its contracts cite `specs/Parts.antt`, which
 // gathers what the machine's `specs/Sound.antt` asks of one part.
 use kinds::component::component_fits;
+use kinds::operand::speed_fits;
 use kinds::range::is_signal;
 use kinds::range::is_value;
 use kinds::ratio::period_fits;
 use kinds::ratio::ratio_of;
 use machine::model::Model;
+use machine::part::Kind;
 use machine::part::Part;
 use machine::part::State;
 use machine::time::Ticks;
@@ -16,15 +18,18 @@ ghost use Rattle.machine.specs.Model.{trimmed, trimmed-part};
 ghost use Rattle.machine.specs.Time.{last-magnitude, tick};
 ghost use Rattle.inspection.specs.Parts.{part-fits, state-holds};
 
-// Whether a state may be that of a part with this ratio at tick t.
-fn state_fits(t: Ticks, ratio: u64, state: State) -> bool
-    ensures { λ r. ⌜ r ≡ state-holds (t .0) ratio state ⌝ }
+// Whether a state may be that of a part of this kind with this ratio at tick t.
+fn state_fits(t: Ticks, ratio: u64, kind: Kind, state: State) -> bool
+    ensures { λ r. ⌜ r ≡ state-holds (t .0) ratio kind state ⌝ }
 {
     let local = state.local;
     if local.0 != t.local(ratio).0 {
         return false;
     }
     if !is_value(state.held) {
+        return false;
+    }
+    if !speed_fits(kind, state.speed) {
         return false;
     }
     let signal = state.signal;
@@ -51,8 +56,9 @@ fn part_fits(p: Part, parts: usize, magnitude: u8, t: Ticks) -> bool
     if !period_fits(c.p, ratio) {
         return false;
     }
+    let kind = c.kind;
     let state = p.state;
-    state_fits(t, ratio, state)
+    state_fits(t, ratio, kind, state)
 }
 
 // Whether every part in use may be one of the model's, by the master's magnitude.

@@ -65,4 +65,4 @@ kind-cases {n} {r = Unknown} h = none-there n (h .number)
 -- a number that no kind has stands for the first kind
 pub none-has : (n : ℕ) → kind-known n ≡ false → kind-of n ≡ Constant
 unfolding kind-known kind-of
-none-has n unknown = List·getD-eq-default kinds Constant (ltb-false n 12 unknown)
+none-has n unknown = List·getD-eq-default kinds Constant (ltb-false n 13 unknown)

@@ -1,13 +1,13 @@
-// The kinds by their numbers, which of them is the drive, and which hold a number.
+// The kinds by their numbers, which of them is the drive, and which hold a number or a speed.
 // Its contracts cite the machine's `specs/Kind.antt` and `specs/Load.antt`, and `specs/KindMeant.antt`.
 use machine::part::Kind;
 ghost use mathlib.Core.Path.{_≡_};
-ghost use Rattle.machine.specs.Kind.{integrates, kind-number, kind-of};
+ghost use Rattle.machine.specs.Kind.{has-mass, integrates, kind-number, kind-of};
 ghost use Rattle.machine.specs.Load.{is-drive};
 ghost use Rattle.kinds.specs.KindMeant.{KindMeant};
 
 // How many kinds there are.
-const KIND_COUNT: usize = 12;
+const KIND_COUNT: usize = 13;
 
 // The kinds by their numbers.
 const KINDS: [Kind; KIND_COUNT] = [
@@ -23,6 +23,7 @@ const KINDS: [Kind; KIND_COUNT] = [
     Kind::Hold,
     Kind::Sampler,
     Kind::Drive,
+    Kind::Clapper,
 ];
 
 // The drive's number.
@@ -73,6 +74,7 @@ pub fn number_of(k: Kind) -> u8
         Kind::Hold => 9,
         Kind::Sampler => 10,
         Kind::Drive => 11,
+        Kind::Clapper => 12,
     }
 }
 
@@ -100,5 +102,27 @@ pub fn holds_number(k: Kind) -> bool
         Kind::Hold => false,
         Kind::Sampler => false,
         Kind::Drive => true,
+        Kind::Clapper => true,
+    }
+}
+
+// Whether a kind has mass, and so holds a speed, which moves its number.
+pub fn has_mass(k: Kind) -> bool
+    ensures { λ r. ⌜ r ≡ has-mass k ⌝ }
+{
+    match k {
+        Kind::Constant => false,
+        Kind::Gain => false,
+        Kind::Adder => false,
+        Kind::Square => false,
+        Kind::Pulse => false,
+        Kind::Delay => false,
+        Kind::Integrator => false,
+        Kind::ResetIntegrator => false,
+        Kind::Detector => false,
+        Kind::Hold => false,
+        Kind::Sampler => false,
+        Kind::Drive => false,
+        Kind::Clapper => true,
     }
 }

@@ -1,5 +1,6 @@
-// The operands of a part: which a kind names, and whether they are those that a part of the kind may have.
-// Its contracts cite the machine's `specs/Kind.antt`.
+// The operands of a part: which a kind names, and whether they are those that a part of the kind may have; and
+// whether its speed is. Its contracts cite the machine's `specs/Kind.antt` and `specs/Sound.antt`.
+use crate::kind::has_mass;
 use crate::range::is_positive;
 use crate::range::is_value;
 use machine::part::Kind;
@@ -8,6 +9,7 @@ ghost use mathlib.Core.Bool.{cond};
 ghost use lib.Dec.{eqb};
 ghost use Rattle.machine.specs.Kind.{is-positive, is-zero, names-a, names-b, names-p, operands-fit};
 ghost use Rattle.machine.specs.Signal.{is-value};
+ghost use Rattle.machine.specs.Sound.{speed-fits};
 
 // Whether a kind names the operand a.
 fn names_a(k: Kind) -> bool
@@ -26,6 +28,7 @@ fn names_a(k: Kind) -> bool
         Kind::Hold => false,
         Kind::Sampler => false,
         Kind::Drive => true,
+        Kind::Clapper => true,
     }
 }
 
@@ -46,6 +49,7 @@ fn names_b(k: Kind) -> bool
         Kind::Hold => false,
         Kind::Sampler => false,
         Kind::Drive => false,
+        Kind::Clapper => true,
     }
 }
 
@@ -66,10 +70,11 @@ fn names_p(k: Kind) -> bool
         Kind::Hold => false,
         Kind::Sampler => false,
         Kind::Drive => false,
+        Kind::Clapper => false,
     }
 }
 
-// Whether an operand a or b is a value where it is named, and 0 where it is not.
+// Whether a number is a value where the kind names it, and 0 where it does not: an operand a or b, or a speed.
 fn operand_fits(named: bool, v: i64) -> bool
     ensures { λ r. ⌜ r ≡ cond named (is-value v) (is-zero v) ⌝ }
 {
@@ -100,4 +105,11 @@ pub fn operands_fit(k: Kind, a: i64, b: i64, p: u32) -> bool
         return false;
     }
     parameter_fits(names_p(k), p)
+}
+
+// Whether the speed is one that a part of this kind may have.
+pub fn speed_fits(k: Kind, speed: i64) -> bool
+    ensures { λ r. ⌜ r ≡ speed-fits k speed ⌝ }
+{
+    operand_fits(has_mass(k), speed)
 }

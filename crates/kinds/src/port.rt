@@ -20,6 +20,7 @@ pub fn ports_of(k: Kind) -> u8
         Kind::Hold => 1,
         Kind::Sampler => 2,
         Kind::Drive => 1,
+        Kind::Clapper => 1,
     }
 }
 
@@ -40,6 +41,7 @@ pub fn direct0_of(k: Kind) -> bool
         Kind::Hold => true,
         Kind::Sampler => true,
         Kind::Drive => false,
+        Kind::Clapper => false,
     }
 }
 
@@ -60,5 +62,6 @@ pub fn direct1_of(k: Kind) -> bool
         Kind::Hold => false,
         Kind::Sampler => true,
         Kind::Drive => false,
+        Kind::Clapper => false,
     }
 }

@@ -8,7 +8,7 @@ use denote.Enum.Declared.{tagOf}
 use types.Run.{OneOf}
 use Rattle.machine.proofs.part.Kind.{the-type}
 use Rattle.machine.specs.declared.part.Kind.{Kind}
-use Rattle.machine.specs.declared.part.Kind.the-variants.{Constant, Gain, Adder, Square, Pulse, Delay, Integrator, ResetIntegrator, Detector, Hold, Sampler, Drive}
+use Rattle.machine.specs.declared.part.Kind.the-variants.{Constant, Gain, Adder, Square, Pulse, Delay, Integrator, ResetIntegrator, Detector, Hold, Sampler, Drive, Clapper}
 use Rattle.machine.specs.Kind.{kind-of}
 
 -- where f gives a for all numbers of a list, it gives a for one of them
@@ -33,6 +33,7 @@ number-back Detector = refl
 number-back Hold = refl
 number-back Sampler = refl
 number-back Drive = refl
+number-back Clapper = refl
 
 -- where f gives a for each kind that is left, it gives a for the kind that a match leaves
 pub of-kinds-left : {A : Type 0} (f : Kind → A) (a : A) (left : List ℕ) (k : Kind) → map (λ (n : ℕ). f (kind-of n)) left ≡ map (λ (n : ℕ). a) left →

@@ -1,7 +1,7 @@
 -- Laws of signed numbers: what the code's tests show of one, differences, the absolute values of sums and products, which numbers fit a word, and what values
 -- and clamping are by these. A signed number is `pos n` or `negsuc n`, which is −(n + 1), so each law goes by cases on these, and a bound on it is a
 -- bound on its absolute value, `natAbs`. Assumes nothing.
-use Prim.Native.Nat.{ℕ, zero, suc, _+_, _-_, _*_, _^_, _≤_, _<_}
+use Prim.Native.Nat.{ℕ, zero, suc, _+_, _-_, _*_, _^_, _≤_, _<_, min}
 use native.Mathlib.Nat.{mul-le-mul, le-trans, le-of-eq}
 use native.Mathlib.Omega.{arith}
 use mathlib.Core.Path.{_≡_, refl, ap}
@@ -15,7 +15,7 @@ use mir.ValLaws.{toZ-ofZ}
 use borrow.Author.Tests.{leb-true, le-leb, lt-leb, ltb-true, ltb-false, lt-ltb, ne-eqb}
 use Rattle.machine.specs.declared.signal.Signal.{Signal}
 use Rattle.machine.specs.declared.signal.Signal.the-variants.{Value}
-use Rattle.machine.specs.Signal.{clamp, is-value, is-signal, largest-value}
+use Rattle.machine.specs.Signal.{clamp, integral, integrated, is-value, is-signal, largest-value}
 use Rattle.machine.specs.Kind.{is-zero}
 
 -- a number below 0 is −(n + 1), and another is n, n being what `mag` gives of either
@@ -136,3 +136,13 @@ pub clamp-between : (v : ℤ) → ltZ (pos 1_000_000_000) v ≡ false → ltZ v 
 unfolding clamp
 clamp-between (pos n) h k = ap pos (omega (arith, ltb-false 1_000_000_000 n h))
 clamp-between (negsuc n) h k = ap negsuc (omega (arith, ltb-false 999_999_999 n k))
+
+-- clamping gives a value, and so does integrating
+pub clamp-value : (z : ℤ) → is-value (clamp z) ≡ true
+unfolding clamp is-value
+clamp-value (pos n) = le-leb (min n 1_000_000_000) largest-value (omega arith)
+clamp-value (negsuc n) = le-leb (suc (min n 999_999_999)) largest-value (omega arith)
+
+pub integral-value : (held : ℤ) (x : Signal) (d : ℕ) → is-value (integral held x d) ≡ true
+unfolding integral
+integral-value held x d = clamp-value (held +ℤ (integrated x *ℤ pos d))

@@ -35,6 +35,7 @@ pub(crate) fn blank_part() -> Part
     let state = State {
         local: LocalTicks(0),
         held: 0,
+        speed: 0,
         signal: Signal::Absent,
         output: Signal::Absent,
         side: Side::Unset,

@@ -1,11 +1,11 @@
 // The parts of a table before the start point is filled. Its contracts cite `specs/Places.antt`, which goes by the machine's
 // `specs/Fresh.antt`.
 use crate::blank::blank_part;
+use kinds::kind::has_mass;
 use kinds::kind::holds_number;
 use kinds::ratio::ratio_of;
 use machine::model::PARTS;
 use machine::part::Component;
-use machine::part::Kind;
 use machine::part::Mark;
 use machine::part::Part;
 use machine::part::Side;
@@ -16,16 +16,15 @@ ghost use mathlib.Core.Path.{_≡_};
 ghost use mathlib.Core.Bool.{cond};
 ghost use lib.IntN.{pos};
 ghost use Prim.Native.Nat.{_≤_};
-ghost use Rattle.machine.specs.Kind.{integrates};
 ghost use Rattle.machine.specs.Time.{last-magnitude};
 ghost use Rattle.loading.specs.Places.{first-by, first-places};
 
-// The held number of a part of this kind at the start.
-fn first_held(kind: Kind, a: i64) -> i64
-    ensures { λ r. ⌜ r ≡ cond (integrates kind) a (pos 0) ⌝ }
+// A held number or a speed at the start: the operand where the kind holds it, else 0.
+fn first_number(holds: bool, v: i64) -> i64
+    ensures { λ r. ⌜ r ≡ cond holds v (pos 0) ⌝ }
 {
-    if holds_number(kind) {
-        return a;
+    if holds {
+        return v;
     }
     0
 }
@@ -37,10 +36,12 @@ fn first_part(c: Component, magnitude: u8) -> Part
 {
     let kind = c.kind;
     let ratio = ratio_of(magnitude, c.preference);
-    let held = first_held(kind, c.a);
+    let held = first_number(holds_number(kind), c.a);
+    let speed = first_number(has_mass(kind), c.b);
     let state = State {
         local: LocalTicks(0),
         held: held,
+        speed: speed,
         signal: Signal::Absent,
         output: Signal::Absent,
         side: Side::Unset,

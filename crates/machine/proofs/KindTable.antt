@@ -16,7 +16,7 @@ use Rattle.machine.specs.KindTable.{KindTable}
 use Rattle.machine.proofs.Computing.{computing}
 
 -- a value is what clamping makes of it
-clamp-of-value : (v : ℤ) → is-value v ≡ true → clamp v ≡ v
+pub clamp-of-value : (v : ℤ) → is-value v ≡ true → clamp v ≡ v
 unfolding clamp is-value
 clamp-of-value (pos n) e = let most = leb-true n 1_000_000_000 e in let same : min n 1_000_000_000 ≡ n = omega arith in ap pos same
 clamp-of-value (negsuc n) e =
@@ -57,8 +57,8 @@ kind-table =
       delay = λ t q x y before. (refl, refl, refl);
       integrator = λ a held s q now x y before. (refl, refl);
       starting = λ a c. (refl, refl, refl);
-      moving = λ k s q e. (rw e refl, rw e refl);
-      resting = λ k held s x d q e. (alike (integrates k) (integral held Absent d) held held (integral-absent held d e) refl, λ none. rw none refl);
+      moving = λ k s q e none. (rw (e, none) refl, rw (e, none) refl);
+      resting = λ k held s x d q e. (λ none. rw none (alike (integrates k) (integral held Absent d) held held (integral-absent held d e) refl), λ none. rw none refl);
       reset = λ a held v s q now x before. (refl, refl);
       reset-held = λ a v q now next x before other last. refl;
       detector = λ side held s q now x y before. (refl, refl, refl);

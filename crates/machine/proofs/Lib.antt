@@ -1,8 +1,10 @@
 -- What is proved of the definitions themselves: `played`, the ten marked examples, `rehearsals`, what is printed of refused and of long streams,
--- `chained`, an example of a chain of calls, `kind-table`, the table of kinds line by line, and `crossings`, that zeros leave no trace at a detector.
+-- `chained`, an example of a chain of calls, `kind-table`, the table of kinds line by line, `crossings`, that zeros leave no trace at a detector,
+-- and `clappers`, what a clapper does, with the law of its motion.
 pub mod Computing
 pub mod Played
 pub mod Rehearsals
 pub mod Chained
 pub mod KindTable
 pub mod Crossings
+pub mod Clappers

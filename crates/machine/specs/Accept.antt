@@ -9,7 +9,7 @@ use lib.Dec.{eqb, ltb}
 use Rattle.machine.specs.declared.time.Point.{Point}
 use Rattle.machine.specs.declared.signal.Signal.{Signal}
 use Rattle.machine.specs.declared.part.Kind.{Kind}
-use Rattle.machine.specs.declared.part.Kind.the-variants.{Constant, Gain, Adder, Square, Pulse, Delay, Integrator, ResetIntegrator, Detector, Hold, Sampler, Drive}
+use Rattle.machine.specs.declared.part.Kind.the-variants.{Constant, Gain, Adder, Square, Pulse, Delay, Integrator, ResetIntegrator, Detector, Hold, Sampler, Drive, Clapper}
 use Rattle.machine.specs.declared.part.Part.{Part}
 use Rattle.machine.specs.Lists.{member}
 use Rattle.machine.specs.Time.{tick}
@@ -35,6 +35,7 @@ class Detector = detecting
 class Hold = free
 class Sampler = free
 class Drive = driving
+class Clapper = free
 
 -- the class of a part's kind
 abbrev pub class-of : Part → Class

@@ -1,4 +1,4 @@
--- Document 01, "Kinds of part": the fresh model of a table, at the start point. "The same rules fill the start point."
+-- Document 01, "Kinds of part", with request 2: the fresh model of a table, at the start point. "The same rules fill the start point."
 -- Assumes nothing.
 use mathlib.Core.Bool.{cond}
 use mathlib.Core.List.{List, [], map}
@@ -12,16 +12,18 @@ use Rattle.machine.specs.declared.part.State.{State}
 use Rattle.machine.specs.declared.part.Part.{Part}
 use Rattle.machine.specs.declared.model.Model.{Model}
 use Rattle.machine.specs.Time.{start}
-use Rattle.machine.specs.Kind.{integrates}
+use Rattle.machine.specs.Kind.{integrates, has-mass}
 use Rattle.machine.specs.Table.{Table, component-ratio, part-order}
 use Rattle.machine.specs.Step.{filled, all-settled}
 
--- "a local count, 0 at the start"; "held number, starting at a"; the held signal "at first absent"; "The side is unset until a first value"
+-- "a local count, 0 at the start"; "held number, starting at a"; a "speed (starting at b)"; the held signal "at first absent";
+-- "The side is unset until a first value"
 unfoldable pub first-state : Component → State
 first-state c =
     record {
       local = record { 0 = 0 };
       held = cond (integrates (c .kind)) (c .a) (pos 0);
+      speed = cond (has-mass (c .kind)) (c .b) (pos 0);
       signal = Absent;
       output = Absent;
       side = Unset;

@@ -1,4 +1,4 @@
--- Document 01, "Kinds of part", with request 1: numbers, ports, direct ports, operands; the output of each kind at a point; what sides and marks become.
+-- Document 01, "Kinds of part", with requests 1 and 2: numbers, ports, direct ports, operands; the output of each kind at a point; what sides and marks become.
 -- Document 01's own terms, a mark, a side and a direct port, are explained where they are defined. Assumes nothing.
 use Prim.Native.Nat.{ℕ, zero, suc, _-_, _*_, _/_, _%_}
 use mathlib.Core.Bool.{Bool, true, false, cond, _&&_}
@@ -10,7 +10,7 @@ use Rattle.machine.specs.declared.time.Point.{Point}
 use Rattle.machine.specs.declared.signal.Signal.{Signal}
 use Rattle.machine.specs.declared.signal.Signal.the-variants.{Absent, Value}
 use Rattle.machine.specs.declared.part.Kind.{Kind}
-use Rattle.machine.specs.declared.part.Kind.the-variants.{Constant, Gain, Adder, Square, Pulse, Delay, Integrator, ResetIntegrator, Detector, Hold, Sampler, Drive}
+use Rattle.machine.specs.declared.part.Kind.the-variants.{Constant, Gain, Adder, Square, Pulse, Delay, Integrator, ResetIntegrator, Detector, Hold, Sampler, Drive, Clapper}
 use Rattle.machine.specs.declared.part.Side.{Side}
 use Rattle.machine.specs.declared.part.Side.the-variants.{Unset, Negative, Positive}
 use Rattle.machine.specs.declared.part.Mark.{Mark}
@@ -33,15 +33,16 @@ kind-number Detector = 8
 kind-number Hold = 9
 kind-number Sampler = 10
 kind-number Drive = 11
+kind-number Clapper = 12
 
 -- the kinds in the order of their numbers
 abbrev pub kinds : List Kind
 kinds =
-    Constant ∷ Gain ∷ Adder ∷ Square ∷ Pulse ∷ Delay ∷ Integrator ∷ ResetIntegrator ∷ Detector ∷ Hold ∷ Sampler ∷ Drive ∷ []
+    Constant ∷ Gain ∷ Adder ∷ Square ∷ Pulse ∷ Delay ∷ Integrator ∷ ResetIntegrator ∷ Detector ∷ Hold ∷ Sampler ∷ Drive ∷ Clapper ∷ []
 
 -- there is a kind with this number; another is "unknown"
 unfoldable pub kind-known : ℕ → Bool
-kind-known k = ltb k 12
+kind-known k = ltb k 13
 
 -- the kind with this number
 unfoldable pub kind-of : ℕ → Kind
@@ -61,6 +62,7 @@ ports Detector = 1
 ports Hold = 1
 ports Sampler = 2
 ports Drive = 1
+ports Clapper = 1
 
 -- "One that the output reads within a point is direct": whether port 0 is a direct port
 abbrev pub direct0 : Kind → Bool
@@ -76,6 +78,7 @@ direct0 Detector = false
 direct0 Hold = true
 direct0 Sampler = true
 direct0 Drive = false
+direct0 Clapper = false
 
 -- whether port 1 is
 abbrev pub direct1 : Kind → Bool
@@ -91,8 +94,10 @@ direct1 Detector = false
 direct1 Hold = false
 direct1 Sampler = true
 direct1 Drive = false
+direct1 Clapper = false
 
--- whether a kind's line names the operand a; a drive is "as 6", and names it as an integrator does
+-- whether a kind's line names the operand a; a drive is "as 6", and names it as an integrator does. Request 2: a clapper's position "starting at a", and its
+-- "speed (starting at b)"
 abbrev pub names-a : Kind → Bool
 names-a Constant = true
 names-a Gain = true
@@ -106,6 +111,7 @@ names-a Detector = false
 names-a Hold = false
 names-a Sampler = false
 names-a Drive = true
+names-a Clapper = true
 
 -- whether it names b
 abbrev pub names-b : Kind → Bool
@@ -121,6 +127,7 @@ names-b Detector = false
 names-b Hold = false
 names-b Sampler = false
 names-b Drive = false
+names-b Clapper = true
 
 -- whether it names p
 abbrev pub names-p : Kind → Bool
@@ -136,6 +143,7 @@ names-p Detector = true
 names-p Hold = false
 names-p Sampler = false
 names-p Drive = false
+names-p Clapper = false
 
 -- "p, where named, is 1 to 10^9", and so is a span
 unfoldable pub is-positive : ℕ → Bool
@@ -202,12 +210,14 @@ output-as Detector p now x y before = mark-signal (p .state .mark)
 output-as Hold p now x y before = first-present x (p .state .signal)
 output-as Sampler p now x y before = sampled x y
 output-as Drive p now x y before = Value (p .state .held)
+output-as Clapper p now x y before = Value (p .state .held)
 
 -- the output of a part, by its kind
 unfoldable pub output : Part → Point → (x y before : Signal) → Signal
 output p = output-as (p .component .kind) p
 
--- "On a step, kinds 6, 7, 11 take held := clamp(held + x × d)": the kinds that hold a number, which starts at a
+-- "On a step, kinds 6, 7, 11 take held := clamp(held + x × d)", and request 2's clapper "clamp(position + new speed × d)": the kinds that hold a number,
+-- which starts at a
 abbrev pub integrates : Kind → Bool
 integrates Constant = false
 integrates Gain = false
@@ -221,6 +231,23 @@ integrates Detector = false
 integrates Hold = false
 integrates Sampler = false
 integrates Drive = true
+integrates Clapper = true
+
+-- request 2, "Kind 12 holds a position (starting at a) and a speed (starting at b)": the kinds that hold a speed too
+abbrev pub has-mass : Kind → Bool
+has-mass Constant = false
+has-mass Gain = false
+has-mass Adder = false
+has-mass Square = false
+has-mass Pulse = false
+has-mass Delay = false
+has-mass Integrator = false
+has-mass ResetIntegrator = false
+has-mass Detector = false
+has-mass Hold = false
+has-mass Sampler = false
+has-mass Drive = false
+has-mass Clapper = true
 
 -- a side: "A detector sees its input as negative or not negative", and "Its side then becomes the input's; an absent input keeps it". Request 1: "The trade now
 -- counts zero as the side held before. A detector whose side is unset stays unset at zero." So zero keeps the side too, and not negative is positive

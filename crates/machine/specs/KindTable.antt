@@ -19,7 +19,7 @@ use Rattle.machine.specs.declared.part.State.{State}
 use Rattle.machine.specs.declared.part.Part.{Part}
 use Rattle.machine.specs.Time.{point}
 use Rattle.machine.specs.Signal.{is-value}
-use Rattle.machine.specs.Kind.{output, integrates}
+use Rattle.machine.specs.Kind.{output, integrates, has-mass}
 use Rattle.machine.specs.Step.{moved-held, settled, with-output}
 use Rattle.machine.specs.Fresh.{first-state}
 
@@ -56,6 +56,7 @@ keeping held signal side mark q =
           record {
             local = q .state .local;
             held = held;
+            speed = q .state .speed;
             signal = signal;
             output = q .state .output;
             side = side;
@@ -124,13 +125,13 @@ pub record KindTable : Type 0 where
       (first-state (operated Drive a (pos 0) 0 c) .held ≡ a)
   -- "On a step, kinds 6, 7, 11 take held := clamp(held + x × d)": 5 and −2 for 3 ticks; and clamped
   pub moving :
-      (k : Kind) (s : Signal) (q : Part) → integrates k ≡ true →
+      (k : Kind) (s : Signal) (q : Part) → integrates k ≡ true → has-mass k ≡ false →
       (moved-held (keeping (pos 5) s Unset Clear (of-kind k (pos 0) (pos 0) 0 q)) (Value (negsuc 1)) 3 ≡ negsuc 0) ×
       (moved-held (keeping (pos 5) s Unset Clear (of-kind k (pos 0) (pos 0) 0 q)) (Value (pos 1)) 1_000_000_000 ≡ pos 1_000_000_000)
   -- "Absent counts as 0 only where an integrator or drive integrates it": the held number stays; and so it does of a kind that integrates nothing
   pub resting :
       (k : Kind) (held : ℤ) (s x : Signal) (d : ℕ) (q : Part) → is-value held ≡ true →
-      (moved-held (keeping held s Unset Clear (of-kind k (pos 0) (pos 0) 0 q)) Absent d ≡ held) ×
+      (has-mass k ≡ false → moved-held (keeping held s Unset Clear (of-kind k (pos 0) (pos 0) 0 q)) Absent d ≡ held) ×
       (integrates k ≡ false → moved-held (keeping held s Unset Clear (of-kind k (pos 0) (pos 0) 0 q)) x d ≡ held)
   -- 7 reset integrator: "port 1 if present (direct), else the held number"
   pub reset :

@@ -20,3 +20,4 @@ pub mod Played
 pub mod Rehearsals
 pub mod KindTable
 pub mod Crossings
+pub mod Clappers

@@ -36,7 +36,7 @@ blank-component =
     record { kind = Constant; preference = 0; a = pos 0; b = pos 0; p = 0; «span_count» = 0; spans = []; port0 = Unwired; port1 = Unwired }
 
 abbrev pub blank-state : State
-blank-state = record { local = record { 0 = 0 }; held = pos 0; signal = Absent; output = Absent; side = Unset; mark = Clear }
+blank-state = record { local = record { 0 = 0 }; held = pos 0; speed = pos 0; signal = Absent; output = Absent; side = Unset; mark = Clear }
 
 abbrev pub blank-part : Part
 blank-part = record { component = blank-component; ratio = 0; state = blank-state }

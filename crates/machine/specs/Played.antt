@@ -127,6 +127,7 @@ constant-at t =
           record {
             local = record { 0 = t };
             held = pos 0;
+            speed = pos 0;
             signal = Absent;
             output = Value (pos 1);
             side = Unset;

@@ -1,10 +1,12 @@
--- Document 01, "The table's bytes": when a model is sound, and refused with 24 otherwise. Asked of a trimmed model.
+-- Document 01, "The table's bytes", with request 2: when a model is sound, and refused with 24 otherwise. Asked of a trimmed model.
 -- Assumes nothing.
 use Prim.Native.Nat.{ℕ}
 use mathlib.Core.Bool.{Bool, true, cond, _&&_}
 use mathlib.Core.List.{List, [], _∷_, map}
 use lib.ListN.{length}
 use lib.Dec.{eqb, leb, ltb}
+use lib.IntN.{ℤ}
+use Rattle.machine.specs.declared.part.Kind.{Kind}
 use Rattle.machine.specs.declared.part.Source.{Source}
 use Rattle.machine.specs.declared.part.Source.the-variants.{Unwired, From}
 use Rattle.machine.specs.declared.part.Component.{Component}
@@ -13,7 +15,7 @@ use Rattle.machine.specs.declared.model.Model.{Model}
 use Rattle.machine.specs.Lists.{every, same}
 use Rattle.machine.specs.Time.{tick, in-time, magnitude-known, local-count}
 use Rattle.machine.specs.Signal.{is-value, is-signal}
-use Rattle.machine.specs.Kind.{ports, operands-fit}
+use Rattle.machine.specs.Kind.{ports, is-zero, operands-fit, has-mass}
 use Rattle.machine.specs.Model.{most-parts, most-spans}
 use Rattle.machine.specs.Table.{Table, table-of, ratios, periods-fit, part-order, ordered}
 use Rattle.machine.specs.Load.{preference-known, is-drive}
@@ -49,11 +51,15 @@ table-fits t =
     periods-fit t &&
     ordered (t .parts)
 
+-- request 2: "the speed as second held number: in a sound model a value, and 0 for other kinds"
+unfoldable pub speed-fits : Kind → ℤ → Bool
+speed-fits k v = cond (has-mass k) (is-value v) (is-zero v)
+
 -- "each local count floor(t / r); every held number a value; every held signal and output a value or absent". Sides and marks can be no others
 unfoldable pub state-fits : ℕ → Part → Bool
 state-fits t p =
-    eqb (p .state .local .0) (local-count t (p .ratio) .0) && is-value (p .state .held) && is-signal (p .state .signal) &&
-    is-signal (p .state .output)
+    eqb (p .state .local .0) (local-count t (p .ratio) .0) && is-value (p .state .held) && speed-fits (p .component .kind) (p .state .speed) &&
+    is-signal (p .state .signal) && is-signal (p .state .output)
 
 -- "Sound means: a table that loading accepts, with the ratios and part order that it gives; t and n in range"; and as many parts as the model says
 unfoldable pub sound : Model → Bool

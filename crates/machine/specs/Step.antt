@@ -1,4 +1,4 @@
--- Document 01, "Kinds of part" and "One advance": a step made. No part is asked, and there is no trial, round or ceiling: this file imports
+-- Document 01, "Kinds of part" and "One advance", with request 2: a step made. No part is asked, and there is no trial, round or ceiling: this file imports
 -- nothing of acceptance or advancing. Assumes nothing.
 use Prim.Native.Nat.{ℕ, _+_}
 use mathlib.Core.Bool.{cond}
@@ -7,31 +7,41 @@ use lib.ListN.{set}
 use lib.IntN.{ℤ}
 use Rattle.machine.specs.declared.time.Point.{Point}
 use Rattle.machine.specs.declared.signal.Signal.{Signal}
+use Rattle.machine.specs.declared.signal.Signal.the-variants.{Value}
 use Rattle.machine.specs.declared.part.Kind.{Kind}
-use Rattle.machine.specs.declared.part.Kind.the-variants.{Constant, Gain, Adder, Square, Pulse, Delay, Integrator, ResetIntegrator, Detector, Hold, Sampler, Drive}
+use Rattle.machine.specs.declared.part.Kind.the-variants.{Constant, Gain, Adder, Square, Pulse, Delay, Integrator, ResetIntegrator, Detector, Hold, Sampler, Drive, Clapper}
 use Rattle.machine.specs.declared.part.State.{State}
 use Rattle.machine.specs.declared.part.Part.{Part}
 use Rattle.machine.specs.declared.model.Model.{Model}
 use Rattle.machine.specs.Time.{tick, led-to, gained}
 use Rattle.machine.specs.Signal.{integrated, integral}
-use Rattle.machine.specs.Kind.{output, integrates, side-after, mark-after}
+use Rattle.machine.specs.Kind.{output, integrates, has-mass, side-after, mark-after}
 use Rattle.machine.specs.Model.{part-at, with-state, with-parts, reading0, reading1}
 
 -- "each part's d is taken at the old point": the local ticks that a step of h from tick t adds
 unfoldable pub gain-of : ℕ → ℕ → Part → ℕ
 gain-of t h p = gained t (p .ratio) (p .state .local) h .0
 
--- "Held numbers move as their kinds say, by d and port 0 at the old point", which reads x
-unfoldable pub moved-held : Part → Signal → ℕ → ℤ
-moved-held p x d = cond (integrates (p .component .kind)) (integral (p .state .held) x d) (p .state .held)
+-- request 2, "speed becomes clamp(speed + x × d) .. Here x is port 0 at the old point, and absent counts as 0"; of the other kinds it stays
+unfoldable pub moved-speed : Part → Signal → ℕ → ℤ
+moved-speed p x d = cond (has-mass (p .component .kind)) (integral (p .state .speed) x d) (p .state .speed)
 
--- the part with its d "added to its local count", and its held number moved
+-- what a held number integrates: x, but of a clapper the "new speed"
+unfoldable pub rate : Part → Signal → ℕ → Signal
+rate p x d = cond (has-mass (p .component .kind)) (Value (moved-speed p x d)) x
+
+-- "Held numbers move as their kinds say, by d and port 0 at the old point", which reads x; "and then position becomes clamp(position + new speed × d)"
+unfoldable pub moved-held : Part → Signal → ℕ → ℤ
+moved-held p x d = cond (integrates (p .component .kind)) (integral (p .state .held) (rate p x d) d) (p .state .held)
+
+-- the part with its d "added to its local count", and its held number and speed moved
 unfoldable pub moved : ℕ → ℕ → Signal → Part → Part
 moved t h x p =
     with-state p
     (record {
       local = record { 0 = p .state .local .0 + gain-of t h p };
       held = moved-held p x (gain-of t h p);
+      speed = moved-speed p x (gain-of t h p);
       signal = p .state .signal;
       output = p .state .output;
       side = p .state .side;
@@ -45,6 +55,7 @@ with-output p out =
     (record {
       local = p .state .local;
       held = p .state .held;
+      speed = p .state .speed;
       signal = p .state .signal;
       output = out;
       side = p .state .side;
@@ -70,20 +81,22 @@ settled-as Pulse x s = s
 settled-as Delay x s = s
 settled-as Integrator x s = s
 settled-as ResetIntegrator x s =
-    record { local = s .local; held = integrated (s .output); signal = s .signal; output = s .output; side = s .side; mark = s .mark }
+    record { local = s .local; held = integrated (s .output); speed = s .speed; signal = s .signal; output = s .output; side = s .side; mark = s .mark }
 settled-as Detector x s =
     record {
       local = s .local;
       held = s .held;
+      speed = s .speed;
       signal = s .signal;
       output = s .output;
       side = side-after (s .side) x;
       mark = mark-after (s .side) x;
     }
 settled-as Hold x s =
-    record { local = s .local; held = s .held; signal = s .output; output = s .output; side = s .side; mark = s .mark }
+    record { local = s .local; held = s .held; speed = s .speed; signal = s .output; output = s .output; side = s .side; mark = s .mark }
 settled-as Sampler x s = s
 settled-as Drive x s = s
+settled-as Clapper x s = s
 
 -- a part settled so, by its kind
 unfoldable pub settled : Signal → Part → Part

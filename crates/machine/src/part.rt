@@ -20,6 +20,7 @@ pub enum Kind {
     Hold,
     Sampler,
     Drive,
+    Clapper,
 }
 
 // What a port is wired to: nothing, or the output of the part with this number.
@@ -57,11 +58,12 @@ pub struct Component {
     pub port1: Source,
 }
 
-// What a step changes of a part: its local count, held number, held signal and stored output, and a
-// detector's side and mark.
+// What a step changes of a part: its local count, held number, speed, held signal and stored output,
+// and a detector's side and mark. The speed is request 2's second held number, 0 but for a clapper.
 pub struct State {
     pub local: LocalTicks,
     pub held: i64,
+    pub speed: i64,
     pub signal: Signal,
     pub output: Signal,
     pub side: Side,

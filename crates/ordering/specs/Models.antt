@@ -9,7 +9,7 @@ use lib.ListN.{length, length-map}
 use Rattle.machine.specs.declared.time.Point.{Point}
 use Rattle.machine.specs.declared.signal.Signal.{Signal}
 use Rattle.machine.specs.declared.part.Kind.{Kind}
-use Rattle.machine.specs.declared.part.Kind.the-variants.{Constant, Gain, Adder, Square, Pulse, Delay, Integrator, ResetIntegrator, Detector, Hold, Sampler, Drive}
+use Rattle.machine.specs.declared.part.Kind.the-variants.{Constant, Gain, Adder, Square, Pulse, Delay, Integrator, ResetIntegrator, Detector, Hold, Sampler, Drive, Clapper}
 use Rattle.machine.specs.declared.part.State.{State}
 use Rattle.machine.specs.declared.part.Part.{Part}
 use Rattle.machine.specs.declared.model.Model.{Model}
@@ -38,6 +38,7 @@ settled-as-output Detector x s = refl
 settled-as-output Hold x s = refl
 settled-as-output Sampler x s = refl
 settled-as-output Drive x s = refl
+settled-as-output Clapper x s = refl
 
 -- so settling changes no part's stored output
 stored-settled : (qs : List Part) (i : ℕ) → stored (all-settled qs) i ≡ stored qs i

@@ -12,7 +12,7 @@ use Rattle.machine.specs.declared.time.Point.{Point}
 use Rattle.machine.specs.declared.signal.Signal.{Signal}
 use Rattle.machine.specs.declared.signal.Signal.the-variants.{Absent}
 use Rattle.machine.specs.declared.part.Kind.{Kind}
-use Rattle.machine.specs.declared.part.Kind.the-variants.{Constant, Gain, Adder, Square, Pulse, Delay, Integrator, ResetIntegrator, Detector, Hold, Sampler, Drive}
+use Rattle.machine.specs.declared.part.Kind.the-variants.{Constant, Gain, Adder, Square, Pulse, Delay, Integrator, ResetIntegrator, Detector, Hold, Sampler, Drive, Clapper}
 use Rattle.machine.specs.declared.part.Source.{Source}
 use Rattle.machine.specs.declared.part.Source.the-variants.{Unwired, From}
 use Rattle.machine.specs.declared.part.Component.{Component}
@@ -39,6 +39,7 @@ output-as-direct Detector p now x x′ y y′ before ex ey = refl
 output-as-direct Hold p now x x′ y y′ before ex ey = rw (ex refl)
 output-as-direct Sampler p now x x′ y y′ before ex ey = ap₂ sampled (ex refl) (ey refl)
 output-as-direct Drive p now x x′ y y′ before ex ey = refl
+output-as-direct Clapper p now x x′ y y′ before ex ey = refl
 
 -- so a part's output depends on the reading of a port only where that port is direct
 pub output-direct : (p : Part) (now : Point) (x x′ y y′ before : Signal) →
@@ -66,6 +67,7 @@ output-as-unshown Detector p now x y before = refl
 output-as-unshown Hold p now x y before = refl
 output-as-unshown Sampler p now x y before = refl
 output-as-unshown Drive p now x y before = refl
+output-as-unshown Clapper p now x y before = refl
 
 -- the row of a part's kind, at the point now, for the stored outputs of qs: the part's output; the parts `old` stand at the point before
 abbrev pub row : List Part → Point → List Part → Part → Signal

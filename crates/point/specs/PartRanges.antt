@@ -7,10 +7,11 @@ use Rattle.machine.specs.Time.{last-tick, local-count}
 use Rattle.machine.specs.Signal.{is-value}
 use Rattle.machine.specs.Kind as Kind
 
--- the operand a and the held number are values, and P is at most 10^18
+-- the operand a, the held number and the speed are values, and P is at most 10^18
 pub record PartFits (p : Part) : Type 0 where
   pub a : is-value (p .component .a) ≡ true
   pub held : is-value (p .state .held) ≡ true
+  pub speed : is-value (p .state .speed) ≡ true
   pub period : Kind.period p ≤ last-tick
 
 -- a step of h from tick t ends by the last tick, and the part's local count is no more than it is to become

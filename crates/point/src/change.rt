@@ -1,10 +1,11 @@
-// What a step changes of a part: its local count and held number as the step is made, its stored
-// output, and what it takes once the outputs are there.
+// What a step changes of a part: its local count, speed and held number as the step is made, its
+// stored output, and what it takes once the outputs are there.
 //
 // Its contracts cite `machine`'s `specs/Kind.antt` and `specs/Step.antt`, and this crate's
 // `specs/States.antt`.
 use crate::arithmetic::integral_of;
 use crate::arithmetic::integrated_of;
+use kinds::kind::has_mass;
 use kinds::kind::holds_number;
 use machine::part::Kind;
 use machine::part::Mark;
@@ -18,7 +19,7 @@ ghost use mathlib.Core.Path.{_≡_};
 ghost use mathlib.Core.Bool.{cond, true};
 ghost use Prim.Native.Nat.{_-_, _≤_};
 ghost use Rattle.machine.specs.Signal.{integral, is-signal, is-value};
-ghost use Rattle.machine.specs.Kind.{integrates, mark-between, side-after};
+ghost use Rattle.machine.specs.Kind.{mark-between, side-after};
 ghost use Rattle.machine.specs.Model.{with-state};
 ghost use Rattle.machine.specs.Step.{gain-of, moved, settled, settled-as, with-output};
 ghost use Rattle.point.specs.States.{with-held, with-mark, with-signal};
@@ -78,6 +79,7 @@ fn with_signal(s: State, signal: Signal) -> State
     State {
         local,
         held: s.held,
+        speed: s.speed,
         signal,
         output,
         side,
@@ -95,6 +97,7 @@ fn with_mark(s: State, side: Side, mark: Mark) -> State
     State {
         local,
         held: s.held,
+        speed: s.speed,
         signal,
         output,
         side,
@@ -122,6 +125,7 @@ pub fn with_output(p: Part, out: Signal) -> Part
     let next = State {
         local,
         held: old.held,
+        speed: old.speed,
         signal,
         output: out,
         side,
@@ -139,20 +143,30 @@ pub fn gain_of(p: Part, end: LocalTicks) -> LocalTicks
     LocalTicks(end.0 - s.local.0)
 }
 
-// A held number once a part of the kind has moved by `d` local ticks; `x` is the reading of port 0.
-fn held_after(kind: Kind, held: i64, x: Signal, d: LocalTicks) -> i64
-    requires { ⌜ is-value held ≡ true ⌝ }
+// A held number or a speed after `d` local ticks: moved by `x` where it moves.
+fn number_after(moves: bool, v: i64, x: Signal, d: LocalTicks) -> i64
+    requires { ⌜ is-value v ≡ true ⌝ }
     requires { ⌜ is-signal x ≡ true ⌝ }
     requires { ⌜ d .0 ≤ 1_000_000_000 ⌝ }
-    ensures { λ r. ⌜ r ≡ cond (integrates kind) (integral held x (d .0)) held ⌝ }
+    ensures { λ r. ⌜ r ≡ cond moves (integral v x (d .0)) v ⌝ }
 {
-    if holds_number(kind) {
-        return integral_of(held, x, d);
+    if moves {
+        return integral_of(v, x, d);
     }
-    held
+    v
 }
 
-// The part moved by a step of `h` from the tick `t`: its local count and its held number.
+// What a held number integrates: the new speed of a part with mass, the reading `x` of port 0 of another.
+fn rate_of(mass: bool, speed: i64, x: Signal) -> Signal
+    ensures { λ r. ⌜ r ≡ cond mass (Signal.Value speed) x ⌝ }
+{
+    if mass {
+        return Signal::Value(speed);
+    }
+    x
+}
+
+// The part moved by a step of `h` from the tick `t`: its local count, its speed and its held number.
 pub fn moved_part(p: Part, t: Ticks, h: Ticks, x: Signal) -> Part
     requires { ⌜ PartFits p ⌝ }
     requires { ⌜ StepFits (t .0) (h .0) p ⌝ }
@@ -165,10 +179,13 @@ pub fn moved_part(p: Part, t: Ticks, h: Ticks, x: Signal) -> Part
     let c = p.component;
     let kind = c.kind;
     let mut s = p.state;
-    let held = held_after(kind, s.held, x, d);
+    let mass = has_mass(kind);
+    let speed = number_after(mass, s.speed, x, d);
+    let held = number_after(holds_number(kind), s.held, rate_of(mass, speed, x), d);
     let count = s.local.0 + d.0;
     s.local.0 = count;
     s.held = held;
+    s.speed = speed;
     with_state(p, s)
 }
 

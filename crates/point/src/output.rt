@@ -89,5 +89,6 @@ pub fn output_of(p: Part, now: Point, x: Signal, y: Signal, before: Signal) -> S
         Kind::Hold => first_present_of(x, signal),
         Kind::Sampler => sampled_of(x, y),
         Kind::Drive => Signal::Value(held),
+        Kind::Clapper => Signal::Value(held),
     }
 }

@@ -9,7 +9,7 @@ use Rattle.machine.specs.declared.time.LocalTicks.{LocalTicks}
 use Rattle.machine.specs.declared.time.Point.{Point}
 use Rattle.machine.specs.declared.signal.Signal.{Signal}
 use Rattle.machine.specs.declared.part.Kind.{Kind}
-use Rattle.machine.specs.declared.part.Kind.the-variants.{Constant, Gain, Adder, Square, Pulse, Delay, Integrator, ResetIntegrator, Detector, Hold, Sampler, Drive}
+use Rattle.machine.specs.declared.part.Kind.the-variants.{Constant, Gain, Adder, Square, Pulse, Delay, Integrator, ResetIntegrator, Detector, Hold, Sampler, Drive, Clapper}
 use Rattle.machine.specs.declared.part.Component.{Component}
 use Rattle.machine.specs.declared.part.Part.{Part}
 use Rattle.machine.specs.Lists.{All}
@@ -55,6 +55,7 @@ settled-core Detector x p = refl
 settled-core Hold x p = refl
 settled-core Sampler x p = refl
 settled-core Drive x p = refl
+settled-core Clapper x p = refl
 
 -- the parts shown at a point and settled
 abbrev pub finished : List Part → Point → List ℕ → List Part → List Part
@@ -83,7 +84,7 @@ Counted t c = c .local .0 ≡ local-count t (c .ratio) .0
 states-fit : (t : ℕ) (ps : List Part) → All InRange ps → All (λ p. Counted t (core p)) ps → All (StateFits t) ps
 states-fit t [] r c = tt
 states-fit t (p ∷ ps) r c =
-    (record { local = c .0; held = r .0 .held; signal = r .0 .signal; output = r .0 .output }, states-fit t ps (r .1) (c .1))
+    (record { local = c .0; held = r .0 .held; speed = r .0 .speed; signal = r .0 .signal; output = r .0 .output }, states-fit t ps (r .1) (c .1))
 
 -- so the states of parts shown and settled fit where the parts and those of the point before are in range and the local counts are floor(t / r)
 pub finished-states :

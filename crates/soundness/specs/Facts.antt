@@ -16,15 +16,15 @@ use Rattle.machine.specs.declared.model.Model.{Model}
 use Rattle.machine.specs.Lists.{All}
 use Rattle.machine.specs.Time.{magnitude-known, in-time, tick, local-count}
 use Rattle.machine.specs.Signal.{is-value, is-signal}
-use Rattle.machine.specs.Kind.{ports, names-a, names-b, names-p, is-positive, is-zero, operands-fit}
+use Rattle.machine.specs.Kind.{ports, names-a, names-b, names-p, is-positive, is-zero, operands-fit, has-mass}
 use Rattle.machine.specs.Model.{most-parts, most-spans}
 use Rattle.machine.specs.Table.{Table, table-of, ratios, periods-fit, part-order, ordered}
 use Rattle.machine.specs.Load.{preference-known, is-drive}
-use Rattle.machine.specs.Sound.{source-fits, spans-rise, spans-fit, component-fits, table-fits, state-fits, sound}
+use Rattle.machine.specs.Sound.{source-fits, spans-rise, spans-fit, component-fits, table-fits, speed-fits, state-fits, sound}
 use Rattle.laws.specs.Alls.{every-all, all-every}
 use Rattle.laws.specs.ListLaws.{same-equal, equal-same}
 
--- an operand that is a value where it is named and 0 where it is not is a value
+-- a number that is a value where it is named and 0 where it is not is a value
 operand-value : (named : Bool) (v : ℤ) → cond named (is-value v) (is-zero v) ≡ true → is-value v ≡ true
 unfolding is-value
 operand-value true v h = h
@@ -38,7 +38,12 @@ operand-values k a b p h =
     let f = simp and-eq-true-iff at h in
     (operand-value (names-a k) a (f .0 .0), operand-value (names-b k) b (f .0 .1))
 
--- and p is at most 10^9
+-- and so is a speed that fits
+pub speed-value : (k : Kind) (v : ℤ) → speed-fits k v ≡ true → is-value v ≡ true
+unfolding speed-fits
+speed-value k v h = operand-value (has-mass k) v h
+
+-- p is at most 10^9
 pub operand-small : (k : Kind) (a b : ℤ) (p : ℕ) → operands-fit k a b p ≡ true → p ≤ 1_000_000_000
 unfolding operands-fit is-positive
 operand-small k a b p h =
@@ -121,6 +126,7 @@ table-test t f =
 pub record StateFits (t : ℕ) (p : Part) : Type 0 where
   pub local : p .state .local .0 ≡ local-count t (p .ratio) .0
   pub held : is-value (p .state .held) ≡ true
+  pub speed : speed-fits (p .component .kind) (p .state .speed) ≡ true
   pub signal : is-signal (p .state .signal) ≡ true
   pub output : is-signal (p .state .output) ≡ true
 
@@ -129,10 +135,11 @@ state-facts : (t : ℕ) (p : Part) → state-fits t p ≡ true → StateFits t p
 unfolding state-fits
 state-facts t p h =
     let k = simp and-eq-true-iff at h in
-    let (((local, held), signal), output) = k in
+    let ((((local, held), speed), signal), output) = k in
     record {
       local = eqb-true (p .state .local .0) (local-count t (p .ratio) .0) local;
       held = held;
+      speed = speed;
       signal = signal;
       output = output;
     }
@@ -142,7 +149,7 @@ state-test : (t : ℕ) (p : Part) → StateFits t p → state-fits t p ≡ true
 unfolding state-fits
 state-test t p f =
     simp and-eq-true-iff
-    (((eq-eqb (p .state .local .0) (local-count t (p .ratio) .0) (f .local), f .held), f .signal), f .output)
+    ((((eq-eqb (p .state .local .0) (local-count t (p .ratio) .0) (f .local), f .held), f .speed), f .signal), f .output)
 
 -- what holds of a sound model
 pub record Soundness (m : Model) : Type 0 where

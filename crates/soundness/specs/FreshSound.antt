@@ -12,11 +12,11 @@ use Rattle.machine.specs.declared.part.Part.{Part}
 use Rattle.machine.specs.Lists.{All}
 use Rattle.machine.specs.Time.{in-time, local-count, start}
 use Rattle.machine.specs.Signal.{is-value, is-signal}
-use Rattle.machine.specs.Kind.{integrates}
+use Rattle.machine.specs.Kind.{integrates, has-mass}
 use Rattle.machine.specs.Model.{blank-part, part-at}
 use Rattle.machine.specs.Table.{Table, table-of, component-ratio, ratios, part-order}
 use Rattle.machine.specs.Fresh.{first-state, first-part, first-parts, fresh}
-use Rattle.machine.specs.Sound.{table-fits, sound}
+use Rattle.machine.specs.Sound.{table-fits, speed-fits, sound}
 use Rattle.laws.specs.Alls.{all-default, all-map, all-same-map}
 use Rattle.laws.specs.Bools.{cond-cases}
 use Rattle.soundness.specs.Facts.{operand-values, ComponentFits, table-facts, sound-test}
@@ -25,13 +25,14 @@ use Rattle.soundness.specs.CoreKept.{core, Core, Counted, finished-core,
 
 -- the first part of a component that fits is in range
 pub first-in-range : (t : Table) (n : ℕ) (c : Component) → ComponentFits n c → InRange (first-part t c)
-unfolding first-part first-state is-value is-signal
+unfolding first-part first-state is-value is-signal speed-fits
 first-in-range t n c f =
     let (a, b) = operand-values (c .kind) (c .a) (c .b) (c .p) (f .operands) in
     record {
       a = a;
       b = b;
       held = cond-cases (λ (v : ℤ). is-value v ≡ true) (integrates (c .kind)) (c .a) (pos 0) (λ e. a) (λ e. refl);
+      speed = cond-cases (λ (v : ℤ). speed-fits (c .kind) v ≡ true) (has-mass (c .kind)) (c .b) (pos 0) (λ e. rw e b) (λ e. rw e refl);
       signal = refl;
       output = refl;
     }

@@ -37,7 +37,7 @@ word-octets v = (omega arith, (omega arith, (omega arith, (omega arith, tt))))
 -- the number of a kind
 kind-octet : (k : Kind) → Octet (kind-number k)
 unfolding kind-known
-kind-octet k = omega (arith, ltb-true (kind-number k) 12 (kind-back k .0))
+kind-octet k = omega (arith, ltb-true (kind-number k) 13 (kind-back k .0))
 
 -- a magnitude, and a preference
 magnitude-octet : (e : ℕ) → magnitude-known e ≡ true → Octet e

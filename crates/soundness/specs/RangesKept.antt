@@ -1,19 +1,17 @@
 -- Moving, showing and settling keep numbers and signals in range: whatever is stored is an operand, a clamped number, or was in range before.
 -- Assumes nothing.
-use Prim.Native.Nat.{ℕ, suc, _%_, min}
-use native.Mathlib.Omega.{arith}
+use Prim.Native.Nat.{ℕ, _%_}
 use mathlib.Core.Path.{_≡_, refl}
-use mathlib.Core.Bool.{true, _&&_}
+use mathlib.Core.Bool.{true, cond, _&&_}
 use mathlib.Core.List.{List, [], _∷_}
-use lib.IntN.{ℤ, pos, negsuc, _+ℤ_, _*ℤ_}
+use lib.IntN.{ℤ, _+ℤ_, _*ℤ_}
 use lib.ListN.{set}
 use lib.Dec.{eqb, ltb}
-use borrow.Author.Tests.{le-leb}
 use Rattle.machine.specs.declared.time.Point.{Point}
 use Rattle.machine.specs.declared.signal.Signal.{Signal}
 use Rattle.machine.specs.declared.signal.Signal.the-variants.{Absent, Value}
 use Rattle.machine.specs.declared.part.Kind.{Kind}
-use Rattle.machine.specs.declared.part.Kind.the-variants.{Constant, Gain, Adder, Square, Pulse, Delay, Integrator, ResetIntegrator, Detector, Hold, Sampler, Drive}
+use Rattle.machine.specs.declared.part.Kind.the-variants.{Constant, Gain, Adder, Square, Pulse, Delay, Integrator, ResetIntegrator, Detector, Hold, Sampler, Drive, Clapper}
 use Rattle.machine.specs.declared.part.Mark.{Mark}
 use Rattle.machine.specs.declared.part.Mark.the-variants.{Clear, Rising, Falling}
 use Rattle.machine.specs.declared.part.Source.{Source}
@@ -21,18 +19,14 @@ use Rattle.machine.specs.declared.part.Source.the-variants.{Unwired, From}
 use Rattle.machine.specs.declared.part.Part.{Part}
 use Rattle.machine.specs.Lists.{All}
 use Rattle.machine.specs.Time.{tick}
-use Rattle.machine.specs.Signal.{largest-value, is-value, clamp, is-signal, integrated, product, total, first-present, sampled, integral}
-use Rattle.machine.specs.Kind.{period, positive-multiple, half-waves, square, pulse, mark-signal, output-as, output, integrates}
+use Rattle.machine.specs.Signal.{is-value, is-signal, integrated, product, total, first-present, sampled, integral}
+use Rattle.machine.specs.Kind.{period, positive-multiple, half-waves, square, pulse, mark-signal, output-as, output, integrates, has-mass}
 use Rattle.machine.specs.Model.{blank-part, part-at, with-state, reading, reading0, reading1}
-use Rattle.machine.specs.Step.{gain-of, moved-held, moved, shown, filled, settled-as, settled, all-moved, all-settled}
+use Rattle.machine.specs.Step.{gain-of, moved-speed, rate, moved-held, moved, shown, filled, settled-as, settled, all-moved, all-settled}
+use Rattle.machine.specs.Sound.{speed-fits}
 use Rattle.laws.specs.Alls.{all-default, all-set, all-map}
 use Rattle.laws.specs.Bools.{cond-cases}
-
--- clamping gives a value
-clamp-value : (z : ℤ) → is-value (clamp z) ≡ true
-unfolding clamp is-value
-clamp-value (pos n) = le-leb (min n 1_000_000_000) largest-value (omega arith)
-clamp-value (negsuc n) = le-leb (suc (min n 999_999_999)) largest-value (omega arith)
+use Rattle.laws.specs.Signed.{clamp-value, integral-value}
 
 -- a product is a signal
 product-signal : (a : ℤ) (x : Signal) → is-signal (product a x) ≡ true
@@ -77,13 +71,14 @@ pub record InRange (p : Part) : Type 0 where
   pub a : is-value (p .component .a) ≡ true
   pub b : is-value (p .component .b) ≡ true
   pub held : is-value (p .state .held) ≡ true
+  pub speed : speed-fits (p .component .kind) (p .state .speed) ≡ true
   pub signal : is-signal (p .state .signal) ≡ true
   pub output : is-signal (p .state .output) ≡ true
 
 -- what stands where a list has no such part is in range
 blank-in-range : InRange blank-part
-unfolding is-value is-signal
-blank-in-range = record { a = refl; b = refl; held = refl; signal = refl; output = refl }
+unfolding is-value is-signal speed-fits
+blank-in-range = record { a = refl; b = refl; held = refl; speed = refl; signal = refl; output = refl }
 
 -- a port reads a signal
 pub reading-signal : (ps : List Part) (s : Source) → All InRange ps → is-signal (reading ps s) ≡ true
@@ -112,6 +107,7 @@ output-as-signal Detector p now x y before h hx hy hb = mark-is-signal (p .state
 output-as-signal Hold p now x y before h hx hy hb = first-present-signal x (p .state .signal) hx (h .signal)
 output-as-signal Sampler p now x y before h hx hy hb = sampled-signal x y hx
 output-as-signal Drive p now x y before h hx hy hb = h .held
+output-as-signal Clapper p now x y before h hx hy hb = h .held
 
 -- where the parts at the point before are in range:
 module _ (old : List Part) (now : Point) (before : All InRange old) where
@@ -123,6 +119,7 @@ module _ (old : List Part) (now : Point) (before : All InRange old) where
         a = h .a;
         b = h .b;
         held = h .held;
+        speed = h .speed;
         signal = h .signal;
         output =
             output-as-signal (p .component .kind) p now (reading0 ps p) (reading1 ps p) (reading0 old p) h
@@ -150,11 +147,12 @@ settled-in-range Pulse x p h = h
 settled-in-range Delay x p h = h
 settled-in-range Integrator x p h = h
 settled-in-range ResetIntegrator x p h =
-    record { a = h .a; b = h .b; held = integrated-value (p .state .output) (h .output); signal = h .signal; output = h .output }
-settled-in-range Detector x p h = record { a = h .a; b = h .b; held = h .held; signal = h .signal; output = h .output }
-settled-in-range Hold x p h = record { a = h .a; b = h .b; held = h .held; signal = h .output; output = h .output }
+    record { a = h .a; b = h .b; held = integrated-value (p .state .output) (h .output); speed = h .speed; signal = h .signal; output = h .output }
+settled-in-range Detector x p h = record { a = h .a; b = h .b; held = h .held; speed = h .speed; signal = h .signal; output = h .output }
+settled-in-range Hold x p h = record { a = h .a; b = h .b; held = h .held; speed = h .speed; signal = h .output; output = h .output }
 settled-in-range Sampler x p h = h
 settled-in-range Drive x p h = h
+settled-in-range Clapper x p h = h
 
 -- settling all parts keeps them in range
 pub all-settled-in-range : (ps : List Part) → All InRange ps → All InRange (all-settled ps)
@@ -162,9 +160,14 @@ unfolding all-settled settled
 all-settled-in-range ps h =
     all-map (λ (p : Part). settled (reading0 ps p) p) InRange InRange ps (λ p. settled-in-range (p .component .kind) (reading0 ps p) p) h
 
+-- a speed that is a value where the kind has mass, and stays where it has none, fits
+speed-moved : (k : Kind) (v w : ℤ) → is-value v ≡ true → speed-fits k w ≡ true → speed-fits k (cond (has-mass k) v w) ≡ true
+unfolding speed-fits
+speed-moved k v w value fits = cond-cases (λ (z : ℤ). speed-fits k z ≡ true) (has-mass k) v w (λ e. rw e value) (λ e. fits)
+
 -- moving all parts keeps them in range
 pub all-moved-in-range : (t h : ℕ) (ps : List Part) → All InRange ps → All InRange (all-moved t h ps)
-unfolding all-moved moved moved-held integral
+unfolding all-moved moved moved-held moved-speed
 all-moved-in-range t h ps r =
     all-map (λ (p : Part). moved t h (reading0 ps p) p) InRange InRange ps
     (λ p q.
@@ -173,8 +176,11 @@ all-moved-in-range t h ps r =
       b = q .b;
       held =
           cond-cases (λ (v : ℤ). is-value v ≡ true) (integrates (p .component .kind))
-          (integral (p .state .held) (reading0 ps p) (gain-of t h p)) (p .state .held)
-          (λ e. clamp-value (p .state .held +ℤ (integrated (reading0 ps p) *ℤ pos (gain-of t h p)))) (λ e. q .held);
+          (integral (p .state .held) (rate p (reading0 ps p) (gain-of t h p)) (gain-of t h p)) (p .state .held)
+          (λ e. integral-value (p .state .held) (rate p (reading0 ps p) (gain-of t h p)) (gain-of t h p)) (λ e. q .held);
+      speed =
+          speed-moved (p .component .kind) (integral (p .state .speed) (reading0 ps p) (gain-of t h p)) (p .state .speed)
+          (integral-value (p .state .speed) (reading0 ps p) (gain-of t h p)) (q .speed);
       signal = q .signal;
       output = q .output;
     })

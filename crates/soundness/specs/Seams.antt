@@ -11,7 +11,7 @@ use lib.Seq.{getD-drop, drop-drop}
 use lib.IntN.{ℤ, pos, negsuc}
 use borrow.Author.Tests.{leb-true, lt-ltb, le-leb, le-ltb}
 use Rattle.machine.specs.declared.part.Kind.{Kind}
-use Rattle.machine.specs.declared.part.Kind.the-variants.{Constant, Gain, Adder, Square, Pulse, Delay, Integrator, ResetIntegrator, Detector, Hold, Sampler, Drive}
+use Rattle.machine.specs.declared.part.Kind.the-variants.{Constant, Gain, Adder, Square, Pulse, Delay, Integrator, ResetIntegrator, Detector, Hold, Sampler, Drive, Clapper}
 use Rattle.machine.specs.declared.model.Loaded.{Loaded}
 use Rattle.machine.specs.Signal.{is-value, largest-value}
 use Rattle.machine.specs.Kind.{kind-number, kind-known, kind-of}
@@ -34,6 +34,7 @@ kind-back Detector = (refl, refl)
 kind-back Hold = (refl, refl)
 kind-back Sampler = (refl, refl)
 kind-back Drive = (refl, refl)
+kind-back Clapper = (refl, refl)
 
 -- a signed word is the number that it was written for
 pub operand-back : (z : ℤ) → is-value z ≡ true → (signed-operand z < 4294967296) × (signed (signed-operand z) ≡ z)

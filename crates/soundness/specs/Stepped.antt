@@ -50,7 +50,7 @@ fitting-in-range n t (p ∷ ps) cs ss =
     let c = p .component in
     let s = ss .0 in
     let (a, b) = operand-values (c .kind) (c .a) (c .b) (c .p) (cs .0 .operands) in
-    (record { a = a; b = b; held = s .held; signal = s .signal; output = s .output }, fitting-in-range n t ps (cs .1) (ss .1))
+    (record { a = a; b = b; held = s .held; speed = s .speed; signal = s .signal; output = s .output }, fitting-in-range n t ps (cs .1) (ss .1))
 
 -- so are those of a sound model
 pub in-range : (m : Model) → sound m ≡ true → All InRange (m .parts)

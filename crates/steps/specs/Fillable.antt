@@ -55,8 +55,8 @@ pub changed-wired :
     map (λ (p : Part). p .component) qs ≡ map (λ (p : Part). p .component) (trimmed m .parts) → Wired (trimmed m) → Wired (trimmed r)
 changed-wired m qs r c kept wired = subst Wired (sym (c .is)) (kept-wired (trimmed m) (m .point) qs kept wired)
 
--- where a part of 144 bytes stands in the array is a number of 64 bits
-pub place-fits : (i : ℕ) → i < most-parts → Fits w64 (i * 144)
+-- where a part of 152 bytes stands in the array is a number of 64 bits
+pub place-fits : (i : ℕ) → i < most-parts → Fits w64 (i * 152)
 place-fits i below = omega arith
 
 -- what a wired model, once trimmed, says of the places in use of the model itself

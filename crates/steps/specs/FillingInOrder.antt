@@ -9,7 +9,7 @@ use lib.Seq.{take-suc}
 use Rattle.machine.specs.declared.time.Point.{Point}
 use Rattle.machine.specs.declared.signal.Signal.{Signal}
 use Rattle.machine.specs.declared.part.Kind.{Kind}
-use Rattle.machine.specs.declared.part.Kind.the-variants.{Constant, Gain, Adder, Square, Pulse, Delay, Integrator, ResetIntegrator, Detector, Hold, Sampler, Drive}
+use Rattle.machine.specs.declared.part.Kind.the-variants.{Constant, Gain, Adder, Square, Pulse, Delay, Integrator, ResetIntegrator, Detector, Hold, Sampler, Drive, Clapper}
 use Rattle.machine.specs.declared.part.Part.{Part}
 use Rattle.machine.specs.declared.model.Model.{Model}
 use Rattle.machine.specs.Kind.{output-as, output}
@@ -36,6 +36,7 @@ output-as-trimmed Detector p now x y before = refl
 output-as-trimmed Hold p now x y before = refl
 output-as-trimmed Sampler p now x y before = refl
 output-as-trimmed Drive p now x y before = refl
+output-as-trimmed Clapper p now x y before = refl
 
 -- filling the output of the next number in the order; the parts `old` stand at the point before
 pub filled-next :

@@ -10,11 +10,11 @@ use Rattle.machine.specs.Time.{last-tick, tick, local-count, gained}
 use Rattle.machine.specs.Signal.{is-signal}
 use Rattle.machine.specs.Kind.{period}
 use Rattle.machine.specs.Model.{blank-part, part-at, reading0, trimmed-part, trimmed-component}
-use Rattle.machine.specs.Step.{gain-of, moved, moved-held}
+use Rattle.machine.specs.Step.{gain-of, moved, moved-held, moved-speed, rate}
 use Rattle.machine.specs.Sound.{sound}
 use Rattle.laws.specs.Numbers.{div-grows, div-more}
 use Rattle.laws.specs.ListLaws.{all-at}
-use Rattle.soundness.specs.Facts.{StateFits, sound-facts}
+use Rattle.soundness.specs.Facts.{speed-value, StateFits, sound-facts}
 use Rattle.soundness.specs.RangesKept.{InRange, reading-signal}
 use Rattle.soundness.specs.Stepped.{in-range}
 use Rattle.point.specs.PartRanges as point
@@ -23,7 +23,7 @@ use Rattle.steps.specs.WiredParts.{sound-periods}
 
 -- moving keeps components and stored outputs, and reads nothing that trimming cuts away
 pub moving : (t h : ℕ) → InPlace (moved t h)
-unfolding trimmed-part trimmed-component moved moved-held gain-of gained
+unfolding trimmed-part trimmed-component moved moved-held moved-speed rate gain-of gained
 moving t h = record { component = λ x p. refl; output = λ x p. refl; unread = λ x p. refl }
 
 -- what moving a part asks
@@ -37,7 +37,7 @@ pub movable-untrimmed : (t h : ℕ) (p : Part) → Movable t h (trimmed-part p) 
 unfolding trimmed-part trimmed-component gain-of
 movable-untrimmed t h p m =
     record {
-      ranges = record { a = m .ranges .a; held = m .ranges .held; period = m .ranges .period };
+      ranges = record { a = m .ranges .a; held = m .ranges .held; speed = m .ranges .speed; period = m .ranges .period };
       fits = record { time = m .fits .time; local = m .fits .local };
       gain = m .gain;
     }
@@ -58,7 +58,7 @@ module _ (m : Model) (is-sound : sound m ≡ true) where
       let grows = div-grows (p .ratio) t (t + h) (omega arith) in
       let gains = div-more (p .ratio) t h in
       record {
-        ranges = record { a = range .a; held = range .held; period = most };
+        ranges = record { a = range .a; held = range .held; speed = speed-value _ _ (range .speed); period = most };
         fits = record { time = far; local = rw local grows };
         gain = rw local (omega arith);
       }

@@ -3,7 +3,7 @@ use mathlib.Core.Path.{_≡_, refl, ap}
 use mathlib.Core.Bool.{Bool, true, false, true≢false}
 use Rattle.machine.specs.declared.signal.Signal.{Signal}
 use Rattle.machine.specs.declared.part.Kind.{Kind}
-use Rattle.machine.specs.declared.part.Kind.the-variants.{Constant, Gain, Adder, Square, Pulse, Delay, Integrator, ResetIntegrator, Detector, Hold, Sampler, Drive}
+use Rattle.machine.specs.declared.part.Kind.the-variants.{Constant, Gain, Adder, Square, Pulse, Delay, Integrator, ResetIntegrator, Detector, Hold, Sampler, Drive, Clapper}
 use Rattle.machine.specs.declared.part.State.{State}
 use Rattle.machine.specs.declared.part.Part.{Part}
 use Rattle.machine.specs.Model.{trimmed-part, trimmed-component, with-state}
@@ -35,6 +35,7 @@ settles Detector = true
 settles Hold = true
 settles Sampler = false
 settles Drive = false
+settles Clapper = false
 
 -- a part of another kind stays as it was
 settled-as-same : (k : Kind) (x : Signal) (s : State) → settles k ≡ false → settled-as k x s ≡ s
@@ -51,6 +52,7 @@ settled-as-same Detector x s e = absurd (true≢false e)
 settled-as-same Hold x s e = absurd (true≢false e)
 settled-as-same Sampler x s e = refl
 settled-as-same Drive x s e = refl
+settled-as-same Clapper x s e = refl
 
 pub settled-same : (x : Signal) (p : Part) → settles (p .component .kind) ≡ false → settled x p ≡ p
 unfolding settled

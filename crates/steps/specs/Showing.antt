@@ -19,6 +19,7 @@ use Rattle.machine.specs.Model.{most-parts, blank-part, part-at, with-parts, re
 use Rattle.machine.specs.Step.{with-output, shown, filled}
 use Rattle.laws.specs.Alls.{all-same-map}
 use Rattle.laws.specs.ListLaws.{all-at}
+use Rattle.soundness.specs.Facts.{speed-value}
 use Rattle.soundness.specs.RangesKept.{InRange, reading-signal, filled-in-range}
 use Rattle.soundness.specs.CoreKept.{filled-kept}
 use Rattle.point.specs.PartRanges as point
@@ -105,7 +106,7 @@ module _
         number = place-in-use next half-wired k number-below;
         source0 = source-place next half-wired k number-below;
         source1 = source-place1 next half-wired k number-below;
-        ranges = record { a = range .a; held = range .held; period = most };
+        ranges = record { a = range .a; held = range .held; speed = speed-value _ _ (range .speed); period = most };
         signal0 = port-signal (part-at (next .parts) k .component .port0) (wired .port0);
         signal1 = port-signal (part-at (next .parts) k .component .port1) (wired .port1);
       }

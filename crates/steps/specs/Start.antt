@@ -8,7 +8,7 @@ use lib.Dec.{leb}
 use borrow.Author.Tests.{leb-true}
 use Rattle.machine.specs.declared.signal.Signal.{Signal}
 use Rattle.machine.specs.declared.part.Kind.{Kind}
-use Rattle.machine.specs.declared.part.Kind.the-variants.{Constant, Gain, Adder, Square, Pulse, Delay, Integrator, ResetIntegrator, Detector, Hold, Sampler, Drive}
+use Rattle.machine.specs.declared.part.Kind.the-variants.{Constant, Gain, Adder, Square, Pulse, Delay, Integrator, ResetIntegrator, Detector, Hold, Sampler, Drive, Clapper}
 use Rattle.machine.specs.declared.part.Component.{Component}
 use Rattle.machine.specs.declared.part.Part.{Part}
 use Rattle.machine.specs.declared.model.Model.{Model}
@@ -85,6 +85,7 @@ output-at-start Detector p x y before before′ = refl
 output-at-start Hold p x y before before′ = refl
 output-at-start Sampler p x y before before′ = refl
 output-at-start Drive p x y before before′ = refl
+output-at-start Clapper p x y before before′ = refl
 
 -- so filling it does not depend on the parts of the point before
 filled-at-start : (old old′ : List Part) (ks : List ℕ) (ps : List Part) → filled old start ks ps ≡ filled old′ start ks ps

@@ -32,6 +32,7 @@ fn settles(k: Kind) -> bool
         Kind::Hold => true,
         Kind::Sampler => false,
         Kind::Drive => false,
+        Kind::Clapper => false,
     }
 }
 

@@ -77,6 +77,7 @@ fn print_kind(k: Kind) {
         Kind::Hold => print(b" hold"),
         Kind::Sampler => print(b" sampler"),
         Kind::Drive => print(b" drive"),
+        Kind::Clapper => print(b" clapper"),
     }
 }
 
@@ -144,6 +145,7 @@ fn print_state(s: State) {
     let mark = s.mark;
     print_number(b", local ", s.local.0);
     print_value(b", held ", s.held);
+    print_value(b", speed ", s.speed);
     print_signal(b", signal ", signal);
     print_signal(b", output ", output);
     print_side(side);

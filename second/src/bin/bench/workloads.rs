@@ -11,6 +11,7 @@ pub fn all() -> Vec<(String, Vec<u8>)> {
     let mut all = vec![
         ("two".to_string(), stream(&two(), 1, 20)),
         ("mixed".to_string(), stream(&mixed(32), 1, 60)),
+        ("clappers".to_string(), stream(&clappers(), 1, 60)),
         ("drives".to_string(), stream(&drives(), 1, 200)),
         ("revisions".to_string(), stream(&revisions(), 500, 5000)),
     ];
@@ -87,6 +88,61 @@ fn mixed(parts: usize) -> Draft {
     }
     draft.rows.truncate(parts);
     draft.wires.retain(|wire| wire.0 < parts && wire.1 < parts);
+    draft
+}
+
+/// The wires within a half of `clappers`.
+const CLAPPERS_WIRES: [(usize, usize, u8); 15] = [
+    (0, 1, 0),
+    (2, 3, 0),
+    (3, 4, 0),
+    (15, 5, 0),
+    (10, 7, 0),
+    (14, 8, 0),
+    (8, 9, 0),
+    (3, 9, 1),
+    (6, 10, 0),
+    (2, 11, 0),
+    (9, 12, 0),
+    (1, 12, 1),
+    (3, 13, 0),
+    (5, 14, 0),
+    (3, 15, 0),
+];
+
+/// As `mixed`, with clappers in place of its integrators, reset integrators, samplers and holds, of ratios 1 and 100.
+/// None comes to an end of the values; the one that the detector reads goes through zero and back with the square.
+fn clappers() -> Draft {
+    let mut draft = Draft { magnitude: 2, ..Draft::default() };
+    for half in 0..2 {
+        let p = |p: u32| p + 37 * half;
+        let first = draft.rows.len();
+        // After so many of ratio 100 the square switches. The gain has then taken a speed of 5 × ticks (500 × ticks at
+        // ratio 1) to its opposite.
+        let ticks = 1 + half as i32;
+        draft.add(CONSTANT, 3, 0, 0);
+        draft.add(CLAPPER, -40, 0, 0);
+        draft.add(SQUARE, 5, -5, ticks as u32);
+        draft.add(GAIN, -2, 0, 0);
+        draft.add(CLAPPER, 7, [5, 1000][half as usize], 0);
+        draft.add(DETECTOR, 0, 0, p(20));
+        draft.add(PULSE, 9, 0, p(70));
+        draft.add(CLAPPER, 0, -2, 0);
+        draft.add(CLAPPER, 0, 0, 0);
+        draft.add(ADDER, 0, 0, 0);
+        draft.add(DELAY, 0, 0, 0);
+        draft.add_drive(0, vec![1, 2, 3, 4, 6]);
+        draft.add(ADDER, 0, 0, 0);
+        draft.add(CLAPPER, 0, 500 * ticks, 0);
+        draft.add(GAIN, 3, 0, 0);
+        draft.add(CLAPPER, 3, 5 * ticks, 0);
+        for (number, preference) in [(1, 0), (2, 0), (4, 2 * half as u8), (7, 0), (11, 1), (15, 0)] {
+            draft.rows[first + number].preference = preference;
+        }
+        for (source, reader, port) in CLAPPERS_WIRES {
+            draft.wire(first + source, first + reader, port);
+        }
+    }
     draft
 }
 

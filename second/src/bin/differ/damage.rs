@@ -50,8 +50,8 @@ pub fn damaged(draft: &Draft, random: &mut Random) -> Vec<u8> {
 fn any_byte(random: &mut Random) -> u8 {
     match random.below(3) {
         0 => random.byte(),
-        1 => random.pick(&[0, 1, 2, 3, 4, 5, 6, 7, 8, 9, 10, 11, 12, 15, 16, 31, 32, 33, 0x7F, 0x80, 0xFE, 0xFF]),
-        _ => random.below(13) as u8,
+        1 => random.pick(&[0, 1, 2, 3, 4, 5, 6, 7, 8, 9, 10, 11, 12, 13, 15, 16, 31, 32, 33, 0x7F, 0x80, 0xFE, 0xFF]),
+        _ => random.below(14) as u8,
     }
 }
 
@@ -67,7 +67,7 @@ fn edge(random: &mut Random) -> i64 {
 }
 
 fn any_row(random: &mut Random) -> Row {
-    let kind = random.pick(&[0, 1, 2, 3, 4, 5, 6, 7, 8, 9, 10, 11, 11, 11, 11, 12, 255]);
+    let kind = random.pick(&[0, 1, 2, 3, 4, 5, 6, 7, 8, 9, 10, 11, 11, 11, 11, 12, 13, 255]);
     let mut operands = good_operands(kind);
     if random.once_in(2) {
         operands[random.below(3)] = edge(random);
@@ -250,7 +250,7 @@ fn period_at_its_limit(random: &mut Random) -> Commands {
 fn ring(random: &mut Random) -> Commands {
     let mut draft = Draft::default();
     let length = 1 + random.below(6);
-    let kinds = [GAIN, ADDER, HOLD, SAMPLER, RESET, INTEGRATOR, DELAY, DETECTOR, DRIVE];
+    let kinds = [GAIN, ADDER, HOLD, SAMPLER, RESET, INTEGRATOR, DELAY, DETECTOR, DRIVE, CLAPPER];
     let breakable = random.once_in(2);
     for _ in 0..length {
         let kind = kinds[random.below(if breakable { kinds.len() } else { 5 })];

@@ -14,12 +14,13 @@ pub const DETECTOR: u8 = 8;
 pub const HOLD: u8 = 9;
 pub const SAMPLER: u8 = 10;
 pub const DRIVE: u8 = 11;
-pub const KINDS: usize = 12;
+pub const CLAPPER: u8 = 12;
+pub const KINDS: usize = 13;
 
 pub const NO_PREFERENCE: u8 = 0xFF;
 
 /// Ports of each kind.
-pub const PORTS: [u8; KINDS] = [0, 1, 2, 0, 0, 1, 1, 2, 1, 1, 2, 1];
+pub const PORTS: [u8; KINDS] = [0, 1, 2, 0, 0, 1, 1, 2, 1, 1, 2, 1, 1];
 
 /// Whether a kind's output reads a port within a point.
 pub fn is_direct(kind: u8, port: u8) -> bool {

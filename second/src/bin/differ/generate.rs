@@ -1,5 +1,8 @@
 //! Random cases with a purpose: tables in which something happens, and scores that let it happen.
 
+#[path = "generate/with_mass.rs"]
+mod with_mass;
+
 use crate::damage;
 use crate::draft::*;
 use crate::random::Random;
@@ -174,6 +177,7 @@ fn any_part(draft: &mut Draft, kind: u8, scale: Scale, random: &mut Random) -> u
     match kind {
         CONSTANT | GAIN | INTEGRATOR | RESET => draft.add(kind, a, 0, 0),
         SQUARE => draft.add(kind, a, b, p),
+        CLAPPER => draft.add(kind, a, b, 0),
         PULSE => draft.add(kind, a, 0, p),
         DETECTOR => draft.add(kind, 0, 0, p),
         DRIVE => {
@@ -197,7 +201,7 @@ fn source(draft: &mut Draft, scale: Scale, random: &mut Random) -> usize {
 /// Parts that integrate a source from the other side of 0.
 fn integrator(draft: &mut Draft, scale: Scale, random: &mut Random) -> usize {
     let from = source(draft, scale, random);
-    let kind = random.pick(&[INTEGRATOR, INTEGRATOR, RESET, DRIVE]);
+    let kind = random.pick(&[INTEGRATOR, INTEGRATOR, RESET, DRIVE, CLAPPER]);
     let number = any_part(draft, kind, scale, random);
     if random.once_in(2) {
         let rate = draft.rows[from].a;
@@ -213,7 +217,7 @@ fn group(draft: &mut Draft, scale: Scale, random: &mut Random) {
     if draft.is_full(8) {
         return;
     }
-    match random.below(10) {
+    match random.below(12) {
         0..=2 => watched(draft, scale, random),
         3 => sampled(draft, scale, random),
         4 => delayed(draft, scale, random),
@@ -221,6 +225,7 @@ fn group(draft: &mut Draft, scale: Scale, random: &mut Random) {
         6 => switched(draft, scale, random),
         7 => seen_at_times(draft, scale, random),
         8 => at_zero(draft, random),
+        9 | 10 => with_mass::clapping(draft, scale, random),
         _ => drives(draft, scale, random),
     }
 }
@@ -396,7 +401,7 @@ fn crossing(draft: &mut Draft, random: &mut Random) {
     let constant = draft.add(CONSTANT, rate, 0, 0);
     let furthest = random.pick(&[1, 3, 1000]);
     let ticks = random.of_any_size(furthest) as i32;
-    let level = draft.add_reading(constant, random.pick(&[INTEGRATOR, RESET]), -rate * ticks, 0);
+    let level = draft.add_reading(constant, random.pick(&[INTEGRATOR, RESET, CLAPPER]), -rate * ticks, 0);
     let detector = draft.add_reading(level, DETECTOR, 0, random.between(1, 3) as u32);
     if draft.rows[level].kind == RESET {
         let far = -rate * random.between(0, 50) as i32;

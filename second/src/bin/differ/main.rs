@@ -5,6 +5,7 @@
 //! Case NUMBER of seed S is the same everywhere; --unnamed 1 leaves the named and the swept ones out. What differs is
 //! printed with its seed, number and bytes. The status is 0 only if nothing differs and the cases reached all they should.
 
+mod clappers;
 mod damage;
 mod draft;
 mod generate;

@@ -1,6 +1,8 @@
 //! Cases with answers worked out by hand: the played examples of the document, and the readings that miss. For these
 //! the answer of the wrong reading is written down too, so that the case is seen to tell the two apart.
 
+mod clappers;
+
 use crate::draft::*;
 
 pub struct Named {
@@ -67,6 +69,7 @@ fn case(name: &'static str, stream: Vec<u8>, expected: &str, wrong_reading: Opti
 pub fn named() -> Vec<Named> {
     let mut all = readings_that_miss();
     all.extend(zeros_that_mark());
+    all.extend(clappers::clappers());
     all.extend(played_examples());
     all.push(restless());
     all.push(case("played: the empty stream", Vec::new(), "refused 1 at 0\n", None));

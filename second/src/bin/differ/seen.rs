@@ -1,5 +1,6 @@
 //! What the cases reached.
 
+use crate::clappers::Clappers;
 use crate::draft::KINDS;
 use crate::zeros::Zeros;
 use second::load;
@@ -23,6 +24,7 @@ pub struct Seen {
     /// Steps of 0 and longer ones.
     steps: [u64; 2],
     zeros: Zeros,
+    clappers: Clappers,
 }
 
 impl Seen {
@@ -35,6 +37,7 @@ impl Seen {
                 self.accepted += 1;
                 count_kinds(&mut self.accepted_kinds, &stream[..accepted.end]);
                 self.zeros.count(&accepted.model, &output);
+                self.clappers.count(&accepted.model, &output);
                 true
             }
             Err(refusal) => {
@@ -67,6 +70,7 @@ impl Seen {
         add_each(&mut self.refused_kinds, &other.refused_kinds);
         add_each(&mut self.steps, &other.steps);
         self.zeros.add(&other.zeros);
+        self.clappers.add(&other.clappers);
         self.most_rounds = self.most_rounds.max(other.most_rounds);
         self.most_revisions = self.most_revisions.max(other.most_revisions);
     }
@@ -93,6 +97,11 @@ impl Seen {
         for (name, count) in self.zeros.named() {
             must(count > 0, format!("{name}, at a detector"));
         }
+        for (name, count) in self.clappers.named() {
+            must(count > 0, format!("a clapper's {name}"));
+        }
+        let astray = self.clappers.astray();
+        must(astray == 0, format!("only positions of clappers that the lines before lead to ({astray} are others)"));
         must(
             self.most_revisions == 29,
             format!("29 revisions, and no more (at most {} were made)", self.most_revisions),
@@ -107,9 +116,10 @@ impl Seen {
             reached.map(|(number, count)| format!(" {number}:{count}")).collect()
         };
         let zeros: Vec<String> = self.zeros.named().map(|(name, count)| format!("{name} {count}")).collect();
+        let clappers: Vec<String> = self.clappers.named().map(|(name, count)| format!("{name} {count}")).collect();
         format!(
             "{} tables accepted, {} refused; {} lines; refusals{}; in scores{}; kinds accepted{}; kinds refused{}; \
-             steps of 0 {}, longer {}; at most {} rounds and {} revisions; at detectors {}",
+             steps of 0 {}, longer {}; at most {} rounds and {} revisions; at detectors {}; of clappers {}",
             self.accepted,
             self.cases - self.accepted,
             self.lines,
@@ -122,6 +132,7 @@ impl Seen {
             self.most_rounds,
             self.most_revisions,
             zeros.join(", "),
+            clappers.join(", "),
         )
     }
 }

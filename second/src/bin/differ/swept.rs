@@ -10,6 +10,7 @@ pub fn good_operands(kind: u8) -> [i64; 3] {
     match kind {
         CONSTANT | GAIN | INTEGRATOR | RESET | DRIVE => [2, 0, 0],
         SQUARE => [2, 3, 4],
+        CLAPPER => [2, 3, 0],
         PULSE => [2, 0, 4],
         DETECTOR => [0, 0, 4],
         _ => [0; 3],

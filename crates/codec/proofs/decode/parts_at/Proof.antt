@@ -11,9 +11,9 @@ use borrow.Author.Needs.{needs}
 use Rattle.codec.proofs.decode.parts_at.Statement.{statement}
 use Rattle.codec.proofs.decode.parts_at.Tie as tie
 
--- part j, one of 25 words each behind the first 36
+-- part j, one of 26 words each behind the first 36
 abbrev part : List ℕ → ℕ → Part
-part bytes j = part-of bytes (36 + 25 * j)
+part bytes j = part-of bytes (36 + 26 * j)
 
 abbrev Inv-loop : tie.InvT-loop
 Inv-loop bytes parts₀ i₀ parts i = Filled (part bytes) 32 i parts

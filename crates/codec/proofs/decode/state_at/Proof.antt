@@ -15,6 +15,12 @@ add-signed-at c = search needs
 signed-at-requires : tie.Need-signed-at-requires
 signed-at-requires c κs = search needs
 
+add-signed-at-2 : tie.Need-add-signed-at-2
+add-signed-at-2 c = search needs
+
+signed-at-requires-2 : tie.Need-signed-at-requires-2
+signed-at-requires-2 c κs = search needs
+
 add-signal-at : tie.Need-add-signal-at
 add-signal-at c = search needs
 
@@ -53,15 +59,18 @@ returns c =
     let side-word = side .before in
     let output = side-word .before in
     let signal = output .before in
-    let held = signal .before in
+    let speed = signal .before in
+    let held = speed .before in
     rw (
       toZ-ofZ w64 (held .signed-at .result) (record { sfits = held .signed-at .ok }),
+      toZ-ofZ w64 (speed .signed-at2 .result) (record { sfits = speed .signed-at2 .ok }),
       c .mark-coded .ensures,
       mark-word .word3 .ensures,
       side .side-coded .ensures,
       side-word .word2 .ensures,
       output .signal-at2 .ensures,
       signal .signal-at .ensures,
+      speed .signed-at2 .ensures,
       held .signed-at .ensures,
       held .before .word .ensures,
     )
@@ -73,6 +82,8 @@ state-at-spec =
     word-requires
     add-signed-at
     signed-at-requires
+    add-signed-at-2
+    signed-at-requires-2
     add-signal-at
     signal-at-requires
     add-signal-at-2

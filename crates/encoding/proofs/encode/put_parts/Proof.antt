@@ -22,7 +22,7 @@ abbrev Fits : List Part → ℕ → Type 0
 Fits parts k = SizedPart (part-at parts k)
 
 abbrev Inv-loop : tie.InvT-loop
-Inv-loop out₀ at parts next₀ i₀ out next i = PutFirst (words parts) (Fits parts) 25 32 i at out₀ out next
+Inv-loop out₀ at parts next₀ i₀ out next i = PutFirst (words parts) (Fits parts) 26 32 i at out₀ out next
 
 abbrev μ-loop : tie.MeasureT-loop
 μ-loop out₀ at parts next₀ i₀ out next i = 32 - i
@@ -51,7 +51,7 @@ loop-again c =
     let put = c .before .before in
     let turn = put .before .before .before .before in
     let start = turn .before .before in
-    put-more (words (start .args .t3)) (Fits (start .args .t3)) 25 32 (turn .loop .i) (turn .loop .inv) (omega arith) (put .put-part .ensures .0)
+    put-more (words (start .args .t3)) (Fits (start .args .t3)) 26 32 (turn .loop .i) (turn .loop .inv) (omega arith) (put .put-part .ensures .0)
     (omega arith) (put .put-part .ensures .1)
 
 same-length : tie.Need-same-length Inv-loop μ-loop
@@ -63,7 +63,7 @@ returns c =
     let turn = c .before in
     let start = turn .before .before in
     let parts = start .args .t3 in
-    let (put, each) = put-all (words parts) (Fits parts) 25 32 (turn .loop .i) (turn .loop .inv) (omega arith) in
+    let (put, each) = put-all (words parts) (Fits parts) 26 32 (turn .loop .i) (turn .loop .inv) (omega arith) in
     let places = start .good .1 .1 .0 .1 .0 .1 in
     (put, record { places = places; each = each })
 

@@ -1,4 +1,4 @@
--- `state_fits` makes the definition's four tests in its order; where one fails, the definition is false whatever the others say.
+-- `state_fits` makes the definition's five tests in its order; where one fails, the definition is false whatever the others say.
 use native.Mathlib.Omega.{arith}
 use mathlib.Core.Path.{_≡_, sym}
 use mathlib.Core.Bool.{true, _&&_}
@@ -10,6 +10,7 @@ use borrow.Author.Needs.{needs}
 use borrow.Author.Tests.{eq-eqb, ne-eqb, not-true, not-false}
 use Rattle.machine.specs.declared.part.State.{State}
 use Rattle.machine.specs.Signal.{is-signal, is-value}
+use Rattle.machine.specs.Sound.{speed-fits}
 use Rattle.machine.specs.Time.{local-count}
 use Rattle.inspection.specs.Parts.{state-holds}
 use Rattle.inspection.proofs.parts.state_fits.Statement.{statement}
@@ -37,14 +38,32 @@ count-holds : (c : tie.Else1) →
     eqb (args .state .local .0) (local-count (args .t .0) (args .ratio) .0) ≡ true
 count-holds c = rw (← c .before .before .before .local2 .ensures) (eq-eqb _ _ (c .if1 .left))
 
--- where the held number is too, the definition is the last two tests
-signals-left : (c : tie.Else2) →
+-- where the held number is too, the definition is the last three tests
+rest-left : (c : tie.Else2) →
     let args = start-of (counted-of (c .before)) .args in
-    state-holds (args .t .0) (args .ratio) (args .state) ≡ (is-signal (args .state .signal) && is-signal (args .state .output))
+    let s = args .state in
+    state-holds (args .t .0) (args .ratio) (args .kind) s ≡ (speed-fits (args .kind) (s .speed) && is-signal (s .signal) && is-signal (s .output))
 unfolding state-holds
-signals-left c =
+rest-left c =
     let value = c .before in
     simp (count-holds (counted-of value), held value, not-false (value .is-value .result) (c .if2 .left))
+
+-- what `speed_fits` answered of its speed, likewise
+speed : (c : tie.After-speed-fits) →
+    let args = start-of (counted-of (c .before .before .before)) .args in
+    speed-fits (args .kind) (args .state .speed) ≡ c .speed-fits .result
+speed c =
+    let args = start-of (counted-of (c .before .before .before)) .args in
+    let fits : SFits w64 (args .state .speed) = record { sfits = omega arith } in
+    sym (simp (toZ-ofZ w64 (args .state .speed) fits) at (c .speed-fits .ensures))
+
+-- where the speed is as it must be, the last two tests are left
+signals-left : (c : tie.Else3) →
+    let args = start-of (counted-of (c .before .before .before .before)) .args in
+    state-holds (args .t .0) (args .ratio) (args .kind) (args .state) ≡ (is-signal (args .state .signal) && is-signal (args .state .output))
+signals-left c =
+    let fits = c .before in
+    simp (rest-left (fits .before .before), speed fits, not-false (fits .speed-fits .result) (c .if3 .left))
 
 local-requires : tie.Need-local-requires
 local-requires c κs = search needs
@@ -62,28 +81,46 @@ returns-2 c =
     let value = c .before in
     simp (count-holds (counted-of value), held value, not-true (value .is-value .result) (c .if2 .taken))
 
-is-signal-requires : tie.Need-is-signal-requires
-is-signal-requires c κs = search needs
+speed-fits-requires : tie.Need-speed-fits-requires
+speed-fits-requires c κs = search needs
 
 returns-3 : tie.Need-returns-3
 returns-3 c =
+    let fits = c .before in
+    simp (rest-left (fits .before .before), speed fits, not-true (fits .speed-fits .result) (c .if3 .taken))
+
+is-signal-requires : tie.Need-is-signal-requires
+is-signal-requires c κs = search needs
+
+returns-4 : tie.Need-returns-4
+returns-4 c =
     let signal = c .before in
-    simp (signals-left (signal .before), sym (signal .is-signal .ensures), not-true (signal .is-signal .result) (c .if3 .taken))
+    simp (signals-left (signal .before), sym (signal .is-signal .ensures), not-true (signal .is-signal .result) (c .if4 .taken))
 
 is-signal-requires-2 : tie.Need-is-signal-requires-2
 is-signal-requires-2 c κs = search needs
 
-returns-4 : tie.Need-returns-4
-returns-4 c =
+returns-5 : tie.Need-returns-5
+returns-5 c =
     let signal = c .before .before in
     simp (
       signals-left (signal .before),
       sym (signal .is-signal .ensures),
-      not-false (signal .is-signal .result) (c .before .if3 .left),
+      not-false (signal .is-signal .result) (c .before .if4 .left),
       sym (c .is-signal2 .ensures),
     )
 
 pub state-fits-spec : {M : Type 1} → statement M
 state-fits-spec =
     tie.close
-    (tie.spec local-requires returns is-value-requires returns-2 is-signal-requires returns-3 is-signal-requires-2 returns-4)
+    (tie.spec
+    local-requires
+    returns
+    is-value-requires
+    returns-2
+    speed-fits-requires
+    returns-3
+    is-signal-requires
+    returns-4
+    is-signal-requires-2
+    returns-5)

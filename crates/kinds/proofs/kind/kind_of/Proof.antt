@@ -20,7 +20,7 @@ array-copy-out-kind c = search needs
 
 returns-2 : tie.Need-returns-2
 unfolding kind-known kind-of
-returns-2 c = record { number = rw (lt-ltb (c .before .before .args .number) 12 (omega arith)); kind = refl }
+returns-2 c = record { number = rw (lt-ltb (c .before .before .args .number) 13 (omega arith)); kind = refl }
 
 pub kind-of-spec : {M : Type 1} → statement M
 kind-of-spec = tie.close (tie.spec returns array-copy-out-kind returns-2)

@@ -1,4 +1,4 @@
--- `first_part` is the definition: the ratio, and the state at the start with its held number.
+-- `first_part` is the definition: the ratio, and the state at the start with its held number and speed.
 use native.Mathlib.Omega.{arith}
 use mir.Syntax.{w64}
 use mir.Val.{SFits}
@@ -12,20 +12,39 @@ use Rattle.loading.proofs.first.first_part.Tie as tie
 ratio-of-requires : tie.Need-ratio-of-requires
 ratio-of-requires c κs = search needs
 
-first-held-requires : tie.Need-first-held-requires
-first-held-requires c κs = search needs
+holds-number-requires : tie.Need-holds-number-requires
+holds-number-requires c κs = search needs
+
+first-number-requires : tie.Need-first-number-requires
+first-number-requires c κs = search needs
+
+has-mass-requires : tie.Need-has-mass-requires
+has-mass-requires c κs = search needs
+
+first-number-requires-2 : tie.Need-first-number-requires-2
+first-number-requires-2 c κs = search needs
 
 returns : tie.Need-returns
 unfolding first-by first-state
 returns c =
-    let start = c .before .before .before in
-    let fits : SFits w64 (start .args .c .a) = record { sfits = omega arith } in
+    let held = c .before .before .before in
+    let holds = held .before .before in
+    let start = holds .before .before in
+    let a-fits : SFits w64 (start .args .c .a) = record { sfits = omega arith } in
+    let b-fits : SFits w64 (start .args .c .b) = record { sfits = omega arith } in
     rw (
-      toZ-ofZ w64 (c .first-held .result) (record { sfits = c .first-held .ok }),
-      c .first-held .ensures,
-      toZ-ofZ w64 (start .args .c .a) fits,
-      c .before .before .ratio-of .ensures,
+      toZ-ofZ w64 (held .first-number .result) (record { sfits = held .first-number .ok }),
+      toZ-ofZ w64 (c .first-number2 .result) (record { sfits = c .first-number2 .ok }),
+      c .first-number2 .ensures,
+      c .before .before .has-mass .ensures,
+      toZ-ofZ w64 (start .args .c .b) b-fits,
+      held .first-number .ensures,
+      holds .holds-number .ensures,
+      toZ-ofZ w64 (start .args .c .a) a-fits,
+      holds .before .ratio-of .ensures,
     )
 
 pub first-part-spec : {M : Type 1} → statement M
-first-part-spec = tie.close (tie.spec ratio-of-requires first-held-requires returns)
+first-part-spec =
+    tie.close
+    (tie.spec ratio-of-requires holds-number-requires first-number-requires has-mass-requires first-number-requires-2 returns)

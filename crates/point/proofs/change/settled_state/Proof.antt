@@ -19,7 +19,7 @@ use Rattle.point.proofs.change.settled_state.Tie as tie
 
 -- the numbers of the kinds that keep their state
 abbrev keeping : List ℕ
-keeping = 0 ∷ 1 ∷ 2 ∷ 3 ∷ 4 ∷ 5 ∷ 6 ∷ 10 ∷ 11 ∷ []
+keeping = 0 ∷ 1 ∷ 2 ∷ 3 ∷ 4 ∷ 5 ∷ 6 ∷ 10 ∷ 11 ∷ 12 ∷ []
 
 -- such a kind keeps its state
 kept : (k : Kind) (x : Signal) (s : State) → OneOf keeping (tagOf tags.the-type k) → s ≡ settled-as k x s

@@ -14,6 +14,7 @@ returns c =
     rw (
       c .with-state .ensures,
       toZ-ofZ w64 (start .args .p .state .held) (record { sfits = c .before .struct-told .given .1 .0 .1 }),
+      toZ-ofZ w64 (start .args .p .state .speed) (record { sfits = c .before .struct-told .given .1 .1 .0 .1 }),
     )
 
 pub with-output-spec : {M : Type 1} → statement M

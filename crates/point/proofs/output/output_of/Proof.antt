@@ -90,6 +90,9 @@ sampled-of-requires c κs = search needs
 enum-told-12 : tie.Need-enum-told-12
 enum-told-12 c = search needs
 
+enum-told-13 : tie.Need-enum-told-13
+enum-told-13 c = search needs
+
 returns : tie.Need-returns
 unfolding output output-as
 returns c = rw (c .enum-told .given .1, a-back (c .before .before))
@@ -149,6 +152,10 @@ returns-12 : tie.Need-returns-12
 unfolding output output-as
 returns-12 c = rw (c .enum-told12 .given .1, held-back (c .before .before))
 
+returns-13 : tie.Need-returns-13
+unfolding output output-as
+returns-13 c = rw (c .enum-told13 .given .1, held-back (c .before .before))
+
 pub output-of-spec : {M : Type 1} → statement M
 output-of-spec =
     tie.close
@@ -175,6 +182,7 @@ output-of-spec =
     enum-told-11
     sampled-of-requires
     enum-told-12
+    enum-told-13
     returns
     returns-2
     returns-3
@@ -186,4 +194,5 @@ output-of-spec =
     returns-9
     returns-10
     returns-11
-    returns-12)
+    returns-12
+    returns-13)

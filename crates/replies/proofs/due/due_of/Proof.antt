@@ -19,7 +19,7 @@ use Rattle.replies.proofs.due.due_of.Tie as tie
 
 -- the numbers of the kinds that are never due
 abbrev idle : List ℕ
-idle = 0 ∷ 1 ∷ 2 ∷ 6 ∷ 7 ∷ 9 ∷ 10 ∷ 11 ∷ []
+idle = 0 ∷ 1 ∷ 2 ∷ 6 ∷ 7 ∷ 9 ∷ 10 ∷ 11 ∷ 12 ∷ []
 
 -- such a kind is not due
 never : (k : Kind) (p : Part) (now : Point) (x : Signal) → OneOf idle (tagOf tags.the-type k) → false ≡ due-as (class k) p now x

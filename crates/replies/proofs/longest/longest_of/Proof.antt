@@ -43,7 +43,7 @@ waiting-longest p now x h P r not-due waits is-period is =
 
 -- the numbers of the kinds that accept every step where they are not due
 abbrev accepting : List ℕ
-accepting = 0 ∷ 1 ∷ 2 ∷ 5 ∷ 6 ∷ 7 ∷ 8 ∷ 9 ∷ 10 ∷ []
+accepting = 0 ∷ 1 ∷ 2 ∷ 5 ∷ 6 ∷ 7 ∷ 8 ∷ 9 ∷ 10 ∷ 12 ∷ []
 
 -- of such a kind
 whole : (k : Kind) (p : Part) (t h : ℕ) → OneOf accepting (tagOf tags.the-type k) → h ≡ longest-as (class k) p t h

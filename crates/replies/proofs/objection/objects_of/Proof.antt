@@ -18,7 +18,7 @@ use Rattle.replies.proofs.objection.objects_of.Tie as tie
 
 -- the numbers of the kinds that never object
 abbrev silent : List ℕ
-silent = 0 ∷ 1 ∷ 2 ∷ 3 ∷ 4 ∷ 5 ∷ 6 ∷ 7 ∷ 9 ∷ 10 ∷ 11 ∷ []
+silent = 0 ∷ 1 ∷ 2 ∷ 3 ∷ 4 ∷ 5 ∷ 6 ∷ 7 ∷ 9 ∷ 10 ∷ 11 ∷ 12 ∷ []
 
 -- such a kind does not object
 never : (k : Kind) (h : ℕ) (p : Part) → OneOf silent (tagOf tags.the-type k) → false ≡ objects-as (class k) h p
