@@ -28,7 +28,7 @@ fn names_a(k: Kind) -> bool
         Kind::Hold => false,
         Kind::Sampler => false,
         Kind::Drive => true,
-        Kind::Clapper => true,
+        Kind::Clapper => true, // its position at the start
     }
 }
 
@@ -49,7 +49,7 @@ fn names_b(k: Kind) -> bool
         Kind::Hold => false,
         Kind::Sampler => false,
         Kind::Drive => false,
-        Kind::Clapper => true,
+        Kind::Clapper => true, // its speed at the start
     }
 }
 

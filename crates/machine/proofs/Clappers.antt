@@ -1,25 +1,22 @@
--- What request 2 says of a clapper. Most rows compute. The law goes by induction on the steps: one of one local tick adds x to the speed and then the new
--- speed to the position, and k(k + 1)/2 grows by k + 1. Assumes nothing.
+-- The law of a clapper's motion, by induction on the steps: one of one local tick adds x to the speed and then the new speed to the position, and
+-- k(k + 1)/2 grows by k + 1. The other rows compute. Assumes nothing.
 use Prim.Native.Nat.{ℕ, zero, suc, _+_, _*_, _/_, _<_}
 use native.Mathlib.Nat.{add-div-right, add-mul-div-right, mul-suc, suc-mul}
 use native.Mathlib.Omega.{arith}
 use mathlib.Core.Path.{_≡_, refl, sym, _∙_, ap}
 use mathlib.Core.Bool.{true}
-use mathlib.Core.Logic.{inr}
 use lib.IntN.{ℤ, pos, _+ℤ_, _*ℤ_, one, *ℤ-one, +ℤ-assoc, +ℤ-comm, +ℤ-idr, zero-*ℤ, sucℤ-*ℤ}
-use borrow.Author.Tests.{ne-eqb}
 use Rattle.machine.specs.declared.signal.Signal.the-variants.{Value}
 use Rattle.machine.specs.declared.part.Kind.the-variants.{Clapper}
 use Rattle.machine.specs.declared.part.Part.{Part}
 use Rattle.machine.specs.Time.{gained, local-count}
 use Rattle.machine.specs.Signal.{integral, is-value}
 use Rattle.machine.specs.Step.{gain-of, moved, moved-held, moved-speed, rate}
-use Rattle.machine.specs.Accept.{Accepts, AcceptsAs}
 use Rattle.machine.specs.Clappers.{Clappers, Unclamped, swung, speed-after, position-after}
 use Rattle.machine.proofs.Computing.{computing}
 use Rattle.machine.proofs.KindTable.{clamp-of-value}
 
--- k + 1 times v, and m + n times v
+-- n + 1 times v, and m + n times v
 once-more : (n : ℕ) (v : ℤ) → pos (suc n) *ℤ v ≡ (pos n *ℤ v) +ℤ v
 once-more n v = sucℤ-*ℤ (pos n) v
 
@@ -30,16 +27,15 @@ times-sum m (suc n) v =
     rw (next, once-more (m + n) v, once-more n v, times-sum m n v) (+ℤ-assoc (pos m *ℤ v) (pos n *ℤ v) v)
 
 -- k(k + 1)/2 grows by k + 1
+two-rows-more : (k : ℕ) → suc k * (suc k + 1) ≡ k * (k + 1) + suc k * 2
+two-rows-more k =
+    let next : suc k + 1 ≡ suc (k + 1) = omega arith in
+    suc-mul k (suc k + 1) ∙ rw (next, mul-suc k (k + 1)) (omega arith)
+
 triangle : (k : ℕ) → suc k * (suc k + 1) / 2 ≡ k * (k + 1) / 2 + suc k
 triangle k =
     let above : 0 < 2 = omega arith in
-    let rows : suc k * (suc k + 1) ≡ k * (k + 1) + suc k * 2 =
-    let left = suc-mul k (suc k + 1) in
-    let right : suc k + 1 ≡ suc (k + 1) = omega arith in
-    let inner = mul-suc k (k + 1) in
-    left ∙ rw (right, inner) (omega arith)
-    in
-    ap (λ (n : ℕ). n / 2) rows ∙ add-mul-div-right (k * (k + 1)) (suc k) above
+    ap (λ (n : ℕ). n / 2) (two-rows-more k) ∙ add-mul-div-right (k * (k + 1)) (suc k) above
 
 -- sums in another order
 exchanged : (c d e : ℤ) → c +ℤ (d +ℤ e) ≡ d +ℤ (c +ℤ e)
@@ -71,10 +67,10 @@ unfolding integral one
 integral-once v w e = rw (*ℤ-one w) (clamp-of-value (v +ℤ w) e)
 
 -- one step of a clapper, of one local tick
-pub record Swung (t r : ℕ) (x : ℤ) (p : Part) : Type 0 where
-  pub speed : moved t r (Value x) p .state .speed ≡ p .state .speed +ℤ x
-  pub held : moved t r (Value x) p .state .held ≡ p .state .held +ℤ (p .state .speed +ℤ x)
-  pub local : moved t r (Value x) p .state .local .0 ≡ local-count (t + r) r .0
+record Swung (t r : ℕ) (x : ℤ) (p : Part) : Type 0 where
+  speed : moved t r (Value x) p .state .speed ≡ p .state .speed +ℤ x
+  held : moved t r (Value x) p .state .held ≡ p .state .held +ℤ (p .state .speed +ℤ x)
+  local : moved t r (Value x) p .state .local .0 ≡ local-count (t + r) r .0
 
 once-swung : (t r : ℕ) (x : ℤ) (p : Part) → p .component .kind ≡ Clapper → p .ratio ≡ r → 0 < r → p .state .local .0 ≡ local-count t r .0 →
     is-value (p .state .speed +ℤ x) ≡ true → is-value (p .state .held +ℤ (p .state .speed +ℤ x)) ≡ true → Swung t r x p
@@ -112,28 +108,31 @@ after-steps zero t x p kind above local free =
     let none : t + 0 * p .ratio ≡ t = omega arith in
     record { kind = refl; ratio = refl; local = rw none local; speed = no-speed (p .state .speed) x; held = no-way (p .state .held) (p .state .speed) x }
 after-steps (suc k) t x p kind above local free =
-    let before = after-steps k t x p kind above local (record { speeds = λ j few. free .speeds j (omega (arith, few)); positions = λ j few. free .positions j (omega (arith, few)) }) in
+    let a = p .state .held in
+    let b = p .state .speed in
     let here = swung k t (Value x) p in
-    let faster = ap (λ v. v +ℤ x) (before .speed) ∙ next-speed (p .state .speed) x k in
-    let farther = ap (λ v. v +ℤ (here .state .speed +ℤ x)) (before .held) ∙ ap (λ v. position-after (p .state .held) (p .state .speed) x k +ℤ v) faster ∙ next-position (p .state .held) (p .state .speed) x k in
+    let sooner : Unclamped a b x k = record { speeds = λ j few. free .speeds j (omega (arith, few)); positions = λ j few. free .positions j (omega (arith, few)) } in
+    let before = after-steps k t x p kind above local sooner in
+    let faster = ap (λ v. v +ℤ x) (before .speed) ∙ next-speed b x k in
+    let farther =
+    ap (λ v. v +ℤ (here .state .speed +ℤ x)) (before .held) ∙ ap (λ v. position-after a b x k +ℤ v) faster ∙ next-position a b x k in
     let fast : is-value (here .state .speed +ℤ x) ≡ true = rw faster (free .speeds (suc k) (omega arith)) in
     let far : is-value (here .state .held +ℤ (here .state .speed +ℤ x)) ≡ true = rw farther (free .positions (suc k) (omega arith)) in
     let step = once-swung (t + k * p .ratio) (p .ratio) x here (before .kind ∙ kind) (before .ratio) above (before .local) fast far in
     let later : t + k * p .ratio + p .ratio ≡ t + suc k * p .ratio = rw (suc-mul k (p .ratio)) (omega arith) in
-    record { kind = before .kind; ratio = before .ratio; local = step .local ∙ ap (λ n. local-count n (p .ratio) .0) later; speed = step .speed ∙ faster; held = step .held ∙ farther }
+    record {
+      kind = before .kind;
+      ratio = before .ratio;
+      local = step .local ∙ ap (λ n. local-count n (p .ratio) .0) later;
+      speed = step .speed ∙ faster;
+      held = step .held ∙ farther;
+    }
 
 -- the rows
 pub clappers : Clappers
-unfolding computing swung Accepts AcceptsAs
+unfolding computing swung
 clappers =
     record {
-      starting = λ a b k p c. (refl, refl, λ none. rw none refl);
-      operands = λ a b e f. (rw (e, f) refl, refl, refl);
-      moving = λ r q. (refl, refl, refl, refl);
-      speed-clamped = λ r q. (refl, refl, refl, refl);
-      position-clamped = λ r q. (refl, refl);
-      plain = λ a b r q now x y before h. (refl, refl, refl, inr (refl, tt));
-      sound-speed = λ k n v. (λ none. (rw (none, ne-eqb (suc n) 0 (λ e. omega arith)) refl, rw none refl, rw none refl), refl);
       law = λ k t x p kind above local free. let stood = after-steps k t x p kind above local free in (stood .speed, stood .held);
       one-step = λ q. (refl, refl, refl, refl);
       coarse = λ q. (refl, refl);

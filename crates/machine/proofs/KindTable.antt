@@ -4,14 +4,16 @@ use Prim.Native.Nat.{ℕ, suc, _+_, _-_, _*_, _<_, min}
 use native.Mathlib.Omega.{arith}
 use mathlib.Core.Path.{_≡_, refl, ap}
 use mathlib.Core.Bool.{Bool, true, false, cond}
+use mathlib.Core.Logic.{inr}
 use lib.IntN.{ℤ, pos, negsuc}
-use borrow.Author.Tests.{leb-true, lt-ltb}
+use borrow.Author.Tests.{leb-true, lt-ltb, ne-eqb}
 use Rattle.machine.specs.declared.signal.Signal.the-variants.{Absent, Value}
 use Rattle.machine.specs.declared.part.Side.{Side}
 use Rattle.machine.specs.declared.part.Side.the-variants.{Unset, Negative, Positive}
 use Rattle.machine.specs.declared.part.Mark.the-variants.{Clear}
 use Rattle.machine.specs.Signal.{clamp, integral, is-value}
 use Rattle.machine.specs.Kind.{integrates, mark-between}
+use Rattle.machine.specs.Accept.{Accepts, AcceptsAs}
 use Rattle.machine.specs.KindTable.{KindTable}
 use Rattle.machine.proofs.Computing.{computing}
 
@@ -44,7 +46,7 @@ alike true x y z e f = e
 alike false x y z e f = f
 
 pub kind-table : KindTable
-unfolding computing
+unfolding computing Accepts AcceptsAs
 kind-table =
     record {
       constant = λ a q now x y before. refl;
@@ -68,4 +70,11 @@ kind-table =
       hold = λ v held s c q now y before. (refl, refl, refl);
       hold-kept = λ v q now next y before other last. refl;
       sampler = λ w q now x before. (refl, refl);
+      clapper-starting = λ a b k p c. (refl, refl, λ none. rw none refl);
+      clapper-operands = λ a b p. refl;
+      clapper-moving = λ r q. (refl, refl, refl, refl);
+      clapper-clamped = λ r q. (refl, refl, refl, refl);
+      clapper-ends = λ r q. (refl, refl);
+      clapper-free = λ a b r q now x y before h. (refl, refl, refl, inr (refl, tt));
+      clapper-sound = λ k n v. (λ none. (rw (none, ne-eqb (suc n) 0 (λ e. omega arith)) refl, rw none refl, rw none refl), refl);
     }

@@ -1,15 +1,16 @@
--- Document 01's table of kinds, line by line, with the sentences below it that say what a step changes: a small law or two of each kind, as rows of a single
--- statement. Each row has the paper's words above it, and says them of every part of its kind, so that a definition that is bent makes a row false. Assumes
+-- Document 01's table of kinds, line by line, with the sentences below it that say what a step changes, and request 2's kind 12: a small law or two of each
+-- kind, as rows of a single statement. Each row has the paper's words above it, and says them of every part of its kind, so that a definition that is bent makes a row false. Assumes
 -- nothing.
 use Prim.Native.Nat.{ℕ, suc}
 use mathlib.Core.Path.{_≡_}
-use mathlib.Core.Bool.{true, false}
+use mathlib.Core.Bool.{true, false, _&&_}
+use lib.Dec.{eqb}
 use lib.IntN.{ℤ, pos, negsuc}
 use Rattle.machine.specs.declared.time.Point.{Point}
 use Rattle.machine.specs.declared.signal.Signal.{Signal}
 use Rattle.machine.specs.declared.signal.Signal.the-variants.{Absent, Value}
 use Rattle.machine.specs.declared.part.Kind.{Kind}
-use Rattle.machine.specs.declared.part.Kind.the-variants.{Constant, Gain, Adder, Square, Pulse, Delay, Integrator, ResetIntegrator, Detector, Hold, Sampler, Drive}
+use Rattle.machine.specs.declared.part.Kind.the-variants.{Constant, Gain, Adder, Square, Pulse, Delay, Integrator, ResetIntegrator, Detector, Hold, Sampler, Drive, Clapper}
 use Rattle.machine.specs.declared.part.Side.{Side}
 use Rattle.machine.specs.declared.part.Side.the-variants.{Unset, Negative, Positive}
 use Rattle.machine.specs.declared.part.Mark.{Mark}
@@ -19,9 +20,11 @@ use Rattle.machine.specs.declared.part.State.{State}
 use Rattle.machine.specs.declared.part.Part.{Part}
 use Rattle.machine.specs.Time.{point}
 use Rattle.machine.specs.Signal.{is-value}
-use Rattle.machine.specs.Kind.{output, integrates, has-mass}
-use Rattle.machine.specs.Step.{moved-held, settled, with-output}
+use Rattle.machine.specs.Kind.{ports, direct0, operands-fit, output, integrates, has-mass}
+use Rattle.machine.specs.Step.{moved-speed, moved-held, settled, with-output}
 use Rattle.machine.specs.Fresh.{first-state}
+use Rattle.machine.specs.Sound.{speed-fits}
+use Rattle.machine.specs.Accept.{Accepts}
 
 -- a component of the kind given with these operands, and all else as c has it
 abbrev pub operated : Kind → ℤ → ℤ → ℕ → Component → Component
@@ -67,6 +70,24 @@ keeping held signal side mark q =
 -- the part once it shows its output at a point, where its port 0 reads x and its port 1 y, and has settled
 abbrev pub shown-settled : Part → Point → (x y before : Signal) → Part
 shown-settled p now x y before = settled x (with-output p (output p now x y before))
+
+-- a clapper at a position with a speed, of ratio r, at the start; all else as q has it
+abbrev pub clapper : (position speed : ℤ) → ℕ → Part → Part
+clapper position speed r q =
+    record {
+      component = operated Clapper position speed 0 (q .component);
+      ratio = r;
+      state =
+          record {
+            local = record { 0 = 0 };
+            held = position;
+            speed = speed;
+            signal = q .state .signal;
+            output = q .state .output;
+            side = q .state .side;
+            mark = q .state .mark;
+          };
+    }
 
 -- what a detector keeps of an input x, seen behind a side: its side and its mark
 abbrev pub seen : Side → Signal → Part → State
@@ -175,3 +196,36 @@ pub record KindTable : Type 0 where
   pub sampler :
       (w : ℤ) (q : Part) (now : Point) (x before : Signal) →
       (output (of-kind Sampler (pos 0) (pos 0) 0 q) now x (Value w) before ≡ x) × (output (of-kind Sampler (pos 0) (pos 0) 0 q) now x Absent before ≡ Absent)
+  -- 12, request 2: "a position (starting at a) and a speed (starting at b)"; the speed of a fresh part of another kind is 0
+  pub clapper-starting :
+      (a b : ℤ) (k : Kind) (p : ℕ) (c : Component) →
+      (first-state (operated Clapper a b 0 c) .speed ≡ b) × (first-state (operated Clapper a b 0 c) .held ≡ a) ×
+      (has-mass k ≡ false → first-state (operated k a b p c) .speed ≡ pos 0)
+  -- a and b are named, and so are values; p is not, and must be 0
+  pub clapper-operands : (a b : ℤ) (p : ℕ) → operands-fit Clapper a b p ≡ (is-value a && is-value b && eqb p 0)
+  -- "speed becomes clamp(speed + x × d) and then position becomes clamp(position + new speed × d)": from 10 at speed 5, −2 for 3 ticks; and absent as 0
+  pub clapper-moving :
+      (r : ℕ) (q : Part) →
+      (moved-held (clapper (pos 10) (pos 5) r q) (Value (negsuc 1)) 3 ≡ pos 7) × (moved-speed (clapper (pos 10) (pos 5) r q) (Value (negsuc 1)) 3 ≡ negsuc 0) ×
+      (moved-held (clapper (pos 10) (pos 5) r q) Absent 3 ≡ pos 25) × (moved-speed (clapper (pos 10) (pos 5) r q) Absent 3 ≡ pos 5)
+  -- the speed is clamped before it moves the position: an input leads it beyond either end of the values, and the position comes to 0
+  pub clapper-clamped :
+      (r : ℕ) (q : Part) →
+      (moved-held (clapper (negsuc 999_999_999) (pos 1_000_000_000) r q) (Value (pos 5)) 1 ≡ pos 0) ×
+      (moved-speed (clapper (negsuc 999_999_999) (pos 1_000_000_000) r q) (Value (pos 5)) 1 ≡ pos 1_000_000_000) ×
+      (moved-held (clapper (pos 1_000_000_000) (negsuc 999_999_999) r q) (Value (negsuc 4)) 1 ≡ pos 0) ×
+      (moved-speed (clapper (pos 1_000_000_000) (negsuc 999_999_999) r q) (Value (negsuc 4)) 1 ≡ negsuc 999_999_999)
+  -- and the position is clamped at either end
+  pub clapper-ends :
+      (r : ℕ) (q : Part) →
+      (moved-held (clapper (pos 999_999_999) (pos 2) r q) Absent 1 ≡ pos 1_000_000_000) ×
+      (moved-held (clapper (negsuc 999_999_998) (negsuc 1) r q) Absent 1 ≡ negsuc 999_999_999)
+  -- "The output is the position, port 0 is not direct, and the part accepts every step"
+  pub clapper-free :
+      (a b : ℤ) (r : ℕ) (q : Part) (now : Point) (x y before : Signal) (h : ℕ) →
+      (output (clapper a b r q) now x y before ≡ Value a) × (ports Clapper ≡ 1) × (direct0 Clapper ≡ false) × Accepts (clapper a b r q) now x h
+  -- "the speed as second held number: in a sound model a value, and 0 for other kinds"
+  pub clapper-sound :
+      (k : Kind) (n : ℕ) (v : ℤ) →
+      (has-mass k ≡ false → (speed-fits k (pos (suc n)) ≡ false) × (speed-fits k (negsuc n) ≡ false) × (speed-fits k (pos 0) ≡ true)) ×
+      (speed-fits Clapper v ≡ is-value v)

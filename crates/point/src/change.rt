@@ -180,7 +180,8 @@ pub fn moved_part(p: Part, t: Ticks, h: Ticks, x: Signal) -> Part
     let kind = c.kind;
     let mut s = p.state;
     let mass = has_mass(kind);
-    let speed = number_after(mass, s.speed, x, d);
+    let old_speed = s.speed;
+    let speed = number_after(mass, old_speed, x, d);
     let held = number_after(holds_number(kind), s.held, rate_of(mass, speed, x), d);
     let count = s.local.0 + d.0;
     s.local.0 = count;

@@ -103,8 +103,8 @@ helds c =
     (value-back (start .args .p .state .held) (start .pre .0 .held))
     (c .number-after2 .ensures)
 
-add-t14 : tie.Need-add-t14
-add-t14 c = search needs
+add-t15 : tie.Need-add-t15
+add-t15 c = search needs
 
 local-requires : tie.Need-local-requires
 local-requires c κs = search needs
@@ -167,7 +167,7 @@ pub moved-part-spec : {M : Type 1} → statement M
 moved-part-spec =
     tie.close
     (tie.spec
-    add-t14
+    add-t15
     local-requires
     gain-of-requires
     has-mass-requires
