@@ -5,14 +5,17 @@ use native.Mathlib.Omega.{arith}
 use mathlib.Core.Path.{_≡_, refl, ap}
 use mathlib.Core.Bool.{Bool, true, false, cond}
 use mathlib.Core.Logic.{inr}
+use lib.Dec.{eqb}
 use lib.IntN.{ℤ, pos, negsuc}
 use borrow.Author.Tests.{leb-true, lt-ltb, ne-eqb}
 use Rattle.machine.specs.declared.signal.Signal.the-variants.{Absent, Value}
+use Rattle.machine.specs.declared.part.Kind.{Kind}
+use Rattle.machine.specs.declared.part.Kind.the-variants.{Constant, Gain, Adder, Square, Pulse, Delay, Integrator, ResetIntegrator, Detector, Hold, Sampler, Drive, Clapper}
 use Rattle.machine.specs.declared.part.Side.{Side}
 use Rattle.machine.specs.declared.part.Side.the-variants.{Unset, Negative, Positive}
 use Rattle.machine.specs.declared.part.Mark.the-variants.{Clear}
 use Rattle.machine.specs.Signal.{clamp, integral, is-value}
-use Rattle.machine.specs.Kind.{integrates, mark-between}
+use Rattle.machine.specs.Kind.{kind-number, integrates, has-mass, mark-between}
 use Rattle.machine.specs.Accept.{Accepts, AcceptsAs}
 use Rattle.machine.specs.KindTable.{KindTable}
 use Rattle.machine.proofs.Computing.{computing}
@@ -45,6 +48,22 @@ alike : (b : Bool) (x y z : ℤ) → x ≡ z → y ≡ z → cond b x y ≡ z
 alike true x y z e f = e
 alike false x y z e f = f
 
+-- the kind with number 12 has mass, and no other
+with-mass : (k : Kind) → has-mass k ≡ eqb (kind-number k) 12
+with-mass Constant = refl
+with-mass Gain = refl
+with-mass Adder = refl
+with-mass Square = refl
+with-mass Pulse = refl
+with-mass Delay = refl
+with-mass Integrator = refl
+with-mass ResetIntegrator = refl
+with-mass Detector = refl
+with-mass Hold = refl
+with-mass Sampler = refl
+with-mass Drive = refl
+with-mass Clapper = refl
+
 pub kind-table : KindTable
 unfolding computing Accepts AcceptsAs
 kind-table =
@@ -70,6 +89,7 @@ kind-table =
       hold = λ v held s c q now y before. (refl, refl, refl);
       hold-kept = λ v q now next y before other last. refl;
       sampler = λ w q now x before. (refl, refl);
+      clapper-alone = with-mass;
       clapper-starting = λ a b k p c. (refl, refl, λ none. rw none refl);
       clapper-operands = λ a b p. refl;
       clapper-moving = λ r q. (refl, refl, refl, refl);

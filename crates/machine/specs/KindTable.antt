@@ -1,6 +1,6 @@
 -- Document 01's table of kinds, line by line, with the sentences below it that say what a step changes, and request 2's kind 12: a small law or two of each
--- kind, as rows of a single statement. Each row has the paper's words above it, and says them of every part of its kind, so that a definition that is bent makes a row false. Assumes
--- nothing.
+-- kind, as rows of a single statement. Each row has the paper's words above it, and says them of every part of its kind, so that a definition that is bent
+-- makes a row false. Assumes nothing.
 use Prim.Native.Nat.{ℕ, suc}
 use mathlib.Core.Path.{_≡_}
 use mathlib.Core.Bool.{true, false, _&&_}
@@ -20,7 +20,7 @@ use Rattle.machine.specs.declared.part.State.{State}
 use Rattle.machine.specs.declared.part.Part.{Part}
 use Rattle.machine.specs.Time.{point}
 use Rattle.machine.specs.Signal.{is-value}
-use Rattle.machine.specs.Kind.{ports, direct0, operands-fit, output, integrates, has-mass}
+use Rattle.machine.specs.Kind.{kind-number, ports, direct0, operands-fit, output, integrates, has-mass}
 use Rattle.machine.specs.Step.{moved-speed, moved-held, settled, with-output}
 use Rattle.machine.specs.Fresh.{first-state}
 use Rattle.machine.specs.Sound.{speed-fits}
@@ -144,12 +144,13 @@ pub record KindTable : Type 0 where
       (a : ℤ) (c : Component) →
       (first-state (operated Integrator a (pos 0) 0 c) .held ≡ a) × (first-state (operated ResetIntegrator a (pos 0) 0 c) .held ≡ a) ×
       (first-state (operated Drive a (pos 0) 0 c) .held ≡ a)
-  -- "On a step, kinds 6, 7, 11 take held := clamp(held + x × d)": 5 and −2 for 3 ticks; and clamped
+  -- "On a step, kinds 6, 7, 11 take held := clamp(held + x × d)", the kinds that integrate without mass: 5 and −2 for 3 ticks; and clamped
   pub moving :
       (k : Kind) (s : Signal) (q : Part) → integrates k ≡ true → has-mass k ≡ false →
       (moved-held (keeping (pos 5) s Unset Clear (of-kind k (pos 0) (pos 0) 0 q)) (Value (negsuc 1)) 3 ≡ negsuc 0) ×
       (moved-held (keeping (pos 5) s Unset Clear (of-kind k (pos 0) (pos 0) 0 q)) (Value (pos 1)) 1_000_000_000 ≡ pos 1_000_000_000)
-  -- "Absent counts as 0 only where an integrator or drive integrates it": the held number stays; and so it does of a kind that integrates nothing
+  -- "Absent counts as 0 only where an integrator or drive integrates it": the held number stays, where no speed moves it; and so it does of a kind
+  -- that integrates nothing
   pub resting :
       (k : Kind) (held : ℤ) (s x : Signal) (d : ℕ) (q : Part) → is-value held ≡ true →
       (has-mass k ≡ false → moved-held (keeping held s Unset Clear (of-kind k (pos 0) (pos 0) 0 q)) Absent d ≡ held) ×
@@ -196,7 +197,9 @@ pub record KindTable : Type 0 where
   pub sampler :
       (w : ℤ) (q : Part) (now : Point) (x before : Signal) →
       (output (of-kind Sampler (pos 0) (pos 0) 0 q) now x (Value w) before ≡ x) × (output (of-kind Sampler (pos 0) (pos 0) 0 q) now x Absent before ≡ Absent)
-  -- 12, request 2: "a position (starting at a) and a speed (starting at b)"; the speed of a fresh part of another kind is 0
+  -- request 2: "Kind 12 holds a position (starting at a) and a speed (starting at b)", and no other kind does
+  pub clapper-alone : (k : Kind) → has-mass k ≡ eqb (kind-number k) 12
+  -- 12 clapper: "a position (starting at a) and a speed (starting at b)"; the speed of a fresh part of another kind is 0
   pub clapper-starting :
       (a b : ℤ) (k : Kind) (p : ℕ) (c : Component) →
       (first-state (operated Clapper a b 0 c) .speed ≡ b) × (first-state (operated Clapper a b 0 c) .held ≡ a) ×

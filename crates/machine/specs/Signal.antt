@@ -1,4 +1,4 @@
--- Document 01, "Signals": values and clamping, and the arithmetic that the kinds' rows use. A signal is the declared enum `Signal`.
+-- Document 01, "Signals", with request 2: values and clamping, and the arithmetic that the kinds' rows use. A signal is the declared enum `Signal`.
 -- Assumes nothing.
 use Prim.Native.Nat.{ℕ, min}
 use mathlib.Core.Bool.{Bool, true, false}
@@ -30,7 +30,7 @@ unfoldable pub is-signal : Signal → Bool
 is-signal Absent = true
 is-signal (Value v) = is-value v
 
--- "Absent counts as 0 only where an integrator or drive integrates it"
+-- "Absent counts as 0 only where an integrator or drive integrates it", and request 2 of a clapper: "absent counts as 0"
 abbrev pub integrated : Signal → ℤ
 integrated Absent = pos 0
 integrated (Value v) = v
@@ -57,6 +57,6 @@ abbrev pub sampled : Signal → Signal → Signal
 sampled x Absent = Absent
 sampled x (Value w) = x
 
--- kinds 6, 7, 11 on a step: "held := clamp(held + x × d)"
+-- kinds 6, 7, 11 on a step: "held := clamp(held + x × d)"; of request 2's kind 12 the speed likewise, and then the position by it
 unfoldable pub integral : ℤ → Signal → ℕ → ℤ
 integral held x d = clamp (held +ℤ (integrated x *ℤ pos d))
