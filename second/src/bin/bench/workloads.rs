@@ -91,56 +91,31 @@ fn mixed(parts: usize) -> Draft {
     draft
 }
 
-/// The wires within a half of `clappers`.
-const CLAPPERS_WIRES: [(usize, usize, u8); 15] = [
-    (0, 1, 0),
-    (2, 3, 0),
-    (3, 4, 0),
-    (15, 5, 0),
-    (10, 7, 0),
-    (14, 8, 0),
-    (8, 9, 0),
-    (3, 9, 1),
-    (6, 10, 0),
-    (2, 11, 0),
-    (9, 12, 0),
-    (1, 12, 1),
-    (3, 13, 0),
-    (5, 14, 0),
-    (3, 15, 0),
-];
-
-/// As `mixed`, with clappers in place of its integrators, reset integrators, samplers and holds, of ratios 1 and 100.
-/// None comes to an end of the values; the one that the detector reads goes through zero and back with the square.
+/// `mixed` with clappers in place of its integrators, reset integrators, samplers and holds, of ratios 1 and 100. None comes
+/// to an end of the values; the one that the detector reads goes through zero and back with the square.
 fn clappers() -> Draft {
-    let mut draft = Draft { magnitude: 2, ..Draft::default() };
+    let mut draft = Draft { magnitude: 2, ..mixed(32) };
     for half in 0..2 {
-        let p = |p: u32| p + 37 * half;
-        let first = draft.rows.len();
+        let first = 16 * half;
         // After so many of ratio 100 the square switches. The gain has then taken a speed of 5 × ticks (500 × ticks at
         // ratio 1) to its opposite.
         let ticks = 1 + half as i32;
-        draft.add(CONSTANT, 3, 0, 0);
-        draft.add(CLAPPER, -40, 0, 0);
-        draft.add(SQUARE, 5, -5, ticks as u32);
-        draft.add(GAIN, -2, 0, 0);
-        draft.add(CLAPPER, 7, [5, 1000][half as usize], 0);
-        draft.add(DETECTOR, 0, 0, p(20));
-        draft.add(PULSE, 9, 0, p(70));
-        draft.add(CLAPPER, 0, -2, 0);
-        draft.add(CLAPPER, 0, 0, 0);
-        draft.add(ADDER, 0, 0, 0);
-        draft.add(DELAY, 0, 0, 0);
-        draft.add_drive(0, vec![1, 2, 3, 4, 6]);
-        draft.add(ADDER, 0, 0, 0);
-        draft.add(CLAPPER, 0, 500 * ticks, 0);
-        draft.add(GAIN, 3, 0, 0);
-        draft.add(CLAPPER, 3, 5 * ticks, 0);
-        for (number, preference) in [(1, 0), (2, 0), (4, 2 * half as u8), (7, 0), (11, 1), (15, 0)] {
-            draft.rows[first + number].preference = preference;
-        }
-        for (source, reader, port) in CLAPPERS_WIRES {
-            draft.wire(first + source, first + reader, port);
+        let square = &mut draft.rows[first + 2];
+        (square.p, square.preference) = (ticks as u32, 0);
+        draft.rows[first + 11].preference = 1;
+        let none = draft.rows[first].preference;
+        for (number, b, preference, source) in [
+            (1, 0, 0, 0),
+            (4, [5, 1000][half], 2 * half as u8, 3),
+            (7, -2, 0, 10),
+            (8, 0, none, 14),
+            (13, 500 * ticks, none, 3),
+            (15, 5 * ticks, 0, 3),
+        ] {
+            let row = &mut draft.rows[first + number];
+            (row.kind, row.b, row.preference) = (CLAPPER, b, preference);
+            draft.wires.retain(|wire| wire.1 != first + number);
+            draft.wire(first + source, first + number, 0);
         }
     }
     draft
