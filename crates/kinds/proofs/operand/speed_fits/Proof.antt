@@ -1,5 +1,4 @@
 -- `speed_fits` is the definition's test: a value where the kind has mass, and 0 where it has none. A signed argument is read back from its bits.
-use mathlib.Core.Path.{_∙_}
 use mir.Syntax.{w64}
 use mir.ValLaws.{toZ-ofZ}
 use borrow.Author.Needs.{needs}

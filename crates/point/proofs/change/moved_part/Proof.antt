@@ -14,7 +14,7 @@ use Rattle.machine.specs.declared.signal.Signal.{Signal}
 use Rattle.machine.specs.declared.signal.Signal.the-variants.{Value}
 use Rattle.machine.specs.declared.part.Part.{Part}
 use Rattle.machine.specs.Time.{gained, local-count}
-use Rattle.machine.specs.Signal.{integral, is-signal, is-value}
+use Rattle.machine.specs.Signal.{integral, is-signal}
 use Rattle.machine.specs.Kind.{has-mass, integrates}
 use Rattle.machine.specs.Model.{with-state}
 use Rattle.machine.specs.Step.{gain-of, moved, moved-held, moved-speed, rate}
