@@ -97,7 +97,7 @@ unfolding signed-word
 signed-fits (pos n) h = omega arith
 signed-fits (negsuc n) h = omega arith
 
-signed-same : (z : ℤ) → FitsSigned z → word-signed (signed-word z) ≡ z
+pub signed-same : (z : ℤ) → FitsSigned z → word-signed (signed-word z) ≡ z
 unfolding signed-word word-signed
 signed-same (pos n) h = rw (lt-ltb n 9223372036854775808 h) refl
 signed-same (negsuc n) h =

@@ -25,7 +25,7 @@ pub fn kind_code(k: Kind) -> u64
 }
 
 // The kind that has a number, the constant where none has.
-pub(crate) fn kind_coded(w: u64) -> Kind
+pub fn kind_coded(w: u64) -> Kind
     ensures { λ r. ⌜ r ≡ kind-of w ⌝ }
 {
     if w >= KIND_COUNT {
@@ -46,7 +46,7 @@ pub fn source_code(s: Source) -> u64
 }
 
 // The port that a number means.
-pub(crate) fn source_coded(w: u64) -> Source
+pub fn source_coded(w: u64) -> Source
     ensures { λ r. ⌜ r ≡ source-coded w ⌝ }
 {
     if w == 0 {
@@ -67,7 +67,7 @@ pub fn side_code(s: Side) -> u64
 }
 
 // The side that a number means.
-pub(crate) fn side_coded(w: u64) -> Side
+pub fn side_coded(w: u64) -> Side
     ensures { λ r. ⌜ r ≡ side-coded w ⌝ }
 {
     if w == 1 {
@@ -91,7 +91,7 @@ pub fn mark_code(m: Mark) -> u64
 }
 
 // The mark that a number means.
-pub(crate) fn mark_coded(w: u64) -> Mark
+pub fn mark_coded(w: u64) -> Mark
     ensures { λ r. ⌜ r ≡ mark-coded w ⌝ }
 {
     if w == 1 {
@@ -104,7 +104,7 @@ pub(crate) fn mark_coded(w: u64) -> Mark
 }
 
 // The signal that two numbers mean.
-pub(crate) fn signal_coded(code: u64, w: u64) -> Signal
+pub fn signal_coded(code: u64, w: u64) -> Signal
     ensures { λ r. ⌜ r ≡ signal-of code w ⌝ }
 {
     if code == 1 {

@@ -87,7 +87,7 @@ pub fn signed_word(v: i64) -> u64
 }
 
 // The signed number of a word, in two's complement.
-pub(crate) fn word_signed(w: u64) -> i64
+pub fn word_signed(w: u64) -> i64
     ensures { λ r. ⌜ r ≡ word-signed w ⌝ }
 {
     if w < HALF {

@@ -16,7 +16,7 @@ ghost use Rattle.steps.specs.Fillable.{Fillable};
 ghost use Rattle.steps.specs.Settling.{settles};
 
 // Whether settling changes a part of the kind.
-fn settles(k: Kind) -> bool
+pub(crate) fn settles(k: Kind) -> bool
     ensures { λ r. ⌜ r ≡ settles k ⌝ }
 {
     match k {

@@ -1,0 +1,32 @@
+-- `signal_word` is read back with the signal's code, by cases.
+use mathlib.Core.Path.{refl, ap, _∙_}
+use mir.Syntax.{w64}
+use mir.ValLaws.{toZ-ofZ}
+use Rattle.machine.specs.declared.signal.Signal.the-variants.{Value}
+use Rattle.codec.specs.Decoded.{signal-of}
+use borrow.Author.Needs.{needs}
+use Rattle.store.proofs.update.signal_word.Statement.{statement}
+use Rattle.store.proofs.update.signal_word.Tie as tie
+
+enum-told : tie.Need-enum-told
+enum-told c = search needs
+
+enum-known-s : tie.Need-enum-known-s
+enum-known-s c = search needs
+
+word-of-requires : tie.Need-word-of-requires
+word-of-requires c κs = search needs
+
+returns : tie.Need-returns
+unfolding signal-of
+returns c = rw (c .enum-told .given .1) refl
+
+returns-2 : tie.Need-returns-2
+unfolding signal-of
+returns-2 c =
+    let told = c .before in
+    let back = toZ-ofZ w64 (told .before .s .given .0 .0) (record { sfits = told .known-told .given .0 .1 }) in
+    rw (told .before .s .given .1) (ap Value (c .word-of .ensures ∙ back))
+
+pub signal-word-spec : {M : Type 1} → statement M
+signal-word-spec = tie.close (tie.spec enum-told enum-known-s word-of-requires returns returns-2)

@@ -1,0 +1,149 @@
+-- The frame: a write of one part's state, or of the point, changes that of the model that the words mean, and nothing else; and the places of that model.
+-- The idea: a record's words lie apart from every other record's, so that each state but the one written is read from words that were kept.
+-- Assumes nothing.
+use Prim.Native.Nat.{ℕ, _+_, _*_, _≤_, _<_}
+use native.Mathlib.Omega.{arith}
+use mathlib.Core.Path.{_≡_, refl, sym, ap, ap₂, _∙_}
+use mathlib.Core.Bool.{Bool, true, false}
+use mathlib.Core.Logic.{_⊎_, inl, inr}
+use mathlib.Core.List.{List}
+use lib.Dec.{eqb, ltb}
+use lib.ListN.{length, getD, set, length-set, drop, drop-of-length-le}
+use lib.Seq.{getD-set-same, getD-set-other, ext-getD}
+use borrow.Author.Tests.{eqb-true, eqb-false, ltb-true, ltb-false}
+use Rattle.machine.specs.declared.time.Point.{Point}
+use Rattle.machine.specs.declared.part.State.{State}
+use Rattle.machine.specs.declared.part.Part.{Part}
+use Rattle.machine.specs.declared.model.Model.{Model}
+use Rattle.machine.specs.Model.{blank-part, part-at, with-state, with-parts, spare-spans, SameUnused}
+use Rattle.laws.specs.Bools.{either}
+use Rattle.codec.specs.Words.{table}
+use Rattle.codec.specs.Tables.{length-table, table-at, table-same}
+use Rattle.store.specs.Held.{lent, parts-lent, state-words-of, stored-component, stored-number, stored-ratio, stored-state, stored-part, stored-point, held, Room}
+use Rattle.store.specs.Written.{Outside}
+use Rattle.store.specs.Updated.{StatePut, PointPut, SameBehind}
+
+-- a table with one place set
+table-set : {A : Type 0} (f g : ℕ → A) (n i : ℕ) (v : A) → i < n → ((j : ℕ) → (j ≡ i → ⊥) → g j ≡ f j) → g i ≡ v →
+    table g n ≡ set (table f n) i v
+table-set f g n i v low others here =
+    ext-getD v (table g n) (set (table f n) i v)
+    (length-table g n ∙ sym (length-set (table f n) i v ∙ length-table f n))
+    (λ j inside. at j (rw (length-table g n) at inside) (either (eqb j i)))
+  where
+    at : (j : ℕ) → j < n → (eqb j i ≡ true) ⊎ (eqb j i ≡ false) → getD (table g n) j v ≡ getD (set (table f n) i v) j v
+    at j within (inl e) =
+        let same : j ≡ i = eqb-true j i e in
+        let inside : i < length (table f n) = rw (length-table f n) low in
+        table-at g n j v within ∙ ap g same ∙ here ∙ sym (ap (λ (k : ℕ). getD (set (table f n) i v) k v) same ∙ getD-set-same (table f n) i v v inside)
+    at j within (inr e) =
+        let other = eqb-false j i e in
+        table-at g n j v within ∙ others j other ∙ sym (getD-set-other (table f n) i j v v other ∙ table-at f n j v within)
+
+-- the places of the model that words mean
+module _ (ts ss : List ℕ) where
+  pub held-many : length (held ts ss .parts) ≡ parts-lent ts
+  unfolding held
+  held-many = length-table (stored-part ts ss) (parts-lent ts)
+
+  pub held-order : length (held ts ss .order) ≡ parts-lent ts
+  unfolding held
+  held-order = length-table (stored-number ts) (parts-lent ts)
+
+  pub held-part : (i : ℕ) → i < parts-lent ts → part-at (held ts ss .parts) i ≡ stored-part ts ss i
+  unfolding held
+  held-part i low = table-at (stored-part ts ss) (parts-lent ts) i blank-part low
+
+  pub held-number : (i : ℕ) → i < parts-lent ts → getD (held ts ss .order) i 0 ≡ stored-number ts i
+  unfolding held
+  held-number i low = table-at (stored-number ts) (parts-lent ts) i 0 low
+
+-- the same words of a record give the same state
+pub same-state : (a b : List ℕ) (i : ℕ) → ((x : ℕ) → state-words-of i ≤ x → x < state-words-of (i + 1) → lent b x ≡ lent a x) →
+    stored-state b i ≡ stored-state a i
+unfolding stored-state
+same-state a b i same =
+    rw (
+      same (9 * i + 2) (omega arith) (omega arith),
+      same (9 * i + 3) (omega arith) (omega arith),
+      same (9 * i + 4) (omega arith) (omega arith),
+      same (9 * i + 5) (omega arith) (omega arith),
+      same (9 * i + 6) (omega arith) (omega arith),
+      same (9 * i + 7) (omega arith) (omega arith),
+      same (9 * i + 8) (omega arith) (omega arith),
+      same (9 * i + 9) (omega arith) (omega arith),
+      same (9 * i + 10) (omega arith) (omega arith),
+    )
+    refl
+
+-- a record's words lie apart from another's
+apart : (i j x : ℕ) → (j ≡ i → ⊥) → state-words-of j ≤ x → x < state-words-of (j + 1) → (ltb j i ≡ true) ⊎ (ltb j i ≡ false) →
+    Outside (state-words-of i) (state-words-of (i + 1)) x
+apart i j x other from to (inl e) = let low = ltb-true j i e in inl (omega arith)
+apart i j x other from to (inr e) =
+    let high = ltb-false j i e in
+    let above : i < j = more (either (eqb j i)) in
+    inr (omega arith)
+  where
+    more : (eqb j i ≡ true) ⊎ (eqb j i ≡ false) → i < j
+    more (inl same) = absurd (other (eqb-true j i same))
+    more (inr differ) = omega (arith, ltb-false j i e, eqb-false j i differ)
+
+-- so a write of part i's state keeps the others'
+pub state-kept : (a b : List ℕ) (i j : ℕ) (s : State) → StatePut i s a b → (j ≡ i → ⊥) → stored-state b j ≡ stored-state a j
+state-kept a b i j s put other =
+    same-state a b j (λ x from to. put .others x (apart i j x other from to (either (ltb j i))))
+
+-- and the point
+pub point-kept : (a b : List ℕ) (i : ℕ) (s : State) → StatePut i s a b → stored-point b ≡ stored-point a
+unfolding stored-point
+point-kept a b i s put = rw (put .others 0 (inl (omega arith)), put .others 1 (inl (omega arith))) refl
+
+-- the model after a write of part i's state is the model before with that part's state set
+pub held-put : (ts a b : List ℕ) (i : ℕ) (s : State) → StatePut i s a b → i < parts-lent ts →
+    held ts b ≡ with-parts (held ts a) (held ts a .point) (set (held ts a .parts) i (with-state (stored-part ts a i) s))
+unfolding held stored-part
+held-put ts a b i s put low =
+    ap₂ (λ (now : Point) (ps : List Part). with-parts (held ts a) now ps) (point-kept a b i s put)
+    (table-set (stored-part ts a) (stored-part ts b) (parts-lent ts) i (with-state (stored-part ts a i) s) low
+    (λ j other. ap (with-state (stored-part ts a j)) (state-kept a b i j s put other))
+    (ap (with-state (stored-part ts a i)) (put .is)))
+
+-- and after a write of the point the model before at that point
+pub held-pointed : (ts a b : List ℕ) (now : Point) → PointPut now a b → held ts b ≡ with-parts (held ts a) now (held ts a .parts)
+unfolding held stored-part
+held-pointed ts a b now put =
+    ap₂ (λ (p : Point) (ps : List Part). with-parts (held ts a) p ps) (put .is)
+    (table-same (stored-part ts b) (stored-part ts a) (parts-lent ts)
+    (λ j low. ap (with-state (stored-part ts a j)) (same-state a b j (λ x from to. put .others x (omega arith)))))
+
+-- the words behind the model's are kept by both, by nothing, and by one change after another
+pub behind-put : (n i : ℕ) (s : State) (a b : List ℕ) → StatePut i s a b → i < n → SameBehind n a b
+behind-put n i s a b put low = record { size = put .size; behind = λ x far. put .others x (inr (omega arith)) }
+
+pub behind-pointed : (n : ℕ) (now : Point) (a b : List ℕ) → PointPut now a b → SameBehind n a b
+behind-pointed n now a b put = record { size = put .size; behind = λ x far. put .others x (omega arith) }
+
+pub behind-none : (n : ℕ) (a : List ℕ) → SameBehind n a a
+behind-none n a = record { size = refl; behind = λ x far. refl }
+
+pub behind-through : (n : ℕ) (a b c : List ℕ) → SameBehind n a b → SameBehind n b c → SameBehind n a c
+behind-through n a b c first second =
+    record { size = second .size ∙ first .size; behind = λ x far. second .behind x far ∙ first .behind x far }
+
+-- models of one table have the same unused places: none but of spans, which the table holds
+pub held-unused : (ts a b : List ℕ) → SameUnused (held ts a) (held ts b)
+unfolding held spare-spans stored-part
+held-unused ts a b =
+    record {
+      orders = refl;
+      parts =
+          drop-of-length-le (table (stored-part ts b) (parts-lent ts)) {i = parts-lent ts} (rw (length-table (stored-part ts b) (parts-lent ts)) (omega arith)) ∙
+          sym (drop-of-length-le (table (stored-part ts a) (parts-lent ts)) {i = parts-lent ts} (rw (length-table (stored-part ts a) (parts-lent ts)) (omega arith)));
+      spans = λ i low. spans-of i low;
+    }
+  where
+    spans-of : (i : ℕ) → i < parts-lent ts → spare-spans (held ts b) i ≡ spare-spans (held ts a) i
+    spans-of i low =
+        ap (λ (p : Part). drop (p .component .«span_count») (p .component .spans)) (held-part ts b i low) ∙
+        sym (ap (λ (p : Part). drop (p .component .«span_count») (p .component .spans)) (held-part ts a i low))

@@ -1,0 +1,147 @@
+// A part, a point and a place of the part order, read from the words of a table and of a state. Each function asks
+// that the words of what it reads are there; what stands in them is free.
+//
+// The contracts cite `specs/Held.antt`.
+use codec::fields::kind_coded;
+use codec::fields::mark_coded;
+use codec::fields::side_coded;
+use codec::fields::signal_coded;
+use codec::fields::source_coded;
+use codec::word::word_signed;
+use machine::part::Component;
+use machine::part::Part;
+use machine::part::SPANS;
+use machine::part::State;
+use machine::signal::Signal;
+use machine::time::LocalTicks;
+use machine::time::Point;
+use machine::time::Ticks;
+ghost use mathlib.Core.Path.{_≡_};
+ghost use Prim.Native.Nat.{_+_, _*_, _%_, _≤_};
+ghost use lib.ListN.{length};
+ghost use Rattle.store.specs.Held.{lent, parts-lent, state-words-of, stored-component, stored-number, stored-part, stored-point, stored-spans, stored-state, table-words};
+
+// How many parts a table has.
+pub fn parts_of(table: &[u64]) -> usize
+    requires { ⌜ 2 ≤ length (now table) ⌝ }
+    ensures { λ r. ⌜ r ≡ parts-lent (now (table .entry)) ⌝ }
+{
+    table[1] as usize
+}
+
+// The default magnitude of a table.
+pub fn magnitude_of(table: &[u64]) -> u8
+    requires { ⌜ 2 ≤ length (now table) ⌝ }
+    ensures { λ r. ⌜ r ≡ lent (now (table .entry)) 0 % 256 ⌝ }
+{
+    (table[0] % 256) as u8
+}
+
+// The point at which a state stands.
+pub fn point_of(state: &[u64]) -> Point
+    requires { ⌜ 2 ≤ length (now state) ⌝ }
+    ensures { λ r. ⌜ r ≡ stored-point (now (state .entry)) ⌝ }
+{
+    Point {
+        t: Ticks(state[0]),
+        n: state[1],
+    }
+}
+
+// The number at place `i` of the part order.
+pub fn number_at(table: &[u64], i: usize) -> usize
+    requires { ⌜ table-words (i + 1) ≤ length (now table) ⌝ }
+    ensures { λ r. ⌜ r ≡ stored-number (now (table .entry)) i ⌝ }
+{
+    let k = 18 * i;
+    (table[k + 19] % 65536) as usize
+}
+
+// The eight places for spans of part `i`.
+fn spans_at(table: &[u64], i: usize) -> [u32; SPANS]
+    requires { ⌜ table-words (i + 1) ≤ length (now table) ⌝ }
+    ensures { λ r. ⌜ r ≡ stored-spans (now (table .entry)) i ⌝ }
+{
+    let k = 18 * i + 8;
+    let mut spans = [0u32; SPANS];
+    let mut j: usize = 0;
+    while j < SPANS {
+        spans[j] = (table[k + j] % 4294967296) as u32;
+        j += 1;
+    }
+    spans
+}
+
+// What the table fixes of part `i`.
+pub fn component_at(table: &[u64], i: usize) -> Component
+    requires { ⌜ table-words (i + 1) ≤ length (now table) ⌝ }
+    ensures { λ r. ⌜ r ≡ stored-component (now (table .entry)) i ⌝ }
+{
+    let k = 18 * i;
+    let kind = kind_coded(table[k + 2]);
+    let a = word_signed(table[k + 4]);
+    let b = word_signed(table[k + 5]);
+    let spans = spans_at(table, i);
+    let port0 = source_coded(table[k + 16]);
+    let port1 = source_coded(table[k + 17]);
+    Component {
+        kind: kind,
+        preference: (table[k + 3] % 256) as u8,
+        a: a,
+        b: b,
+        p: (table[k + 6] % 4294967296) as u32,
+        span_count: table[k + 7] as usize,
+        spans: spans,
+        port0: port0,
+        port1: port1,
+    }
+}
+
+// The state of part `i`.
+pub fn state_at(state: &[u64], i: usize) -> State
+    requires { ⌜ state-words-of (i + 1) ≤ length (now state) ⌝ }
+    ensures { λ r. ⌜ r ≡ stored-state (now (state .entry)) i ⌝ }
+{
+    let k = 9 * i;
+    let local = LocalTicks(state[k + 2]);
+    let held = word_signed(state[k + 3]);
+    let speed = word_signed(state[k + 4]);
+    let signal = signal_coded(state[k + 5], state[k + 6]);
+    let output = signal_coded(state[k + 7], state[k + 8]);
+    let side = side_coded(state[k + 9]);
+    let mark = mark_coded(state[k + 10]);
+    State {
+        local: local,
+        held: held,
+        speed: speed,
+        signal: signal,
+        output: output,
+        side: side,
+        mark: mark,
+    }
+}
+
+// The stored output of part `i`, alone.
+pub fn output_at(state: &[u64], i: usize) -> Signal
+    requires { ⌜ state-words-of (i + 1) ≤ length (now state) ⌝ }
+    ensures { λ r. ⌜ r ≡ stored-state (now (state .entry)) i .output ⌝ }
+{
+    let k = 9 * i;
+    signal_coded(state[k + 7], state[k + 8])
+}
+
+// The part `i`.
+pub fn part_at(table: &[u64], state: &[u64], i: usize) -> Part
+    requires { ⌜ table-words (i + 1) ≤ length (now table) ⌝ }
+    requires { ⌜ state-words-of (i + 1) ≤ length (now state) ⌝ }
+    ensures { λ r. ⌜ r ≡ stored-part (now (table .entry)) (now (state .entry)) i ⌝ }
+{
+    let component = component_at(table, i);
+    let s = state_at(state, i);
+    let k = 18 * i;
+    Part {
+        component: component,
+        ratio: table[k + 18],
+        state: s,
+    }
+}

@@ -1,0 +1,74 @@
+// The state of a part, and the point, written into the words of a state.
+//
+// The contracts cite `specs/Updated.antt`: what was written is read back, and every other word is kept.
+use codec::fields::mark_code;
+use codec::fields::side_code;
+use codec::word::signed_word;
+use machine::part::State;
+use machine::signal::Signal;
+use machine::time::Point;
+ghost use mathlib.Core.Path.{_≡_};
+ghost use Prim.Native.Nat.{_+_, _*_, _≤_};
+ghost use lib.ListN.{length};
+ghost use Rattle.codec.specs.Words.{word-signed};
+ghost use Rattle.codec.specs.Encoded.{signal-code};
+ghost use Rattle.codec.specs.Decoded.{signal-of};
+ghost use Rattle.store.specs.Held.{state-words-of};
+ghost use Rattle.store.specs.Updated.{PointPut, StatePut};
+
+// The word of a signed number, which is read back as the number.
+fn word_of(v: i64) -> u64
+    ensures { λ r. ⌜ word-signed r ≡ v ⌝ }
+{
+    signed_word(v)
+}
+
+// The code of a signal: 0 where it is absent, else 1.
+fn signal_code(s: Signal) -> u64
+    ensures { λ r. ⌜ r ≡ signal-code s ⌝ }
+{
+    match s {
+        Signal::Absent => 0,
+        Signal::Value(_) => 1,
+    }
+}
+
+// The word of a signal's value, 0 where it is absent: with the code it is read back as the signal.
+fn signal_word(s: Signal) -> u64
+    ensures { λ r. ⌜ signal-of (signal-code s) r ≡ s ⌝ }
+{
+    match s {
+        Signal::Absent => 0,
+        Signal::Value(v) => word_of(v),
+    }
+}
+
+// The state of part `i`, written anew.
+pub fn put_state(state: &mut [u64], i: usize, s: State)
+    requires { ⌜ state-words-of (i + 1) ≤ length (now state) ⌝ }
+    ensures { λ r. ⌜ StatePut i s (now (state .entry)) (now (state .exit)) ⌝ }
+{
+    let k = 9 * i;
+    let signal = s.signal;
+    let output = s.output;
+    let side = s.side;
+    let mark = s.mark;
+    state[k + 2] = s.local.0;
+    state[k + 3] = word_of(s.held);
+    state[k + 4] = word_of(s.speed);
+    state[k + 5] = signal_code(signal);
+    state[k + 6] = signal_word(signal);
+    state[k + 7] = signal_code(output);
+    state[k + 8] = signal_word(output);
+    state[k + 9] = side_code(side);
+    state[k + 10] = mark_code(mark);
+}
+
+// The point, written anew.
+pub fn put_point(state: &mut [u64], to: Point)
+    requires { ⌜ 2 ≤ length (now state) ⌝ }
+    ensures { λ r. ⌜ PointPut to (now (state .entry)) (now (state .exit)) ⌝ }
+{
+    state[0] = to.t.0;
+    state[1] = to.n;
+}
