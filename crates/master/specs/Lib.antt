@@ -2,4 +2,5 @@
 pub mod Asked
 pub mod Searching
 pub mod Barring
+pub mod LentAsked
 pub mod EveryList

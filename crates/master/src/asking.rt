@@ -18,7 +18,7 @@ ghost use Rattle.machine.specs.Sound.{sound};
 ghost use Rattle.machine.specs.Advance.{any-due, any-objects, round};
 
 // The smaller of two steps.
-fn smaller(a: Ticks, b: Ticks) -> Ticks
+pub(crate) fn smaller(a: Ticks, b: Ticks) -> Ticks
     ensures { λ r. ⌜ r .0 ≡ min (a .0) (b .0) ⌝ }
 {
     if a.0 < b.0 {

@@ -9,6 +9,8 @@ ghost use Rattle.machine.specs.Calls.{Advanced};
 
 mod asking;
 mod barring;
+pub mod ending;
+mod lent_asking;
 mod past;
 mod search;
 

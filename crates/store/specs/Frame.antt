@@ -20,8 +20,9 @@ use Rattle.laws.specs.Bools.{either}
 use Rattle.codec.specs.Words.{table}
 use Rattle.codec.specs.Tables.{length-table, table-at, table-same}
 use Rattle.store.specs.Held.{lent, parts-lent, state-words-of, stored-component, stored-number, stored-ratio, stored-state, stored-part, stored-point, held, Room}
+use Rattle.store.specs.Form.{state-limits}
 use Rattle.store.specs.Written.{Outside}
-use Rattle.store.specs.Updated.{StatePut, PointPut, SameBehind}
+use Rattle.store.specs.Updated.{state-spelled, StatePut, PointPut, Copied, SameBehind, within-same}
 
 -- a table with one place set
 table-set : {A : Type 0} (f g : ℕ → A) (n i : ℕ) (v : A) → i < n → ((j : ℕ) → (j ≡ i → ⊥) → g j ≡ f j) → g i ≡ v →
@@ -94,6 +95,11 @@ pub state-kept : (a b : List ℕ) (i j : ℕ) (s : State) → StatePut i s a b �
 state-kept a b i j s put other =
     same-state a b j (λ x from to. put .others x (apart i j x other from to (either (ltb j i))))
 
+-- and whether their words are within their limits
+pub spelled-kept : (a b : List ℕ) (i j : ℕ) (s : State) → StatePut i s a b → (j ≡ i → ⊥) → state-spelled b j ≡ state-spelled a j
+spelled-kept a b i j s put other =
+    within-same a b (state-words-of j) state-limits (λ x from to. put .others x (apart i j x other from (omega arith) (either (ltb j i))))
+
 -- and the point
 pub point-kept : (a b : List ℕ) (i : ℕ) (s : State) → StatePut i s a b → stored-point b ≡ stored-point a
 unfolding stored-point
@@ -117,19 +123,54 @@ held-pointed ts a b now put =
     (table-same (stored-part ts b) (stored-part ts a) (parts-lent ts)
     (λ j low. ap (with-state (stored-part ts a j)) (same-state a b j (λ x from to. put .others x (omega arith)))))
 
+-- the model in words that were copied is the model that they were copied from
+pub held-copied : (ts l a b : List ℕ) → Copied (state-words-of (parts-lent ts)) l a b → held ts b ≡ held ts l
+unfolding held stored-part stored-point
+held-copied ts l a b copy =
+    ap₂ (λ (now : Point) (ps : List Part). with-parts (held ts l) now ps)
+    (rw (copy .front 0 (omega arith), copy .front 1 (omega arith)) refl)
+    (table-same (stored-part ts b) (stored-part ts l) (parts-lent ts)
+    (λ j low. ap (with-state (stored-part ts l j)) (same-state l b j (λ x from to. copy .front x (omega arith)))))
+
+pub behind-copied : (n : ℕ) (l a b : List ℕ) → Copied (state-words-of n) l a b → ((j : ℕ) → j < n → state-spelled l j ≡ true) → SameBehind n a b
+behind-copied n l a b copy spells =
+    record { size = copy .size; behind = copy .behind; form = λ j before. form j before (either (ltb j n)) }
+  where
+    form : (j : ℕ) → state-spelled a j ≡ true → (ltb j n ≡ true) ⊎ (ltb j n ≡ false) → state-spelled b j ≡ true
+    form j before (inl e) =
+        let low = ltb-true j n e in
+        within-same l b (state-words-of j) state-limits (λ x from to. copy .front x (omega arith)) ∙ spells j low
+    form j before (inr e) =
+        let high = ltb-false j n e in
+        within-same a b (state-words-of j) state-limits (λ x from to. copy .behind x (omega arith)) ∙ before
+
 -- the words behind the model's are kept by both, by nothing, and by one change after another
 pub behind-put : (n i : ℕ) (s : State) (a b : List ℕ) → StatePut i s a b → i < n → SameBehind n a b
-behind-put n i s a b put low = record { size = put .size; behind = λ x far. put .others x (inr (omega arith)) }
+behind-put n i s a b put low =
+    record { size = put .size; behind = λ x far. put .others x (inr (omega arith)); form = λ j before. form j before (either (eqb j i)) }
+  where
+    form : (j : ℕ) → state-spelled a j ≡ true → (eqb j i ≡ true) ⊎ (eqb j i ≡ false) → state-spelled b j ≡ true
+    form j before (inl e) = rw (eqb-true j i e) (put .form)
+    form j before (inr e) = spelled-kept a b i j s put (eqb-false j i e) ∙ before
 
 pub behind-pointed : (n : ℕ) (now : Point) (a b : List ℕ) → PointPut now a b → SameBehind n a b
-behind-pointed n now a b put = record { size = put .size; behind = λ x far. put .others x (omega arith) }
+behind-pointed n now a b put =
+    record {
+      size = put .size;
+      behind = λ x far. put .others x (omega arith);
+      form = λ j before. within-same a b (state-words-of j) state-limits (λ x from to. put .others x (omega arith)) ∙ before;
+    }
 
 pub behind-none : (n : ℕ) (a : List ℕ) → SameBehind n a a
-behind-none n a = record { size = refl; behind = λ x far. refl }
+behind-none n a = record { size = refl; behind = λ x far. refl; form = λ j before. before }
 
 pub behind-through : (n : ℕ) (a b c : List ℕ) → SameBehind n a b → SameBehind n b c → SameBehind n a c
 behind-through n a b c first second =
-    record { size = second .size ∙ first .size; behind = λ x far. second .behind x far ∙ first .behind x far }
+    record {
+      size = second .size ∙ first .size;
+      behind = λ x far. second .behind x far ∙ first .behind x far;
+      form = λ j before. second .form j (first .form j before);
+    }
 
 -- models of one table have the same unused places: none but of spans, which the table holds
 pub held-unused : (ts a b : List ℕ) → SameUnused (held ts a) (held ts b)

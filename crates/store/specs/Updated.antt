@@ -1,31 +1,40 @@
 -- What writing the state of a part, and the point, changes of the words, and of the model that they mean: the frame laws. Assumes nothing.
-use Prim.Native.Nat.{ℕ, _+_, _*_, _≤_, _<_}
+use Prim.Native.Nat.{ℕ, zero, suc, _+_, _*_, _≤_, _<_}
 use native.Mathlib.Omega.{arith}
-use mathlib.Core.Path.{_≡_, refl, sym, ap, _∙_}
+use mathlib.Core.Path.{_≡_, refl, sym, ap, ap₂, _∙_}
+use mathlib.Core.Bool.{Bool, true, false, _&&_}
 use mathlib.Core.Logic.{_⊎_, inl, inr}
 use mathlib.Core.List.{List, [], _∷_}
+use lib.Dec.{eqb, leb}
 use lib.ListN.{length, getD, set, length-set}
 use lib.Seq.{getD-set-same, getD-set-other}
+use borrow.Author.Tests.{eqb-true, eqb-false, le-leb}
 use Rattle.machine.specs.declared.time.Point.{Point}
+use Rattle.machine.specs.declared.signal.Signal.{Signal}
+use Rattle.machine.specs.declared.signal.Signal.the-variants.{Absent, Value}
 use Rattle.machine.specs.declared.part.Side.{Side}
 use Rattle.machine.specs.declared.part.Side.the-variants.{Unset, Negative, Positive}
 use Rattle.machine.specs.declared.part.Mark.{Mark}
 use Rattle.machine.specs.declared.part.Mark.the-variants.{Clear, Rising, Falling}
 use Rattle.machine.specs.declared.part.State.{State}
-use Rattle.machine.specs.declared.part.Part.{Part}
-use Rattle.machine.specs.declared.model.Model.{Model}
-use Rattle.machine.specs.Model.{part-at, blank-part, with-state, with-parts}
+use Rattle.laws.specs.Bools.{either}
 use Rattle.codec.specs.Words.{word-signed}
-use Rattle.codec.specs.Encoded.{side-code, mark-code}
+use Rattle.codec.specs.Encoded.{signal-code, side-code, mark-code}
 use Rattle.codec.specs.Decoded.{side-coded, mark-coded, signal-of}
-use Rattle.codec.specs.Tables.{table-at}
-use Rattle.store.specs.Held.{lent, parts-lent, state-words-of, stored-state, stored-part, stored-point, held}
+use Rattle.store.specs.Held.{lent, state-words-of, stored-state, stored-point}
+use Rattle.store.specs.Form.{any-word, state-limits, words-within}
 use Rattle.store.specs.Written.{Outside, written, length-written, written-at, written-outside}
 
--- the words b are the words a with the state s of part i written anew: it is read back, and every word outside its record is kept
+-- the words of part i's state are within their limits
+abbrev pub state-spelled : List ℕ → ℕ → Bool
+state-spelled ss i = words-within ss (state-words-of i) state-limits
+
+-- the words b are the words a with the state s of part i written anew: it is read back, from words within their limits, and every word outside its
+-- record is kept
 pub record StatePut (i : ℕ) (s : State) (a b : List ℕ) : Type 0 where
   pub size : length b ≡ length a
   pub is : stored-state b i ≡ s
+  pub form : state-spelled b i ≡ true
   pub others : (x : ℕ) → Outside (state-words-of i) (state-words-of (i + 1)) x → lent b x ≡ lent a x
 
 -- the words b are the words a with the point written anew
@@ -34,12 +43,56 @@ pub record PointPut (now : Point) (a b : List ℕ) : Type 0 where
   pub is : stored-point b ≡ now
   pub others : (x : ℕ) → 2 ≤ x → lent b x ≡ lent a x
 
--- the words behind a state of n parts, and how many there are, are the same
+-- the words b are the words a with the first n words of l copied into them
+pub record Copied (n : ℕ) (l a b : List ℕ) : Type 0 where
+  pub size : length b ≡ length a
+  pub front : (x : ℕ) → x < n → lent b x ≡ lent l x
+  pub behind : (x : ℕ) → n ≤ x → lent b x ≡ lent a x
+
+-- the words behind a state of n parts, and how many there are, are the same; and states within their limits are so still
 pub record SameBehind (n : ℕ) (a b : List ℕ) : Type 0 where
   pub size : length b ≡ length a
   pub behind : (x : ℕ) → state-words-of n ≤ x → lent b x ≡ lent a x
+  pub form : (j : ℕ) → state-spelled a j ≡ true → state-spelled b j ≡ true
 
--- the codes of sides and marks are read back
+-- words that are at most their limits one by one are within them
+within-all : (ws : List ℕ) (k : ℕ) (ls : List ℕ) → ((n : ℕ) → n < length ls → lent ws (k + n) ≤ getD ls n 0) → words-within ws k ls ≡ true
+unfolding words-within
+within-all ws k [] below = refl
+within-all ws k (l ∷ ls) below =
+    let first : k + 0 ≡ k = omega arith in
+    let here : lent ws k ≤ l = rw first at (below 0 (omega arith)) in
+    rw (
+      le-leb (lent ws k) l here,
+      within-all ws (k + 1) ls
+          (λ n low. let next : k + suc n ≡ k + 1 + n = omega arith in rw next at (below (suc n) (omega arith))),
+    )
+    refl
+
+-- the same words are within the same limits
+pub within-same : (a b : List ℕ) (k : ℕ) (ls : List ℕ) → ((x : ℕ) → k ≤ x → x < k + length ls → lent b x ≡ lent a x) →
+    words-within b k ls ≡ words-within a k ls
+unfolding words-within
+within-same a b k [] same = refl
+within-same a b k (l ∷ ls) same =
+    ap₂ _&&_ (ap (λ (v : ℕ). leb v l) (same k (omega arith) (omega arith)))
+    (within-same a b (k + 1) ls (λ x from to. same x (omega arith) (omega arith)))
+
+-- the codes of signals, sides and marks are within their limits, and those of sides and marks are read back
+pub signal-limit : (s : Signal) → signal-code s ≤ 1
+signal-limit Absent = omega arith
+signal-limit (Value v) = omega arith
+
+pub side-limit : (s : Side) → side-code s ≤ 2
+side-limit Unset = omega arith
+side-limit Negative = omega arith
+side-limit Positive = omega arith
+
+pub mark-limit : (m : Mark) → mark-code m ≤ 2
+mark-limit Clear = omega arith
+mark-limit Rising = omega arith
+mark-limit Falling = omega arith
+
 pub side-same : (s : Side) → side-coded (side-code s) ≡ s
 unfolding side-coded
 side-same Unset = refl
@@ -69,12 +122,43 @@ module _
   place : (n : ℕ) → n < 9 → lent after (9 * i + (2 + n)) ≡ getD nine n 0
   place n low = written-at a (9 * i) 2 n nine low (omega arith)
 
+  -- they are within their limits
+  pub record Limited : Type 0 where
+    pub local-fits : local ≤ any-word
+    pub held-fits : held-word ≤ any-word
+    pub speed-fits : speed-word ≤ any-word
+    pub signal-tagged : signal-tag ≤ 1
+    pub signal-fits : signal-word ≤ any-word
+    pub output-tagged : output-tag ≤ 1
+    pub output-fits : output-word ≤ any-word
+    pub sided : side-word ≤ 2
+    pub marked : mark-word ≤ 2
+
+  limits : Limited → (n : ℕ) → n < 9 → getD nine n 0 ≤ getD state-limits n 0
+  limits l zero low = l .local-fits
+  limits l (suc zero) low = l .held-fits
+  limits l (suc (suc zero)) low = l .speed-fits
+  limits l (suc (suc (suc zero))) low = l .signal-tagged
+  limits l (suc (suc (suc (suc zero)))) low = l .signal-fits
+  limits l (suc (suc (suc (suc (suc zero))))) low = l .output-tagged
+  limits l (suc (suc (suc (suc (suc (suc zero)))))) low = l .output-fits
+  limits l (suc (suc (suc (suc (suc (suc (suc zero))))))) low = l .sided
+  limits l (suc (suc (suc (suc (suc (suc (suc (suc zero)))))))) low = l .marked
+  limits l (suc (suc (suc (suc (suc (suc (suc (suc (suc n))))))))) low = absurd (omega arith)
+
+  within : Limited → state-spelled after i ≡ true
+  within l =
+      within-all after (9 * i + 2) state-limits
+      (λ n low.
+      let same : 9 * i + 2 + n ≡ 9 * i + (2 + n) = omega arith in
+      rw (ap (lent after) same ∙ place n low) (limits l n low))
+
   pub nine-put :
       local ≡ s .local .0 → word-signed held-word ≡ s .held → word-signed speed-word ≡ s .speed →
       signal-of signal-tag signal-word ≡ s .signal → signal-of output-tag output-word ≡ s .output →
-      side-coded side-word ≡ s .side → mark-coded mark-word ≡ s .mark → StatePut i s a after
+      side-coded side-word ≡ s .side → mark-coded mark-word ≡ s .mark → Limited → StatePut i s a after
   unfolding stored-state
-  nine-put e0 e1 e2 e3 e4 e5 e6 =
+  nine-put e0 e1 e2 e3 e4 e5 e6 limited =
       record {
         size = length-written a (9 * i) 2 nine;
         is =
@@ -97,6 +181,7 @@ module _
               e6,
             )
             refl;
+        form = within limited;
         others = λ x out. written-outside a (9 * i) 2 x nine (moved-out x out);
       }
     where
@@ -121,3 +206,23 @@ point-put a now room =
       others = λ x high.
           getD-set-other (set a 0 (now .t .0)) 1 x (now .n) 0 (λ e. omega arith) ∙ getD-set-other a 0 x (now .t .0) 0 (λ e. omega arith);
     }
+
+-- nothing is copied at first, and then one word more
+pub copied-none : (l a : List ℕ) → Copied 0 l a a
+copied-none l a = record { size = refl; front = λ x low. absurd (omega arith); behind = λ x far. refl }
+
+pub copied-more : (n : ℕ) (l a b : List ℕ) → Copied n l a b → n < length b → Copied (n + 1) l a (set b n (lent l n))
+copied-more n l a b done inside =
+    record {
+      size = length-set b n (lent l n) ∙ done .size;
+      front = λ x low. front x low (either (eqb x n));
+      behind = λ x far. getD-set-other b n x (lent l n) 0 (λ e. omega arith) ∙ done .behind x (omega arith);
+    }
+  where
+    front : (x : ℕ) → x < n + 1 → (eqb x n ≡ true) ⊎ (eqb x n ≡ false) → lent (set b n (lent l n)) x ≡ lent l x
+    front x low (inl e) =
+        let same : x ≡ n = eqb-true x n e in
+        ap (λ (k : ℕ). lent (set b n (lent l n)) k) same ∙ getD-set-same b n (lent l n) 0 inside ∙ ap (lent l) (sym same)
+    front x low (inr e) =
+        let other = eqb-false x n e in
+        getD-set-other b n x (lent l n) 0 other ∙ done .front x (omega arith)

@@ -14,7 +14,7 @@ ghost use Rattle.codec.specs.Words.{word-signed};
 ghost use Rattle.codec.specs.Encoded.{signal-code};
 ghost use Rattle.codec.specs.Decoded.{signal-of};
 ghost use Rattle.store.specs.Held.{state-words-of};
-ghost use Rattle.store.specs.Updated.{PointPut, StatePut};
+ghost use Rattle.store.specs.Updated.{Copied, PointPut, StatePut};
 
 // The word of a signed number, which is read back as the number.
 fn word_of(v: i64) -> u64
@@ -71,4 +71,17 @@ pub fn put_point(state: &mut [u64], to: Point)
 {
     state[0] = to.t.0;
     state[1] = to.n;
+}
+
+// The first `count` words of one state, copied into another.
+pub fn copy_words(old: &[u64], count: usize, new: &mut [u64])
+    requires { ⌜ count ≤ length (now old) ⌝ }
+    requires { ⌜ count ≤ length (now new) ⌝ }
+    ensures { λ r. ⌜ Copied count (now (old .entry)) (now (new .entry)) (now (new .exit)) ⌝ }
+{
+    let mut i: usize = 0;
+    while i < count {
+        new[i] = old[i];
+        i += 1;
+    }
 }

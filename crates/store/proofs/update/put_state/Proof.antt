@@ -5,7 +5,7 @@ use mir.Syntax.{w64}
 use mir.ValLaws.{toZ-ofZ}
 use lib.ListN.{length-set}
 use Rattle.store.specs.Written.{written}
-use Rattle.store.specs.Updated.{side-same, mark-same, nine-put}
+use Rattle.store.specs.Updated.{signal-limit, side-limit, mark-limit, side-same, mark-same, nine-put}
 use borrow.Author.Needs.{needs}
 use Rattle.store.proofs.update.put_state.Statement.{statement}
 use Rattle.store.proofs.update.put_state.Tie as tie
@@ -142,6 +142,17 @@ returns c =
     (rw (output-tag .signal-code2 .ensures) (output .signal-word2 .ensures))
     (rw (side .side-code .ensures) (side-same (s .side)))
     (rw (c .mark-code .ensures) (mark-same (s .mark)))
+    (record {
+      local-fits = omega (arith, held .before .struct-told .given .0 .1 .1 .0);
+      held-fits = omega (arith, held .word-of .ok);
+      speed-fits = omega (arith, speed .word-of2 .ok);
+      signal-tagged = rw (signal-tag .signal-code .ensures) (signal-limit (s .signal));
+      signal-fits = omega (arith, signal .signal-word .ok);
+      output-tagged = rw (output-tag .signal-code2 .ensures) (signal-limit (s .output));
+      output-fits = omega (arith, output .signal-word2 .ok);
+      sided = rw (side .side-code .ensures) (side-limit (s .side));
+      marked = rw (c .mark-code .ensures) (mark-limit (s .mark));
+    })
 
 pub put-state-spec : {M : Type 1} → statement M
 put-state-spec =

@@ -1,0 +1,47 @@
+-- Whether words spell a model: the table's and the state's words are all there, each code is one that a case has, and each number fits its field. Words
+-- behind the model's are free, and so is the value's word of an absent signal. Assumes nothing.
+use Prim.Native.Nat.{ℕ, zero, suc, _+_, _*_}
+use mathlib.Core.Bool.{Bool, true, _&&_}
+use mathlib.Core.List.{List, [], _∷_}
+use lib.ListN.{length}
+use lib.Dec.{leb}
+use Rattle.machine.specs.Model.{most-parts}
+use Rattle.store.specs.Held.{lent, parts-lent, table-words, state-words-of}
+
+-- the largest word, and the largest number of 32 bits
+abbrev pub any-word : ℕ
+any-word = 18446744073709551615
+
+abbrev pub any-32 : ℕ
+any-32 = 4294967295
+
+-- the largest numbers in the words of a part: its kind, preference, a, b, p and count of spans; eight spans; ports, ratio and place of the order
+abbrev pub table-limits : List ℕ
+table-limits =
+    12 ∷ 255 ∷ any-word ∷ any-word ∷ any-32 ∷ any-word ∷ any-32 ∷ any-32 ∷ any-32 ∷ any-32 ∷ any-32 ∷ any-32 ∷ any-32 ∷ any-32 ∷ 65536 ∷ 65536 ∷
+    any-word ∷ 65535 ∷ []
+
+-- and of its state: local count, held number and speed; the held signal and the output, each a code and a value; side and mark
+abbrev pub state-limits : List ℕ
+state-limits = any-word ∷ any-word ∷ any-word ∷ 1 ∷ any-word ∷ 1 ∷ any-word ∷ 2 ∷ 2 ∷ []
+
+-- the words from k on are at most the limits
+unfoldable pub words-within : List ℕ → ℕ → List ℕ → Bool
+words-within ws k [] = true
+words-within ws k (l ∷ ls) = leb (lent ws k) l && words-within ws (k + 1) ls
+
+-- the two records of part i
+unfoldable pub part-spelled : List ℕ → List ℕ → ℕ → Bool
+part-spelled ts ss i = words-within ts (18 * i + 2) table-limits && words-within ss (9 * i + 2) state-limits
+
+-- those of the first n parts
+unfoldable pub parts-spelled : List ℕ → List ℕ → ℕ → Bool
+parts-spelled ts ss zero = true
+parts-spelled ts ss (suc n) = parts-spelled ts ss n && part-spelled ts ss n
+
+-- the words spell a model
+unfoldable pub spelled : List ℕ → List ℕ → Bool
+spelled ts ss =
+    leb 2 (length ts) && leb (lent ts 0) 255 && leb (parts-lent ts) most-parts && leb (table-words (parts-lent ts)) (length ts) &&
+    leb (state-words-of (parts-lent ts)) (length ss) &&
+    parts-spelled ts ss (parts-lent ts)
