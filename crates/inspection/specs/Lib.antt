@@ -2,3 +2,5 @@
 pub mod Parts
 pub mod TrimmedPlaces
 pub mod Whole
+pub mod LentSurveyed
+pub mod LentWhole

@@ -16,6 +16,8 @@ use Rattle.laws.specs.ListLaws.{getD-map-in}
 use Rattle.laws.specs.Loops.{every-on}
 use Rattle.laws.specs.Partway.{mapped-at, mapped-length}
 use Rattle.soundness.specs.Magnitude.{magnitude-on}
+use Rattle.placing.specs.declared.Direct.{Direct}
+use Rattle.placing.specs.Direct.{direct-of}
 
 -- the preferences of the parts in use
 unfoldable pub preferences : Model → List ℕ
@@ -77,3 +79,14 @@ unfolding table-of trimmed trimmed-part
 components-trimmed m =
     let front = take (m .count) (m .parts) in
     map-map (λ (p : Part). p .component) trimmed-part front ∙ sym (map-map trimmed-component (λ (p : Part). p .component) front)
+
+-- the direct sources of a trimmed model's components are those of its parts in use, since trimming a component changes none of them
+pub directs-trimmed :
+    (m : Model) (ds : List Direct) → take (m .count) ds ≡ map (λ (p : Part). direct-of (p .component)) (take (m .count) (m .parts)) →
+    map direct-of (table-of (trimmed m) .parts) ≡ take (m .count) ds
+unfolding direct-of trimmed-component
+directs-trimmed m ds e =
+    let front = take (m .count) (m .parts) in
+    ap (map direct-of) (components-trimmed m) ∙
+    map-map direct-of trimmed-component (map (λ (p : Part). p .component) front) ∙
+    map-map direct-of (λ (p : Part). p .component) front ∙ sym e

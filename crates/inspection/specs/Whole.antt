@@ -183,19 +183,18 @@ module _ (x : Model) (counted : x .count ≡ length (x .parts)) (some : 1 ≤ le
 
 -- of a trimmed model, in its own places
 pub sound-trimmed :
-    (m : Model) → 1 ≤ m .count → m .count ≤ 32 → length (m .parts) ≡ 32 → sound (trimmed m) ≡ tests (m .count) (trimmed m)
+    (m : Model) → 1 ≤ m .count → m .count ≤ 32 → m .count ≤ length (m .parts) → sound (trimmed m) ≡ tests (m .count) (trimmed m)
 unfolding trimmed
-sound-trimmed m some few full =
-    let room : m .count ≤ length (m .parts) = omega (arith, few, full) in
+sound-trimmed m some few room =
     let n = components-count m room in
     sound-tests (trimmed m) (sym (parts-count m room)) (rw n some) (rw n few) ∙ ap (λ (k : ℕ). tests k (trimmed m)) n
 
 -- a model that says it has no part is not sound, nor one that says it has more than there are places
-pub unsound-none : (m : Model) → m .count < 1 → length (m .parts) ≡ 32 → sound (trimmed m) ≡ false
-unsound-none m none full =
+pub unsound-none : (m : Model) → m .count < 1 → sound (trimmed m) ≡ false
+unsound-none m none =
     refuted (sound (trimmed m))
     (λ h.
-    let room : m .count ≤ length (m .parts) = omega (arith, none, full) in
+    let room : m .count ≤ length (m .parts) = omega (arith, none) in
     let some = table-facts (table-of (trimmed m)) (sound-facts (trimmed m) h .table) .some in
     omega (arith, none, some, components-count m room))
 

@@ -1,5 +1,7 @@
 // The test of soundness, which advancing asks first. Its contract cites the machine's
 // `specs/Sound.antt`.
+use crate::lent_parts::parts_fit_in;
+use crate::lent_survey::surveyed_in;
 use crate::parts::parts_fit;
 use crate::survey::surveyed;
 use kinds::range::magnitude_known;
@@ -7,11 +9,19 @@ use machine::model::Model;
 use machine::model::PARTS;
 use machine::time::Point;
 use precedence::follows;
+use store::form::spelled;
+use store::lookup::parts_of;
+use store::lookup::point_of;
 ghost use mathlib.Core.Path.{_≡_};
+ghost use mathlib.Core.Bool.{_&&_};
 ghost use Rattle.machine.specs.Model.{trimmed};
 ghost use Rattle.machine.specs.Sound.{sound};
 ghost use Rattle.machine.specs.Time.{in-time};
+ghost use Rattle.store.specs.Held.{held};
+ghost use Rattle.store.specs.Form.{spelled};
 
+mod lent_parts;
+mod lent_survey;
 mod parts;
 mod survey;
 
@@ -49,6 +59,35 @@ pub fn is_sound(m: Model) -> bool
         return false;
     }
     let order = m.order;
+    let direct = survey.direct;
+    follows(order, direct, count)
+}
+
+// Whether words spell a sound model, whatever stands in them.
+pub fn is_sound_in(table: &[u64], state: &[u64]) -> bool
+    ensures { λ r. ⌜ r ≡ spelled (now (table .entry)) (now (state .entry)) && sound (trimmed (held (now (table .entry)) (now (state .entry)))) ⌝ }
+{
+    if !spelled(table, state) {
+        return false;
+    }
+    let count = parts_of(table);
+    if count < 1 {
+        return false;
+    }
+    let now = point_of(state);
+    if !in_time(now) {
+        return false;
+    }
+    let survey = surveyed_in(table);
+    let magnitude = survey.magnitude;
+    if !magnitude_known(magnitude) {
+        return false;
+    }
+    let t = now.t;
+    if !parts_fit_in(table, state, magnitude, t) {
+        return false;
+    }
+    let order = survey.order;
     let direct = survey.direct;
     follows(order, direct, count)
 }

@@ -41,7 +41,7 @@ fn state_fits(t: Ticks, ratio: u64, kind: Kind, state: State) -> bool
 }
 
 // Whether a part may be one of so many parts at tick t, by the master's magnitude.
-fn part_fits(p: Part, parts: usize, magnitude: u8, t: Ticks) -> bool
+pub(crate) fn part_fits(p: Part, parts: usize, magnitude: u8, t: Ticks) -> bool
     requires { ⌜ magnitude ≤ last-magnitude ⌝ }
     ensures { λ r. ⌜ r ≡ part-fits parts magnitude (t .0) (trimmed-part p) ⌝ }
 {

@@ -3,4 +3,6 @@ pub mod Asked
 pub mod Searching
 pub mod Barring
 pub mod LentAsked
+pub mod Into
+pub mod IntoLaws
 pub mod EveryList

@@ -11,6 +11,7 @@ mod asking;
 mod barring;
 pub mod ending;
 mod lent_asking;
+mod lent_search;
 mod past;
 mod search;
 

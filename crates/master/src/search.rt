@@ -37,7 +37,7 @@ fn refusal_of(m: Model, h: Ticks) -> u64
 }
 
 // Whether a round at `h` that came to `least` changed nothing.
-fn changed_nothing(least: Ticks, h: Ticks) -> bool
+pub(crate) fn changed_nothing(least: Ticks, h: Ticks) -> bool
     ensures { λ r. ⌜ r ≡ eqb (least .0) (h .0) ⌝ }
 {
     least.0 == h.0

@@ -8,5 +8,8 @@ pub mod Moving
 pub mod Settling
 pub mod FillingInOrder
 pub mod Showing
+pub mod LentFilling
 pub mod StepMade
+pub mod LentMoving
+pub mod LentStep
 pub mod Start

@@ -60,14 +60,14 @@ module _
   inside = omega (arith, changed-count new (partly old new i) next half, fit .places)
 
   -- it is that of a part in use
-  number-below : getD (next .order) i 0 < next .count
+  pub number-below : getD (next .order) i 0 < next .count
   unfolding trimmed
   number-below =
       rw (number-next, changed-count new (partly old new i) next half)
       (all-at (λ (k : ℕ). k < new .count) (trimmed new .order) 0 i (fit .order) inside)
 
   -- the half filled model is wired as `new` is
-  half-wired : Wired (trimmed next)
+  pub half-wired : Wired (trimmed next)
   half-wired =
       changed-wired new (partly old new i) next half
       (filled-kept (λ (p : Part). p .component) (λ p out. refl) (trimmed old .parts) (new .point) (take i (trimmed new .order)) (trimmed new .parts))

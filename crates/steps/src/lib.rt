@@ -3,6 +3,10 @@
 // definitions of `machine` and of this crate's `specs/`.
 mod filling;
 pub mod heard;
+mod lent_filling;
+mod lent_moving;
+mod lent_settling;
+pub mod lent_step;
 mod moving;
 mod settling;
 pub mod start;

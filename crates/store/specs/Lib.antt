@@ -4,3 +4,5 @@ pub mod Form
 pub mod Written
 pub mod Updated
 pub mod Frame
+pub mod Spelling
+pub mod Respelled

@@ -1,35 +1,21 @@
 -- `is_sound` makes the tests of the trimmed model one by one, which together are soundness: behind the tests that hold, soundness is the next one and
 -- those behind it, so that where one fails the model is not sound whatever the others say.
+use Prim.Native.Nat.{_≤_}
 use native.Mathlib.Omega.{arith}
-use mathlib.Core.Path.{_≡_, _∙_, sym, ap}
+use mathlib.Core.Path.{_≡_, _∙_, sym}
 use mathlib.Core.Bool.{_&&_}
-use mathlib.Core.List.{List, map, map-map}
-use lib.ListN.{length, length-map, take}
+use lib.ListN.{length, length-map}
 use borrow.Author.Needs.{needs}
 use borrow.Author.Tests.{leb-true, not-true, not-false}
 use Rattle.machine.specs.Time.{magnitude-known, last-magnitude}
-use Rattle.machine.specs.declared.part.Part.{Part}
 use Rattle.machine.specs.declared.model.Model.{Model}
-use Rattle.machine.specs.Model.{trimmed, trimmed-component}
+use Rattle.machine.specs.Model.{trimmed}
 use Rattle.machine.specs.Table.{table-of, magnitude-of}
 use Rattle.machine.specs.Sound.{sound}
-use Rattle.placing.specs.declared.Direct.{Direct}
-use Rattle.placing.specs.Direct.{direct-of}
-use Rattle.inspection.specs.TrimmedPlaces.{components-trimmed}
+use Rattle.inspection.specs.TrimmedPlaces.{directs-trimmed}
 use Rattle.inspection.specs.Whole.{order-holds, parts-hold, magnitude-holds, tests-by, magnitude-by, parts-by, passed, failed, sound-trimmed, unsound-none, unsound-many}
 use Rattle.inspection.proofs.is_sound.Statement.{statement}
 use Rattle.inspection.proofs.is_sound.Tie as tie
-
--- the direct sources of a trimmed model's components are those of its parts in use, since trimming a component changes none of them
-of-trimmed :
-    (m : Model) (ds : List Direct) → take (m .count) ds ≡ map (λ (p : Part). direct-of (p .component)) (take (m .count) (m .parts)) →
-    map direct-of (table-of (trimmed m) .parts) ≡ take (m .count) ds
-unfolding direct-of trimmed-component
-of-trimmed m ds e =
-    let front = take (m .count) (m .parts) in
-    ap (map direct-of) (components-trimmed m) ∙
-    map-map direct-of trimmed-component (map (λ (p : Part). p .component) front) ∙
-    map-map direct-of (λ (p : Part). p .component) front ∙ sym e
 
 -- a model has 32 places for parts
 full : (c : tie.Start) → length (c .args .m .parts) ≡ 32
@@ -54,7 +40,8 @@ by-time c =
     let counted = c .before .before in
     let start = counted .before .before in
     let m = start .args .m in
-    sound-trimmed m (counted .before .if1 .left) (counted .if2 .left) (full start) ∙
+    let room : m .count ≤ length (m .parts) = omega (arith, counted .if2 .left, full start) in
+    sound-trimmed m (counted .before .if1 .left) (counted .if2 .left) room ∙
     tests-by (m .count) (trimmed m) (c .in-time .result) (c .in-time .ensures)
 
 by-magnitude : (c : tie.After-magnitude-known) →
@@ -76,9 +63,7 @@ by-parts c =
     parts-by (m .count) (known c .before .surveyed .result .magnitude) (trimmed m) (c .parts-fit .result) (c .parts-fit .ensures)
 
 returns : tie.Need-returns
-returns c =
-    let start = c .before in
-    sym (unsound-none (start .args .m) (c .if1 .taken) (full start))
+returns c = sym (unsound-none (c .before .args .m) (c .if1 .taken))
 
 returns-2 : tie.Need-returns-2
 returns-2 c =
@@ -119,7 +104,7 @@ returns-6 c =
     let parts = c .before .before .before .before in
     let m = model (timed (known parts)) in
     let survey = known parts .before .surveyed in
-    c .follows .ensures (table-of (trimmed m) .parts) (of-trimmed m (survey .result .direct) (survey .ensures .1)) ∙
+    c .follows .ensures (table-of (trimmed m) .parts) (directs-trimmed m (survey .result .direct) (survey .ensures .1)) ∙
     sym (passed _ _ _ (by-parts parts) (not-false (parts .parts-fit .result) (c .before .before .before .if5 .left)))
 
 pub is-sound-spec : {M : Type 1} → statement M

@@ -1,0 +1,117 @@
+-- From the machine's answer to what a call on lent words promises: the search's answer by value, told of the model that words mean, is what the search in
+-- words owes; a call that is barred writes nothing; and where nothing bars it the search's promise is the call's. Assumes nothing.
+use Prim.Native.Nat.{ℕ, _≤_, _<_}
+use native.Mathlib.Omega.{arith}
+use mathlib.Core.Path.{_≡_, refl, sym, ap, _∙_}
+use mathlib.Core.Bool.{true, false, _&&_}
+use mathlib.Core.Logic.{_⊎_, inl, inr}
+use mathlib.Core.List.{List}
+use lib.ListN.{length}
+use borrow.Author.Tests.{eq-eqb, ne-eqb, le-leb, lt-leb}
+use Rattle.machine.specs.declared.model.Answer.{Answer}
+use Rattle.machine.specs.Model.{trimmed, trimmed-answer}
+use Rattle.machine.specs.Sound.{sound}
+use Rattle.machine.specs.Advance.{Outcome, searched, barred, barred-outcome, outcome, answer-with}
+use Rattle.laws.specs.Bools.{and-false-cases, either}
+use Rattle.stepsearch.specs.Outcomes.{outcome-barred, outcome-searched}
+use Rattle.store.specs.Held.{held, parts-lent, state-words-of}
+use Rattle.store.specs.Form.{spelled}
+use Rattle.store.specs.Updated.{state-spelled, SameBehind}
+use Rattle.store.specs.Frame.{behind-none}
+use Rattle.store.specs.Respelled.{respelled}
+use Rattle.master.specs.declared.ending.Ending.{Ending}
+use Rattle.master.specs.Searching.{Searched}
+use Rattle.master.specs.Into.{ending-of, lent-model, SearchedInto, unless-short, outcome-with, outcome-into, CalledInto}
+
+-- an answer without its model
+abbrev pub ended : Answer → Ending
+ended r = record { number = r .number; step = r .step; rounds = r .rounds; revisions = r .revisions; ceiling = r .ceiling }
+
+-- an answer of the search whose model is the one that the words b mean
+pub searched-words : (ts os a b : List ℕ) (w : ℕ) (r : Answer) → Searched (held ts os) w r → 0 < r .rounds → trimmed (r .model) ≡ lent-model ts b →
+    ((j : ℕ) → j < parts-lent ts → state-spelled b j ≡ true) → SameBehind (parts-lent ts) a b →
+    SearchedInto (searched (lent-model ts os) w) ts os a b (ended r)
+unfolding answer-with trimmed-answer
+searched-words ts os a b w r found asked holds form behind =
+    record {
+      ends = ap ended (found .machine);
+      asked = asked;
+      next = sym holds ∙ ap (λ (x : Answer). x .model) (found .machine);
+      form = form;
+      behind = behind;
+    }
+
+-- how a call ends that something bars, one whose words for the new state are too few, and one that is searched
+with-barred : (ts os : List ℕ) (w room k : ℕ) → k ≡ barred (lent-model ts os) w → (k ≡ 0 → ⊥) → outcome-with ts os w room ≡ barred-outcome k
+unfolding outcome-with unless-short
+with-barred ts os w room k e other =
+    let m = lent-model ts os in
+    let bars : barred m w ≡ 0 → ⊥ = λ z. other (e ∙ z) in
+    rw (ne-eqb (barred m w) 0 bars) (outcome-barred m w bars ∙ ap barred-outcome (sym e))
+
+with-short : (ts os : List ℕ) (w room : ℕ) → barred (lent-model ts os) w ≡ 0 → room < state-words-of (parts-lent ts) →
+    outcome-with ts os w room ≡ barred-outcome 25
+unfolding outcome-with unless-short
+with-short ts os w room none short =
+    rw (eq-eqb (barred (lent-model ts os) w) 0 none, lt-leb (state-words-of (parts-lent ts)) room short) refl
+
+with-searched : (ts os : List ℕ) (w room : ℕ) → barred (lent-model ts os) w ≡ 0 → state-words-of (parts-lent ts) ≤ room →
+    outcome-with ts os w room ≡ searched (lent-model ts os) w
+unfolding outcome-with unless-short
+with-searched ts os w room none enough =
+    rw (eq-eqb (barred (lent-model ts os) w) 0 none, le-leb (state-words-of (parts-lent ts)) room enough) (outcome-searched (lent-model ts os) w none)
+
+-- a call that is barred writes nothing
+called-barred : (o : Outcome) (ts os a : List ℕ) (k : ℕ) → o ≡ barred-outcome k → CalledInto o ts os a a (ending-of (barred-outcome k))
+called-barred o ts os a k e =
+    record {
+      ends = ap ending-of (sym e);
+      barred = λ none. refl;
+      next = λ some. absurd (omega arith);
+      form = λ some. absurd (omega arith);
+      behind = behind-none (parts-lent ts) a;
+    }
+
+pub barred-call : (ts os a : List ℕ) (w k : ℕ) → k ≡ barred (lent-model ts os) w → (k ≡ 0 → ⊥) →
+    CalledInto (outcome-with ts os w (length a)) ts os a a (ending-of (barred-outcome k))
+barred-call ts os a w k e other =
+    called-barred (outcome-with ts os w (length a)) ts os a k (with-barred ts os w (length a) k e other)
+
+pub short-call : (ts os a : List ℕ) (w : ℕ) → barred (lent-model ts os) w ≡ 0 → length a < state-words-of (parts-lent ts) →
+    CalledInto (outcome-with ts os w (length a)) ts os a a (ending-of (barred-outcome 25))
+short-call ts os a w none short =
+    called-barred (outcome-with ts os w (length a)) ts os a 25 (with-short ts os w (length a) none short)
+
+-- a call that nothing bars is the search
+pub searched-call : (ts os a b : List ℕ) (w : ℕ) (r : Ending) → spelled ts os ≡ true → barred (lent-model ts os) w ≡ 0 →
+    state-words-of (parts-lent ts) ≤ length a → SearchedInto (searched (lent-model ts os) w) ts os a b r →
+    CalledInto (outcome-with ts os w (length a)) ts os a b r
+searched-call ts os a b w r spells none enough found =
+    let same = with-searched ts os w (length a) none enough in
+    record {
+      ends = found .ends ∙ ap ending-of (sym same);
+      barred = λ no-round. absurd (omega (arith, found .asked));
+      next = λ some. found .next ∙ ap (λ (o : Outcome). answer-with (lent-model ts os) o .model) (sym same);
+      form = λ some. respelled ts os b spells (omega (arith, enough, found .behind .size)) (found .form);
+      behind = found .behind;
+    }
+
+-- a call whose words are found to spell a sound model, and one whose words are not
+pub spelled-call : (ts os a b : List ℕ) (w : ℕ) (r : Ending) → spelled ts os ≡ true → CalledInto (outcome-with ts os w (length a)) ts os a b r →
+    CalledInto (outcome-into ts os w (length a)) ts os a b r
+unfolding outcome-into
+spelled-call ts os a b w r spells called = rw spells called
+
+unsound-outcome : (ts os : List ℕ) (w room : ℕ) → (spelled ts os ≡ false) ⊎ (sound (lent-model ts os) ≡ false) → (spelled ts os ≡ true) ⊎ (spelled ts os ≡ false) →
+    outcome-into ts os w room ≡ barred-outcome 24
+unfolding outcome-into barred
+unsound-outcome ts os w room (inl none) known = rw none refl
+unsound-outcome ts os w room (inr unsound) (inl spells) =
+    rw spells (with-barred ts os w room 24 (rw unsound refl) (λ z. omega arith))
+unsound-outcome ts os w room (inr unsound) (inr none) = rw none refl
+
+pub unsound-call : (ts os a : List ℕ) (w : ℕ) → spelled ts os && sound (lent-model ts os) ≡ false →
+    CalledInto (outcome-into ts os w (length a)) ts os a a (ending-of (barred-outcome 24))
+unsound-call ts os a w fails =
+    called-barred (outcome-into ts os w (length a)) ts os a 24
+    (unsound-outcome ts os w (length a) (and-false-cases (spelled ts os) (sound (lent-model ts os)) fails) (either (spelled ts os)))

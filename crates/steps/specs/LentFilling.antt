@@ -1,0 +1,167 @@
+-- What a turn of filling outputs in the words of a state asks, and what it comes to: the laws of showing the next part, over the models that the words mean.
+-- The idea: the parts, the numbers and the outputs that are read from the words are those of these models, and the state that is written changes one of
+-- their parts. Assumes nothing.
+use Prim.Native.Nat.{ℕ, _+_, _≤_, _<_}
+use native.Mathlib.Omega.{arith}
+use mathlib.Core.Path.{_≡_, refl, sym, ap, subst, _∙_}
+use mathlib.Core.Bool.{true}
+use mathlib.Core.List.{List}
+use lib.ListN.{length, getD, set}
+use Rattle.machine.specs.declared.time.Point.{Point}
+use Rattle.machine.specs.declared.signal.Signal.{Signal}
+use Rattle.machine.specs.declared.part.Source.{Source}
+use Rattle.machine.specs.declared.part.Part.{Part}
+use Rattle.machine.specs.Signal.{is-signal}
+use Rattle.machine.specs.Kind.{output}
+use Rattle.machine.specs.Model.{most-parts, part-at, with-parts, with-state, reading0, reading1, trimmed}
+use Rattle.machine.specs.Step.{with-output, shown, filled}
+use Rattle.point.specs.PartRanges as point
+use Rattle.store.specs.Held.{Room, table-words, state-words-of, parts-lent, stored-number, stored-part, stored-point, stored-state, held}
+use Rattle.store.specs.Updated.{SameBehind, StatePut}
+use Rattle.store.specs.Frame.{held-number, held-part, held-put}
+use Rattle.steps.specs.Reading.{WiredBelow, source-index, index-below, heard, heard0, heard1}
+use Rattle.steps.specs.Trimmed.{Changed}
+use Rattle.steps.specs.Fillable.{Fillable, wired-at}
+use Rattle.steps.specs.Showing.{partly, Showable, number-below, half-wired, showable, shown-next, all-filled, heard-shown}
+
+-- the words of each part are there
+pub table-room : (ts ss : List ℕ) → Room ts ss → (j : ℕ) → j < parts-lent ts → table-words (j + 1) ≤ length ts
+table-room ts ss room j low = omega (arith, room .table, low)
+
+pub state-room : (ts ss : List ℕ) → Room ts ss → (j : ℕ) → j < parts-lent ts → state-words-of (j + 1) ≤ length ss
+state-room ts ss room j low = omega (arith, room .state, low)
+
+-- and still are once words were written in place
+pub room-kept : (ts a b : List ℕ) (n : ℕ) → SameBehind n a b → Room ts a → Room ts b
+room-kept ts a b n same room = record { table = room .table; state = rw (same .size) (room .state) }
+
+-- a turn that shows the part p with the number k, which is the i-th of the order, in the words ns; the words os stand at the point before, and ns₀ are those before
+-- the first turn: what it asks, and what it comes to
+pub record LentTurn (ts os ns₀ ns : List ℕ) (i k : ℕ) (p : Part) : Type 0 where
+  pub place : i < most-parts
+  pub number : k < parts-lent ts
+  pub source0 : source-index (p .component .port0) < parts-lent ts
+  pub source1 : source-index (p .component .port1) < parts-lent ts
+  pub ranges : point.PartFits p
+  pub signal0 : (k0 : ℕ) (out0 x : Signal) → k0 ≡ source-index (p .component .port0) → out0 ≡ stored-state ns k0 .output →
+      x ≡ heard (p .component .port0) out0 → is-signal x ≡ true
+  pub signal1 : (k1 : ℕ) (out1 y : Signal) → k1 ≡ source-index (p .component .port1) → out1 ≡ stored-state ns k1 .output →
+      y ≡ heard (p .component .port1) out1 → is-signal y ≡ true
+  -- what was heard, shown and written fills one output more
+  pub fills : (now : Point) (k0 k1 : ℕ) (out0 out1 earlier x y before out : Signal) (v : Part) (then : List ℕ) → now ≡ stored-point ns₀ →
+      k0 ≡ source-index (p .component .port0) → k1 ≡ source-index (p .component .port1) →
+      out0 ≡ stored-state ns k0 .output → out1 ≡ stored-state ns k1 .output → earlier ≡ stored-state os k0 .output →
+      x ≡ heard (p .component .port0) out0 → y ≡ heard (p .component .port1) out1 → before ≡ heard (p .component .port0) earlier →
+      out ≡ output p now x y before → v ≡ with-output p out → StatePut k (v .state) ns then →
+      Changed (held ts ns₀) (partly (held ts os) (held ts ns₀) (i + 1)) (held ts then)
+
+-- a part with its output is the part with the state of that
+output-state : (p v : Part) (out : Signal) → v ≡ with-output p out → with-state p (v .state) ≡ v
+output-state p v out e = rw e refl
+
+-- the output of a part in the words is that of the part in the model
+output-held : (ts ss : List ℕ) (s : Source) (k : ℕ) (out x : Signal) → k < parts-lent ts → out ≡ stored-state ss k .output → x ≡ heard s out →
+    x ≡ heard s (part-at (held ts ss .parts) k .state .output)
+unfolding stored-part
+output-held ts ss s k out x low e hears = hears ∙ ap (heard s) (e ∙ ap (λ (q : Part). q .state .output) (sym (held-part ts ss k low)))
+
+module _
+    (ts os ns₀ ns : List ℕ)
+    (fit : Fillable (trimmed (held ts os)) (trimmed (held ts ns₀)))
+    (i : ℕ)
+    (half : Changed (held ts ns₀) (partly (held ts os) (held ts ns₀) i) (held ts ns))
+    (low : i < parts-lent ts) where
+  within : i < held ts ns .count
+  unfolding held
+  within = low
+
+  -- the number that is next in the order, and its part
+  next-number : getD (held ts ns .order) i 0 ≡ stored-number ts i
+  next-number = held-number ts ns i low
+
+  number-low : stored-number ts i < parts-lent ts
+  unfolding held
+  number-low = rw next-number at (number-below (held ts os) (held ts ns₀) fit (held ts ns) i half within)
+
+  next-part : part-at (held ts ns .parts) (stored-number ts i) ≡ stored-part ts ns (stored-number ts i)
+  next-part = held-part ts ns (stored-number ts i) number-low
+
+  -- what the law of the next part says of them
+  next-showable : Showable (held ts ns .parts) i (stored-number ts i)
+  next-showable = subst (Showable (held ts ns .parts) i) next-number (showable (held ts os) (held ts ns₀) fit (held ts ns) i half within)
+
+  next-wired : WiredBelow (parts-lent ts) (stored-part ts ns (stored-number ts i) .component)
+  unfolding held
+  next-wired =
+      subst (λ (q : Part). WiredBelow (parts-lent ts) (q .component)) next-part
+      (wired-at (held ts ns) (half-wired (held ts os) (held ts ns₀) fit (held ts ns) i half within) (stored-number ts i) number-low)
+
+  -- the part shown, and its state written, fills one output more
+  next-filled :
+      (v : Part) (then : List ℕ) →
+      v ≡ shown (held ts os .parts) (held ts ns₀ .point) (held ts ns .parts) (stored-part ts ns (stored-number ts i)) →
+      with-state (stored-part ts ns (stored-number ts i)) (v .state) ≡ v → StatePut (stored-number ts i) (v .state) ns then →
+      Changed (held ts ns₀) (partly (held ts os) (held ts ns₀) (i + 1)) (held ts then)
+  next-filled v then shows same put =
+      let old = held ts os in
+      let new = held ts ns₀ in
+      let next = held ts ns in
+      let k = stored-number ts i in
+      let p = stored-part ts ns k in
+      let part : p ≡ part-at (next .parts) (getD (next .order) i 0) = sym (ap (part-at (next .parts)) next-number ∙ next-part) in
+      let is : held ts then ≡ with-parts next (next .point) (set (next .parts) k v) =
+      held-put ts ns then k (v .state) put number-low ∙ ap (λ (q : Part). with-parts next (next .point) (set (next .parts) k q)) same in
+      subst (Changed new (partly old new (i + 1))) (sym is)
+      (subst (λ (j : ℕ). Changed new (partly old new (i + 1)) (with-parts next (next .point) (set (next .parts) j v))) next-number
+      (shown-next old new fit next i half within v (shows ∙ ap (shown (old .parts) (new .point) (next .parts)) part)))
+
+  -- so it is a turn
+  next-turn : LentTurn ts os ns₀ ns i (stored-number ts i) (stored-part ts ns (stored-number ts i))
+  unfolding held
+  next-turn =
+      let n = parts-lent ts in
+      let k = stored-number ts i in
+      let p = stored-part ts ns k in
+      let qs = held ts ns .parts in
+      let some : 0 < n = omega arith in
+      let below0 : source-index (p .component .port0) < n = index-below n (p .component .port0) some (next-wired .port0) in
+      let below1 : source-index (p .component .port1) < n = index-below n (p .component .port1) some (next-wired .port1) in
+      let signals0 : is-signal (reading0 qs p) ≡ true = subst (λ (q : Part). is-signal (reading0 qs q) ≡ true) next-part (next-showable .signal0) in
+      let signals1 : is-signal (reading1 qs p) ≡ true = subst (λ (q : Part). is-signal (reading1 qs q) ≡ true) next-part (next-showable .signal1) in
+      record {
+        place = next-showable .place;
+        number = number-low;
+        source0 = below0;
+        source1 = below1;
+        ranges = subst point.PartFits next-part (next-showable .ranges);
+        signal0 = λ k0 out0 x e0 eo ex.
+            rw (heard0 qs p k0 x e0 (output-held ts ns (p .component .port0) k0 out0 x (rw e0 below0) eo ex)) signals0;
+        signal1 = λ k1 out1 y e1 eo ey.
+            rw (heard1 qs p k1 y e1 (output-held ts ns (p .component .port1) k1 out1 y (rw e1 below1) eo ey)) signals1;
+        fills = λ now k0 k1 out0 out1 earlier x y before out v then en e0 e1 eo0 eo1 eoe ex ey eb eo ev put.
+            next-filled v then
+            (heard-shown (held ts os .parts) qs (held ts ns₀ .point) p v k0 k1 x y before out e0 e1
+            (output-held ts ns (p .component .port0) k0 out0 x (rw e0 below0) eo0 ex)
+            (output-held ts ns (p .component .port1) k1 out1 y (rw e1 below1) eo1 ey)
+            (output-held ts os (p .component .port0) k0 earlier before (rw e0 below0) eoe eb)
+            (eo ∙ ap (λ (q : Point). output p q x y before) en) ev)
+            (output-state p v out ev) put;
+      }
+
+  -- the number that was read is a part's
+  pub lent-number : (k : ℕ) → k ≡ stored-number ts i → k < parts-lent ts
+  lent-number k ek = rw ek number-low
+
+  -- the turn, of what was read
+  pub lent-turn : (k : ℕ) (p : Part) → k ≡ stored-number ts i → p ≡ stored-part ts ns k → LentTurn ts os ns₀ ns i k p
+  lent-turn k p ek ep =
+      subst (LentTurn ts os ns₀ ns i k) (sym ep)
+      (subst (λ (j : ℕ). LentTurn ts os ns₀ ns i j (stored-part ts ns j)) (sym ek) next-turn)
+
+-- all of them filled is the model filled
+pub lent-filled :
+    (ts os ns₀ ns : List ℕ) → Fillable (trimmed (held ts os)) (trimmed (held ts ns₀)) → (i : ℕ) →
+    Changed (held ts ns₀) (partly (held ts os) (held ts ns₀) i) (held ts ns) → parts-lent ts ≤ i →
+    Changed (held ts ns₀) (filled (trimmed (held ts os) .parts) (held ts ns₀ .point) (trimmed (held ts ns₀) .order) (trimmed (held ts ns₀) .parts)) (held ts ns)
+unfolding held
+lent-filled ts os ns₀ ns fit i half past = all-filled (held ts os) (held ts ns₀) fit (held ts ns) i half past

@@ -1,0 +1,233 @@
+-- Parts moved, and parts settled, in the words of a state: what holds after i parts, after one part more, and after all. Each part is read from words and
+-- its state alone is written, so that each turn of these loops is told of the model that the words mean. Assumes nothing.
+use Prim.Native.Nat.{ℕ, _+_, _≤_, _<_}
+use native.Mathlib.Omega.{arith}
+use mathlib.Core.Path.{_≡_, sym, ap, subst, _∙_}
+use mathlib.Core.Bool.{true, false}
+use mathlib.Core.List.{List, map}
+use mathlib.Core.Logic.{_⊎_, inl, inr}
+use lib.ListN.{length, length-map}
+use lib.Seq.{ext-getD}
+use lib.Dec.{ltb}
+use borrow.Author.Tests.{ltb-true, ltb-false}
+use Rattle.machine.specs.declared.time.Point.{Point}
+use Rattle.machine.specs.declared.signal.Signal.{Signal}
+use Rattle.machine.specs.declared.part.State.{State}
+use Rattle.machine.specs.declared.part.Part.{Part}
+use Rattle.machine.specs.Time.{last-tick, tick}
+use Rattle.machine.specs.Model.{blank-part, part-at, with-state, with-parts, reading0, trimmed, trimmed-part, trimmed-component, spare-spans}
+use Rattle.machine.specs.Step.{moved, all-moved, settled, all-settled}
+use Rattle.machine.specs.Sound.{sound}
+use Rattle.laws.specs.Bools.{either}
+use Rattle.laws.specs.ListLaws.{getD-map-in}
+use Rattle.laws.specs.Partway.{mapped-length}
+use Rattle.store.specs.Held.{parts-lent, stored-component, stored-part, stored-point, stored-state, held}
+use Rattle.store.specs.Updated.{state-spelled, StatePut, SameBehind}
+use Rattle.store.specs.Frame.{held-many, held-part, held-put, held-unused, state-kept, spelled-kept, behind-put, behind-none, behind-through}
+use Rattle.steps.specs.Reading.{SourceBelow, WiredBelow, source-index, heard, heard0, index-below, part-trimmed}
+use Rattle.steps.specs.Trimmed.{Changed, none-changed}
+use Rattle.steps.specs.Fillable.{Wired, part-in-use, wired-at, reading-in-use}
+use Rattle.steps.specs.WiredParts.{sound-wired}
+use Rattle.steps.specs.InPlace.{by-reading, changed-to, LoopTurn, turn, all-changed}
+use Rattle.steps.specs.Moving.{Movable, moving, movable, movable-untrimmed}
+use Rattle.steps.specs.Settling.{settles, settling, settled-same}
+use Rattle.steps.specs.StepMade.{at-point}
+
+-- the parts that words mean, trimmed: as many as the table says, each that of its words
+lent-many : (ts ss : List ℕ) → length (trimmed (held ts ss) .parts) ≡ parts-lent ts
+unfolding trimmed held
+lent-many ts ss = mapped-length trimmed-part (parts-lent ts) (held ts ss .parts) (rw (held-many ts ss) (omega arith))
+
+lent-part : (ts ss : List ℕ) (i : ℕ) → i < parts-lent ts → part-at (trimmed (held ts ss) .parts) i ≡ trimmed-part (stored-part ts ss i)
+unfolding trimmed held
+lent-part ts ss i low =
+    part-trimmed (parts-lent ts) (held ts ss .parts) i low (rw (held-many ts ss) (omega arith)) ∙ ap trimmed-part (held-part ts ss i low)
+
+-- where the model that words mean is wired to its own parts
+module _ (ts ss : List ℕ) (wired : Wired (trimmed (held ts ss))) (i : ℕ) (low : i < parts-lent ts) where
+  port-below : SourceBelow (parts-lent ts) (stored-component ts i .port0)
+  unfolding held stored-part
+  port-below = (subst (λ (p : Part). WiredBelow (parts-lent ts) (p .component)) (held-part ts ss i low) (wired-at (held ts ss) wired i low)) .port0
+
+  -- the part that port 0 of part i is wired to is one of them, whatever states are read with the table
+  pub lent-source : (now : List ℕ) (p : Part) (k : ℕ) → p ≡ stored-part ts now i → k ≡ source-index (p .component .port0) → k < parts-lent ts
+  unfolding stored-part
+  lent-source now p k is index =
+      rw (index, is) (index-below (parts-lent ts) (stored-component ts i .port0) (omega arith) port-below)
+
+-- what a port is heard to read, of the words of its source, is heard of the model's part
+lent-heard :
+    (ts ss : List ℕ) (p : Part) (k : ℕ) (out x : Signal) → k < parts-lent ts → out ≡ stored-state ss k .output → x ≡ heard (p .component .port0) out →
+    x ≡ heard (p .component .port0) (part-at (held ts ss .parts) k .state .output)
+unfolding stored-part
+lent-heard ts ss p k out x low is hears =
+    hears ∙ ap (heard (p .component .port0)) (is ∙ sym (ap (λ (q : Part). q .state .output) (held-part ts ss k low)))
+
+-- of the words b, which were a, the first i parts are settled, each by its reading in the model of a
+pub record LentSettled (ts a : List ℕ) (i : ℕ) (b : List ℕ) : Type 0 where
+  pub changed : Changed (held ts a) (changed-to settled (held ts a) i) (held ts b)
+  pub behind : SameBehind (parts-lent ts) a b
+
+-- at first none is
+pub none-settled : (ts a : List ℕ) → LentSettled ts a 0 a
+none-settled ts a = record { changed = none-changed (held ts a); behind = behind-none (parts-lent ts) a }
+
+-- the part i of b, read from words
+module _
+    (ts a : List ℕ)
+    (wired : Wired (trimmed (held ts a)))
+    (i : ℕ)
+    (b : List ℕ)
+    (so-far : LentSettled ts a i b)
+    (low : i < parts-lent ts)
+    (p : Part)
+    (is : p ≡ stored-part ts b i) where
+  -- the turn of the loop over the models that the words mean, and its part
+  at : LoopTurn settled (held ts a) (held ts b) i
+  unfolding held
+  at = turn settled settling (held ts a) wired (held ts b) i (so-far .changed) low
+
+  same : p ≡ part-at (held ts b .parts) i
+  same = is ∙ sym (held-part ts b i low)
+
+  -- it is passed over, where settling keeps it
+  pub settled-passes : settles (p .component .kind) ≡ false → LentSettled ts a (i + 1) b
+  unfolding trimmed-part trimmed-component
+  settled-passes none =
+      let ps = trimmed (held ts a) .parts in
+      let q = part-at ps i in
+      let kept : settles (q .component .kind) ≡ false =
+      ap (λ (r : Part). settles (r .component .kind)) (sym (at .unchanged)) ∙ ap (λ (r : Part). settles (r .component .kind)) (sym same) ∙ none in
+      record { changed = at .passes (settled-same (reading0 ps q) q kept); behind = so-far .behind }
+
+  -- or settled, and its state is written
+  pub settled-more :
+      (k : ℕ) (out x : Signal) (q : Part) (c : List ℕ) → k ≡ source-index (p .component .port0) → out ≡ stored-state b k .output →
+      x ≡ heard (p .component .port0) out → q ≡ settled x p → StatePut i (q .state) b c → LentSettled ts a (i + 1) c
+  unfolding settled
+  settled-more k out x q c index from hears settles put =
+      let there = lent-source ts a wired i low b p k is index in
+      let next = held ts b in
+      let reads =
+      at .reads k x (index ∙ ap (λ (r : Part). source-index (r .component .port0)) same)
+      (lent-heard ts b p k out x there from hears ∙ ap (λ (r : Part). heard (r .component .port0) (part-at (next .parts) k .state .output)) same) in
+      let v = with-state (stored-part ts b i) (q .state) in
+      let becomes : v ≡ settled x (part-at (next .parts) i) =
+      ap (λ (r : Part). with-state (stored-part ts b i) (r .state)) (settles ∙ ap (settled x) is) ∙ ap (settled x) (sym (held-part ts b i low)) in
+      record {
+        changed =
+            subst (Changed (held ts a) (changed-to settled (held ts a) (i + 1))) (sym (held-put ts b c i (q .state) put low)) (at .changes x v reads becomes);
+        behind = behind-through (parts-lent ts) a b c (so-far .behind) (behind-put (parts-lent ts) i (q .state) b c put low);
+      }
+
+-- and at last all are
+pub settled-done :
+    (ts a : List ℕ) → Wired (trimmed (held ts a)) → (i : ℕ) (b : List ℕ) → LentSettled ts a i b → parts-lent ts ≤ i →
+    Changed (held ts a) (all-settled (trimmed (held ts a) .parts)) (held ts b)
+unfolding all-settled held
+settled-done ts a wired i b so-far past = all-changed settled (held ts a) wired (held ts b) i (so-far .changed) past
+
+-- the state of part j of the old words, moved by its reading among them
+abbrev pub moved-state : List ℕ → List ℕ → ℕ → ℕ → ℕ → State
+moved-state ts old t h j = moved t h (reading0 (trimmed (held ts old) .parts) (stored-part ts old j)) (stored-part ts old j) .state
+
+-- in the words b, which were a, stand the moved states of the first i parts of the old words, within their limits
+pub record LentMoved (ts old : List ℕ) (t h : ℕ) (a : List ℕ) (i : ℕ) (b : List ℕ) : Type 0 where
+  pub states : (j : ℕ) → j < i → stored-state b j ≡ moved-state ts old t h j
+  pub form : (j : ℕ) → j < i → state-spelled b j ≡ true
+  pub behind : SameBehind (parts-lent ts) a b
+
+-- the tick that the old words are read to stand at is that of their model
+pub lent-tick : (ts old : List ℕ) (now : Point) → now ≡ stored-point old → now .t .0 ≡ tick (held ts old .point)
+unfolding held
+lent-tick ts old now is = ap tick is
+
+-- at first none does
+pub none-moved : (ts old : List ℕ) (t h : ℕ) (a : List ℕ) → LentMoved ts old t h a 0 a
+none-moved ts old t h a = record { states = λ j below. absurd (omega arith); form = λ j below. absurd (omega arith); behind = behind-none (parts-lent ts) a }
+
+-- the part i of the old words
+module _ (ts old : List ℕ) (is-sound : sound (trimmed (held ts old)) ≡ true) (i : ℕ) (low : i < parts-lent ts) (p : Part) (is : p ≡ stored-part ts old i) where
+  wires : Wired (trimmed (held ts old))
+  wires = sound-wired (trimmed (held ts old)) is-sound
+
+  -- it can be moved
+  pub lent-movable : (t h : ℕ) → t ≡ tick (held ts old .point) → h ≤ 1_000_000_000 → tick (held ts old .point) + h ≤ last-tick → Movable t h p
+  unfolding trimmed held
+  lent-movable t h now small far =
+      let m = held ts old in
+      let inside : i < length (trimmed m .parts) = rw (← wires .counted) low in
+      let can = movable (trimmed m) is-sound h i inside small far in
+      rw (now, is, ← held-part ts old i low) (movable-untrimmed (tick (m .point)) h (part-at (m .parts) i) (rw (part-in-use m wires i low) can))
+
+  -- what its port 0 is heard to read is its reading
+  pub lent-reading :
+      (k : ℕ) (out x : Signal) → k ≡ source-index (p .component .port0) → out ≡ stored-state old k .output →
+      x ≡ heard (p .component .port0) out → x ≡ reading0 (trimmed (held ts old) .parts) p
+  unfolding reading0 held stored-part
+  lent-reading k out x index from hears =
+      let m = held ts old in
+      let there = lent-source ts old wires i low old p k is index in
+      heard0 (m .parts) p k x index (lent-heard ts old p k out x there from hears) ∙
+      reading-in-use m wires (p .component .port0) (rw is (port-below ts old wires i low))
+
+  -- moved, and its state written
+  pub moved-more :
+      (t h : ℕ) (a b c : List ℕ) (x : Signal) (q : Part) → LentMoved ts old t h a i b → x ≡ reading0 (trimmed (held ts old) .parts) p →
+      q ≡ moved t h x p → StatePut i (q .state) b c → LentMoved ts old t h a (i + 1) c
+  moved-more t h a b c x q so-far reads moves put =
+      record {
+        states = λ j below. state-at j below (either (ltb j i));
+        form = λ j below. form-at j below (either (ltb j i));
+        behind = behind-through (parts-lent ts) a b c (so-far .behind) (behind-put (parts-lent ts) i (q .state) b c put low);
+      }
+    where
+      state-at : (j : ℕ) → j < i + 1 → (ltb j i ≡ true) ⊎ (ltb j i ≡ false) → stored-state c j ≡ moved-state ts old t h j
+      state-at j below (inl e) =
+          let before = ltb-true j i e in state-kept b c i j (q .state) put (λ same. omega arith) ∙ so-far .states j before
+      state-at j below (inr e) =
+          let same : i ≡ j = omega (arith, ltb-false j i e) in
+          let f = by-reading (moved t h) (trimmed (held ts old) .parts) in
+          subst (λ (l : ℕ). stored-state c l ≡ moved-state ts old t h l) same
+          (put .is ∙ ap (λ (r : Part). r .state) (moves ∙ ap (λ (y : Signal). moved t h y p) reads ∙ ap f is))
+
+      form-at : (j : ℕ) → j < i + 1 → (ltb j i ≡ true) ⊎ (ltb j i ≡ false) → state-spelled c j ≡ true
+      form-at j below (inl e) =
+          let before = ltb-true j i e in spelled-kept b c i j (q .state) put (λ same. omega arith) ∙ so-far .form j before
+      form-at j below (inr e) =
+          let same : i ≡ j = omega (arith, ltb-false j i e) in subst (λ (l : ℕ). state-spelled c l ≡ true) same (put .form)
+
+-- and at last all do: the new words mean the moved parts
+module _ (ts old : List ℕ) (t h : ℕ) (a : List ℕ) (i : ℕ) (b : List ℕ) (so-far : LentMoved ts old t h a i b) (past : parts-lent ts ≤ i) where
+  moved-part-at :
+      (j : ℕ) → j < parts-lent ts →
+      trimmed-part (stored-part ts b j) ≡ by-reading (moved t h) (trimmed (held ts old) .parts) (trimmed-part (stored-part ts old j))
+  unfolding stored-part moved reading0 trimmed-part trimmed-component
+  moved-part-at j low =
+      let p = stored-part ts old j in
+      let ps = trimmed (held ts old) .parts in
+      ap (λ (s : State). trimmed-part (with-state p s)) (so-far .states j (omega arith)) ∙ moving t h .unread (reading0 ps p) p
+
+  all-parts : trimmed (held ts b) .parts ≡ all-moved t h (trimmed (held ts old) .parts)
+  unfolding all-moved
+  all-parts =
+      let ps = trimmed (held ts old) .parts in
+      let f = by-reading (moved t h) ps in
+      let many = lent-many ts b in
+      ext-getD blank-part (trimmed (held ts b) .parts) (map f ps) (many ∙ sym (length-map ps f ∙ lent-many ts old))
+      (λ j inside.
+      let low : j < parts-lent ts = omega arith in
+      let within : j < length ps = omega (arith, lent-many ts old) in
+      lent-part ts b j low ∙ moved-part-at j low ∙ sym (getD-map-in f ps j blank-part blank-part within ∙ ap f (lent-part ts old j low)))
+
+  pub moved-done :
+      t ≡ tick (held ts old .point) →
+      Changed (held ts old) (all-moved (tick (held ts old .point)) h (trimmed (held ts old) .parts)) (at-point (held ts b) (held ts old .point))
+  unfolding trimmed held spare-spans
+  moved-done now =
+      let rest = held-unused ts old b in
+      let moves : ℕ → List Part = λ u. all-moved u h (trimmed (held ts old) .parts) in
+      record {
+        is = ap (with-parts (trimmed (held ts old)) (held ts old .point)) (all-parts ∙ ap moves now);
+        unused = record { orders = rest .orders; parts = rest .parts; spans = rest .spans };
+      }

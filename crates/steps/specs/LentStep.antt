@@ -1,0 +1,81 @@
+-- A step made of moving, filling and settling in words: where it leads, what each asks of the words that the one before it gives, and what they come to. The
+-- idea: the new state's words, with the parts moved and the point written, mean the moved model at the new point, of which the laws of a step by value speak.
+-- Assumes nothing.
+use Prim.Native.Nat.{ℕ, _+_, _≤_, _<_}
+use mathlib.Core.Path.{_≡_, sym, ap, subst, _∙_}
+use mathlib.Core.Bool.{true}
+use mathlib.Core.List.{List}
+use Rattle.machine.specs.declared.time.Point.{Point}
+use Rattle.machine.specs.declared.time.Stepped.the-variants.{To, Past}
+use Rattle.machine.specs.declared.model.Model.{Model}
+use Rattle.machine.specs.Time.{last-microstep, last-tick, led-to, stepped, tick}
+use Rattle.machine.specs.Model.{trimmed}
+use Rattle.machine.specs.Sound.{sound}
+use Rattle.machine.specs.Step.{all-moved, filled, all-settled, step-made}
+use Rattle.store.specs.Held.{stored-point, held}
+use Rattle.store.specs.Updated.{PointPut, SameBehind}
+use Rattle.store.specs.Frame.{held-pointed, behind-pointed, behind-through}
+use Rattle.steps.specs.Trimmed.{Changed}
+use Rattle.steps.specs.Fillable.{Wired, Fillable}
+use Rattle.steps.specs.StepMade.{at-point, never-past, leads-to, made-is, made-fillable, filled-settled, filled-settleable}
+
+-- the point that was read is the model's, so that a step within the time never leads past it, and where it leads is the definition's point
+module _
+    (ts os : List ℕ)
+    (from : Point)
+    (h : ℕ)
+    (reads : from ≡ stored-point os)
+    (within : tick (held ts os .point) + h ≤ last-tick)
+    (before : h ≡ 0 → held ts os .point .n < last-microstep) where
+  pub lent-never-past : stepped from h ≡ Past → ⊥
+  unfolding held
+  lent-never-past past = never-past (held ts os .point) h within before (ap (λ (p : Point). stepped p h) (sym reads) ∙ past)
+
+  pub lent-leads-to : (to : Point) → stepped from h ≡ To to → to ≡ led-to (held ts os .point) h
+  unfolding held
+  lent-leads-to to leads = leads-to (held ts os .point) to h within before (ap (λ (p : Point). stepped p h) (sym reads) ∙ leads)
+
+-- the words a, the parts moved, and b, the point written too
+module _
+    (ts os a b : List ℕ)
+    (to : Point)
+    (h : ℕ)
+    (moves :
+    Changed (held ts os) (all-moved (tick (held ts os .point)) h (trimmed (held ts os) .parts)) (at-point (held ts a) (held ts os .point)))
+    (put : PointPut to a b) where
+  -- what the moved words mean, at the old point
+  abbrev moved-model : Model
+  moved-model = at-point (held ts a) (held ts os .point)
+
+  pointed : held ts b ≡ at-point moved-model to
+  pointed = held-pointed ts a b to put
+
+  -- what filling asks
+  pub lent-fillable : sound (trimmed (held ts os)) ≡ true → Fillable (trimmed (held ts os)) (trimmed (held ts b))
+  lent-fillable s =
+      subst (λ (x : Model). Fillable (trimmed (held ts os)) (trimmed x)) (sym pointed) (made-fillable (held ts os) moved-model to h s moves)
+
+  -- the words f, the outputs filled
+  module _
+      (f : List ℕ)
+      (fills :
+      Changed (held ts b) (filled (trimmed (held ts os) .parts) (held ts b .point) (trimmed (held ts b) .order) (trimmed (held ts b) .parts)) (held ts f)) where
+    -- what settling asks
+    pub lent-settleable : sound (trimmed (held ts os)) ≡ true → Wired (trimmed (held ts f))
+    lent-settleable s = filled-settleable (trimmed (held ts os) .parts) (held ts b) (held ts f) (lent-fillable s .wired) fills
+
+    -- the words r, the parts settled: the step made
+    pub lent-made :
+        (r : List ℕ) → Changed (held ts f) (all-settled (trimmed (held ts f) .parts)) (held ts r) → to ≡ led-to (held ts os .point) h →
+        trimmed (held ts r) ≡ step-made (trimmed (held ts os)) h
+    lent-made r settles leads =
+        let old = trimmed (held ts os) .parts in
+        made-is (held ts os) moved-model (held ts r) to h leads moves
+        (subst (λ (x : Model). Changed x (all-settled (filled old (x .point) (trimmed x .order) (trimmed x .parts))) (held ts r)) pointed
+        (filled-settled old (held ts b) (held ts f) (held ts r) fills settles))
+
+-- the words behind the model's are kept through it all
+pub lent-behind :
+    (n : ℕ) (new a b f r : List ℕ) (to : Point) → SameBehind n new a → PointPut to a b → SameBehind n b f → SameBehind n f r → SameBehind n new r
+lent-behind n new a b f r to moves put fills settles =
+    behind-through n new a r moves (behind-through n a b r (behind-pointed n to a b put) (behind-through n b f r fills settles))

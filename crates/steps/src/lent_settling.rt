@@ -1,0 +1,47 @@
+// Every part settled in the words of the new state, once the outputs of the point are there.
+//
+// Its contract cites `machine`'s `specs/Step.antt`, `store`'s `specs/Held.antt` and `specs/Updated.antt`, and this crate's
+// `specs/Trimmed.antt` and `specs/Fillable.antt`.
+use crate::heard::heard_of;
+use crate::heard::source_index;
+use crate::settling::settles;
+use point::change::settled_part;
+use store::lookup::output_at;
+use store::lookup::part_at;
+use store::lookup::parts_of;
+use store::update::put_state;
+ghost use Rattle.machine.specs.Model.{trimmed};
+ghost use Rattle.machine.specs.Step.{all-settled};
+ghost use Rattle.store.specs.Held.{Room, held, parts-lent};
+ghost use Rattle.store.specs.Updated.{SameBehind};
+ghost use Rattle.steps.specs.Trimmed.{Changed};
+ghost use Rattle.steps.specs.Fillable.{Wired};
+
+// All parts settled, one after the other in place: settling changes no stored output. A part that settling does not
+// change is passed over.
+pub(crate) fn settled_into(table: &[u64], new: &mut [u64])
+    requires { ⌜ Room (now table) (now new) ⌝ }
+    requires { ⌜ Wired (trimmed (held (now table) (now new))) ⌝ }
+    ensures { λ r. ⌜ Changed (held (now (table .entry)) (now (new .entry))) (all-settled (trimmed (held (now (table .entry)) (now (new .entry))) .parts)) (held (now (table .entry)) (now (new .exit))) ⌝ }
+    ensures { λ r. ⌜ SameBehind (parts-lent (now (table .entry))) (now (new .entry)) (now (new .exit)) ⌝ }
+{
+    let count = parts_of(table);
+    let mut i: usize = 0;
+    while i < count {
+        let p = part_at(table, new, i);
+        let c = p.component;
+        let kind = c.kind;
+        if !settles(kind) {
+            i += 1;
+            continue;
+        }
+        let s = c.port0;
+        let k = source_index(s);
+        let out = output_at(new, k);
+        let x = heard_of(s, out);
+        let settled = settled_part(p, x);
+        let state = settled.state;
+        put_state(new, i, state);
+        i += 1;
+    }
+}
