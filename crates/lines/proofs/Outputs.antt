@@ -1,17 +1,20 @@
--- Laws of the line of a committed advance: its outputs one by one, and its text as the pieces in which the code puts it. Assumes nothing.
+-- Laws of the line of a call on lent words: its outputs one by one, as the words hold them, and its text as the pieces in which the code puts it.
+-- The idea: the model that the words mean has as many places as parts, and trimming it leaves its outputs. Assumes nothing.
 use Prim.Native.Nat.{ℕ, zero, suc, _+_, _<_}
 use native.Mathlib.Numerals.{add-one}
 use native.Mathlib.Omega.{arith}
-use mathlib.Core.Path.{_≡_, refl}
+use mathlib.Core.Path.{_≡_, refl, sym, ap}
 use mathlib.Core.List.{List, [], _∷_, _++_, map, append-assoc, append-nil}
 use lib.ListN.{length, getD, take}
 use borrow.Author.Tests.{eq-eqb, ne-eqb}
 use Rattle.machine.specs.declared.part.Part.{Part}
-use Rattle.machine.specs.declared.model.Answer.{Answer}
 use Rattle.machine.specs.Time.{tick}
-use Rattle.machine.specs.Model.{trimmed, trimmed-answer, trimmed-part}
+use Rattle.machine.specs.Model.{blank-part, trimmed, trimmed-part}
 use Rattle.machine.specs.Rehearse.{answer-line, blank, committed-line, line-feed, outputs-text, refused-line, signal-text}
+use Rattle.store.specs.Held.{held, parts-lent, stored-part, stored-point, stored-state}
+use Rattle.store.specs.Frame.{held-part}
 use Rattle.lines.specs.LineNumbers.{numbers-text}
+use Rattle.lines.specs.LentLines.{lent-answer}
 
 -- the outputs of one part more
 outputs-suc : (ps : List Part) (i : ℕ) (d : Part) → i < length ps →
@@ -31,15 +34,20 @@ unfolding outputs-text trimmed-part
 outputs-trimmed [] = refl
 outputs-trimmed (p ∷ ps) = simp (outputs-trimmed ps)
 
--- the line of an answer: of a refused advance, and of a committed one
-pub refused-answer : (r : Answer) → (r .number ≡ 0 → ⊥) → answer-line (trimmed-answer r) ≡ refused-line (r .number)
-unfolding answer-line trimmed-answer
-refused-answer r h = simp (ne-eqb _ _ h)
+-- the stored output of a part of the model that words mean
+pub lent-output : (ts ss : List ℕ) (i : ℕ) → i < parts-lent ts → stored-state ss i .output ≡ getD (held ts ss .parts) i blank-part .state .output
+unfolding stored-part
+lent-output ts ss i low = sym (ap (λ (p : Part). p .state .output) (held-part ts ss i low))
 
-pub committed-answer : (r : Answer) → r .number ≡ 0 →
-    (numbers-text (tick (r .model .point)) (r .model .point .n) (r .step) (r .rounds) (r .revisions) ++
-    outputs-text (take (r .model .count) (r .model .parts))) ++
+-- the line of a call on lent words: of a refused one, and of a committed one
+pub refused-lent : (ts ss : List ℕ) (number step rounds revisions : ℕ) → (number ≡ 0 → ⊥) → (ceiling : ℕ) →
+    refused-line number ≡ answer-line (lent-answer ts ss number step rounds revisions ceiling)
+unfolding answer-line
+refused-lent ts ss number step rounds revisions h ceiling = simp (ne-eqb _ _ h)
+
+pub committed-lent : (ts ss : List ℕ) (number step rounds revisions : ℕ) → number ≡ 0 → (ceiling : ℕ) →
+    (numbers-text (tick (stored-point ss)) (stored-point ss .n) step rounds revisions ++ outputs-text (take (parts-lent ts) (held ts ss .parts))) ++
     (line-feed ∷ []) ≡
-    answer-line (trimmed-answer r)
-unfolding answer-line committed-line numbers-text trimmed-answer trimmed
-committed-answer r h = simp (eq-eqb _ _ h, append-assoc, outputs-trimmed)
+    answer-line (lent-answer ts ss number step rounds revisions ceiling)
+unfolding answer-line committed-line numbers-text trimmed held
+committed-lent ts ss number step rounds revisions h ceiling = simp (eq-eqb _ _ h, append-assoc, outputs-trimmed)

@@ -1,27 +1,19 @@
-// The lines of a rehearsal, each written into a buffer that the caller lends. A line is built in an
-// array of its own, so that its length is known before the buffer is touched. The promises cite the
-// machine's `Rehearse.antt` and `writing`'s `specs/Written.antt`.
+// The lines of a rehearsal's refusals, each written into a buffer that the caller lends, and the numbers
+// that begin the line of a committed advance. A line is built in an array of its own, so that its length
+// is known before the buffer is touched. The promises cite the machine's `Rehearse.antt` and `writing`'s
+// `specs/Put.antt` and `specs/Written.antt`.
 use crate::text::put_decimal;
-use crate::text::put_output;
-use machine::model::Answer;
-use machine::model::PARTS;
 use writing::put::put_byte;
 use writing::put::put_text;
 use writing::written::Written;
 use writing::written::write_text;
-ghost use mathlib.Core.Path.{_≡_};
 ghost use mathlib.Core.List.{_∷_, [], _++_};
-ghost use Prim.Native.Nat.{_+_, _≤_, min};
+ghost use Prim.Native.Nat.{_+_, _≤_};
 ghost use lib.ListN.{length};
-ghost use Rattle.machine.specs.Model.{trimmed-answer};
-ghost use Rattle.machine.specs.Rehearse.{answer-line, blank, decimal, refused-at-line, refused-line, refused-text};
+ghost use Rattle.machine.specs.Rehearse.{blank, decimal, refused-at-line, refused-line, refused-text};
 ghost use Rattle.writing.specs.Put.{Put};
 ghost use Rattle.writing.specs.Written.{WrittenAs};
 ghost use Rattle.lines.specs.LineNumbers.{numbers-text};
-
-// How many bytes a line is built in. The longest line of a committed advance has 777: five numbers of
-// 20 digits with four blanks, 32 outputs of 20 characters with a blank before each, and a line feed.
-const ROOM: usize = 1024;
 
 // How many bytes the line of a refusal is built in. The longest has 53: `refused ` and ` at `, two
 // numbers of 20 digits, and a line feed.
@@ -66,7 +58,14 @@ fn put_number(line: &mut [u8], at: usize, n: u64) -> usize
 }
 
 // The numbers that begin the line of a committed advance.
-fn put_numbers(line: &mut [u8], t: u64, n: u64, step: u64, rounds: u64, revisions: u64) -> usize
+pub(crate) fn put_numbers(
+    line: &mut [u8],
+    t: u64,
+    n: u64,
+    step: u64,
+    rounds: u64,
+    revisions: u64,
+) -> usize
     requires { ⌜ 104 ≤ length (now line) ⌝ }
     ensures { λ r. ⌜ Put 104 (numbers-text t n step rounds revisions) 0 (now (line .entry)) (now (line .exit)) r ⌝ }
 {
@@ -77,15 +76,8 @@ fn put_numbers(line: &mut [u8], t: u64, n: u64, step: u64, rounds: u64, revision
     put_decimal(line, at, revisions)
 }
 
-// How many of a model's places hold a part: as many as it says, or all.
-fn used(count: usize) -> usize
-    ensures { λ r. ⌜ r ≡ min count 32 ⌝ }
-{
-    if count < PARTS { count } else { PARTS }
-}
-
 // The line of a refused advance.
-fn write_refused(number: u64, buf: &mut [u8]) -> Written
+pub(crate) fn write_refused(number: u64, buf: &mut [u8]) -> Written
     ensures { λ w. ⌜ WrittenAs (refused-line number) (now (buf .entry)) (now (buf .exit)) w ⌝ }
     ensures { λ w. ⌜ w .length ≤ 64 ⌝ }
 {
@@ -102,35 +94,4 @@ pub fn write_refused_at(number: u64, position: usize, buf: &mut [u8]) -> Written
     let mut line = [0u8; REFUSAL_ROOM];
     let end = put_refused_at_line(&mut line, number, position as u64);
     write_text(&line[..end], buf)
-}
-
-// The line of an answer, whatever numbers it holds.
-pub fn write_answer(answer: Answer, buf: &mut [u8]) -> Written
-    ensures { λ w. ⌜ WrittenAs (answer-line (trimmed-answer answer)) (now (buf .entry)) (now (buf .exit)) w ⌝ }
-    ensures { λ w. ⌜ w .length ≤ 1024 ⌝ }
-{
-    if answer.number != 0 {
-        return write_refused(answer.number, buf);
-    }
-    let model = answer.model;
-    let mut line = [0u8; ROOM];
-    let mut at = put_numbers(
-        &mut line,
-        model.point.t.0,
-        model.point.n,
-        answer.step,
-        answer.rounds,
-        answer.revisions,
-    );
-    let end = used(model.count);
-    let mut i = 0;
-    while i < end {
-        let part = model.parts[i];
-        let state = part.state;
-        let output = state.output;
-        at = put_output(&mut line, at, output);
-        i += 1;
-    }
-    at = put_byte(&mut line, at, b'\n');
-    write_text(&line[..at], buf)
 }

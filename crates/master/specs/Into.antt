@@ -12,11 +12,11 @@ use Rattle.machine.specs.Advance.{Outcome, searched, barred, barred-outcome, ou
 use Rattle.store.specs.Held.{held, parts-lent, state-words-of}
 use Rattle.store.specs.Form.{spelled}
 use Rattle.store.specs.Updated.{state-spelled, SameBehind}
-use Rattle.master.specs.declared.ending.Ending.{Ending}
+use Rattle.master.specs.declared.verdict.Verdict.{Verdict}
 
 -- an outcome, as a call on words hands it over
-abbrev pub ending-of : Outcome → Ending
-ending-of o = record { number = o .number; step = o .step; rounds = o .rounds; revisions = o .revisions; ceiling = o .ceiling }
+abbrev pub verdict-of : Outcome → Verdict
+verdict-of o = record { number = o .number; step = o .step; rounds = o .rounds; revisions = o .revisions; ceiling = o .ceiling }
 
 -- the model that the words of a table and of a state mean, which the machine is asked of
 abbrev pub lent-model : List ℕ → List ℕ → Model
@@ -24,8 +24,8 @@ lent-model ts ss = trimmed (held ts ss)
 
 -- what the search promises of the words b, which were a, and of how it ends, o being the machine's outcome: it ends so, after a round; b then spells the model of the
 -- machine's answer, the step made or the model handed in; and the words behind the model's are kept
-pub record SearchedInto (o : Outcome) (ts os a b : List ℕ) (r : Ending) : Type 0 where
-  pub ends : r ≡ ending-of o
+pub record SearchedInto (o : Outcome) (ts os a b : List ℕ) (r : Verdict) : Type 0 where
+  pub ends : r ≡ verdict-of o
   pub asked : 0 < r .rounds
   pub next : lent-model ts b ≡ answer-with (lent-model ts os) o .model
   pub form : (j : ℕ) → j < parts-lent ts → state-spelled b j ≡ true
@@ -46,8 +46,8 @@ outcome-into ts os w room = cond (spelled ts os) (outcome-with ts os w room) (ba
 -- what a call promises of the words b, which were a, and of how it ends, o being the outcome. A call that is barred makes no round and writes no word; of
 -- one that made a round, b spells the model of the machine's answer: the step made, or where it is refused the model handed in. The words behind
 -- the model's are kept
-pub record CalledInto (o : Outcome) (ts os a b : List ℕ) (r : Ending) : Type 0 where
-  pub ends : r ≡ ending-of o
+pub record CalledInto (o : Outcome) (ts os a b : List ℕ) (r : Verdict) : Type 0 where
+  pub ends : r ≡ verdict-of o
   pub barred : r .rounds ≡ 0 → b ≡ a
   pub next : 0 < r .rounds → lent-model ts b ≡ answer-with (lent-model ts os) o .model
   pub form : 0 < r .rounds → spelled ts b ≡ true

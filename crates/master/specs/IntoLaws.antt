@@ -8,23 +8,26 @@ use mathlib.Core.Logic.{_⊎_, inl, inr}
 use mathlib.Core.List.{List}
 use lib.ListN.{length}
 use borrow.Author.Tests.{eq-eqb, ne-eqb, le-leb, lt-leb}
+use Rattle.machine.specs.declared.time.Point.{Point}
 use Rattle.machine.specs.declared.model.Answer.{Answer}
+use Rattle.machine.specs.Time.{tick}
 use Rattle.machine.specs.Model.{trimmed, trimmed-answer}
 use Rattle.machine.specs.Sound.{sound}
 use Rattle.machine.specs.Advance.{Outcome, searched, barred, barred-outcome, outcome, answer-with}
 use Rattle.laws.specs.Bools.{and-false-cases, either}
 use Rattle.stepsearch.specs.Outcomes.{outcome-barred, outcome-searched}
-use Rattle.store.specs.Held.{held, parts-lent, state-words-of}
+use Rattle.store.specs.Held.{parts-lent, state-words-of, stored-point, held}
 use Rattle.store.specs.Form.{spelled}
 use Rattle.store.specs.Updated.{state-spelled, SameBehind}
 use Rattle.store.specs.Frame.{behind-none}
 use Rattle.store.specs.Respelled.{respelled}
-use Rattle.master.specs.declared.ending.Ending.{Ending}
+use Rattle.master.specs.declared.verdict.Verdict.{Verdict}
 use Rattle.master.specs.Searching.{Searched}
-use Rattle.master.specs.Into.{ending-of, lent-model, SearchedInto, unless-short, outcome-with, outcome-into, CalledInto}
+use Rattle.master.specs.Barring.{barred-by, barred-trimmed}
+use Rattle.master.specs.Into.{verdict-of, lent-model, SearchedInto, unless-short, outcome-with, outcome-into, CalledInto}
 
 -- an answer without its model
-abbrev pub ended : Answer → Ending
+abbrev pub ended : Answer → Verdict
 ended r = record { number = r .number; step = r .step; rounds = r .rounds; revisions = r .revisions; ceiling = r .ceiling }
 
 -- an answer of the search whose model is the one that the words b mean
@@ -62,10 +65,10 @@ with-searched ts os w room none enough =
     rw (eq-eqb (barred (lent-model ts os) w) 0 none, le-leb (state-words-of (parts-lent ts)) room enough) (outcome-searched (lent-model ts os) w none)
 
 -- a call that is barred writes nothing
-called-barred : (o : Outcome) (ts os a : List ℕ) (k : ℕ) → o ≡ barred-outcome k → CalledInto o ts os a a (ending-of (barred-outcome k))
+called-barred : (o : Outcome) (ts os a : List ℕ) (k : ℕ) → o ≡ barred-outcome k → CalledInto o ts os a a (verdict-of (barred-outcome k))
 called-barred o ts os a k e =
     record {
-      ends = ap ending-of (sym e);
+      ends = ap verdict-of (sym e);
       barred = λ none. refl;
       next = λ some. absurd (omega arith);
       form = λ some. absurd (omega arith);
@@ -73,23 +76,23 @@ called-barred o ts os a k e =
     }
 
 pub barred-call : (ts os a : List ℕ) (w k : ℕ) → k ≡ barred (lent-model ts os) w → (k ≡ 0 → ⊥) →
-    CalledInto (outcome-with ts os w (length a)) ts os a a (ending-of (barred-outcome k))
+    CalledInto (outcome-with ts os w (length a)) ts os a a (verdict-of (barred-outcome k))
 barred-call ts os a w k e other =
     called-barred (outcome-with ts os w (length a)) ts os a k (with-barred ts os w (length a) k e other)
 
 pub short-call : (ts os a : List ℕ) (w : ℕ) → barred (lent-model ts os) w ≡ 0 → length a < state-words-of (parts-lent ts) →
-    CalledInto (outcome-with ts os w (length a)) ts os a a (ending-of (barred-outcome 25))
+    CalledInto (outcome-with ts os w (length a)) ts os a a (verdict-of (barred-outcome 25))
 short-call ts os a w none short =
     called-barred (outcome-with ts os w (length a)) ts os a 25 (with-short ts os w (length a) none short)
 
 -- a call that nothing bars is the search
-pub searched-call : (ts os a b : List ℕ) (w : ℕ) (r : Ending) → spelled ts os ≡ true → barred (lent-model ts os) w ≡ 0 →
+pub searched-call : (ts os a b : List ℕ) (w : ℕ) (r : Verdict) → spelled ts os ≡ true → barred (lent-model ts os) w ≡ 0 →
     state-words-of (parts-lent ts) ≤ length a → SearchedInto (searched (lent-model ts os) w) ts os a b r →
     CalledInto (outcome-with ts os w (length a)) ts os a b r
 searched-call ts os a b w r spells none enough found =
     let same = with-searched ts os w (length a) none enough in
     record {
-      ends = found .ends ∙ ap ending-of (sym same);
+      ends = found .ends ∙ ap verdict-of (sym same);
       barred = λ no-round. absurd (omega (arith, found .asked));
       next = λ some. found .next ∙ ap (λ (o : Outcome). answer-with (lent-model ts os) o .model) (sym same);
       form = λ some. respelled ts os b spells (omega (arith, enough, found .behind .size)) (found .form);
@@ -97,7 +100,7 @@ searched-call ts os a b w r spells none enough found =
     }
 
 -- a call whose words are found to spell a sound model, and one whose words are not
-pub spelled-call : (ts os a b : List ℕ) (w : ℕ) (r : Ending) → spelled ts os ≡ true → CalledInto (outcome-with ts os w (length a)) ts os a b r →
+pub spelled-call : (ts os a b : List ℕ) (w : ℕ) (r : Verdict) → spelled ts os ≡ true → CalledInto (outcome-with ts os w (length a)) ts os a b r →
     CalledInto (outcome-into ts os w (length a)) ts os a b r
 unfolding outcome-into
 spelled-call ts os a b w r spells called = rw spells called
@@ -111,7 +114,14 @@ unsound-outcome ts os w room (inr unsound) (inl spells) =
 unsound-outcome ts os w room (inr unsound) (inr none) = rw none refl
 
 pub unsound-call : (ts os a : List ℕ) (w : ℕ) → spelled ts os && sound (lent-model ts os) ≡ false →
-    CalledInto (outcome-into ts os w (length a)) ts os a a (ending-of (barred-outcome 24))
+    CalledInto (outcome-into ts os w (length a)) ts os a a (verdict-of (barred-outcome 24))
 unsound-call ts os a w fails =
     called-barred (outcome-into ts os w (length a)) ts os a 24
     (unsound-outcome ts os w (length a) (and-false-cases (spelled ts os) (sound (lent-model ts os)) fails) (either (spelled ts os)))
+
+-- the number that bars a call of a sound model, by the point that was read
+pub bars-lent : (ts os : List ℕ) (now : Point) (w k : ℕ) → sound (lent-model ts os) ≡ true → now ≡ stored-point os → k ≡ barred-by true (tick now) w →
+    k ≡ barred (lent-model ts os) w
+unfolding held
+bars-lent ts os now w k is-sound at e =
+    barred-trimmed (held ts os) w k true (sym is-sound) (e ∙ ap (λ (p : Point). barred-by true (tick p) w) at)

@@ -1,12 +1,12 @@
 // The search for the step of one advance on lent words, of a sound model.
 //
 // Its contracts cite this crate's `specs/Into.antt` and `specs/Searching.antt`, which go by `machine`'s `specs/Advance.antt`.
-use crate::ending::Ending;
 use crate::lent_asking::any_due_in;
 use crate::lent_asking::any_objects_in;
 use crate::lent_asking::round_in;
 use crate::past::leads_past;
 use crate::search::changed_nothing;
+use crate::verdict::Verdict;
 use machine::time::Ticks;
 use steps::lent_step::made_into;
 use store::lookup::parts_of;
@@ -55,7 +55,7 @@ fn kept_in(table: &[u64], old: &[u64], new: &mut [u64])
 // How a call ends that nothing bars, its state left in `new`: rounds lower h under a ceiling until one changes nothing; the
 // step is then refused, or made on trial in `new`, and an objection to the trial halves the ceiling. A trial that is dropped
 // is written over. Within the search, h and the ceiling are plain numbers; h counts ticks where parts are asked and a step is made.
-pub(crate) fn searched_into(table: &[u64], old: &[u64], w: u64, new: &mut [u64]) -> Ending
+pub(crate) fn searched_into(table: &[u64], old: &[u64], w: u64, new: &mut [u64]) -> Verdict
     requires { ⌜ Room (now table) (now old) ⌝ }
     requires { ⌜ Room (now table) (now new) ⌝ }
     requires { ⌜ sound (lent-model (now table) (now old)) ≡ true ⌝ }
@@ -76,7 +76,7 @@ pub(crate) fn searched_into(table: &[u64], old: &[u64], w: u64, new: &mut [u64])
                 let number = refusal_in(table, old, Ticks(h));
                 if number != 0 {
                     kept_in(table, old, new);
-                    break 'ceilings Ending {
+                    break 'ceilings Verdict {
                         number: number,
                         step: 0,
                         rounds: rounds,
@@ -88,7 +88,7 @@ pub(crate) fn searched_into(table: &[u64], old: &[u64], w: u64, new: &mut [u64])
                 if any_objects_in(table, Ticks(h), new) {
                     break;
                 }
-                break 'ceilings Ending {
+                break 'ceilings Verdict {
                     number: 0,
                     step: h,
                     rounds: rounds,

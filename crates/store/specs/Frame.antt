@@ -132,14 +132,17 @@ held-copied ts l a b copy =
     (table-same (stored-part ts b) (stored-part ts l) (parts-lent ts)
     (λ j low. ap (with-state (stored-part ts l j)) (same-state l b j (λ x from to. copy .front x (omega arith)))))
 
+pub copied-spelled : (n : ℕ) (l a b : List ℕ) → Copied (state-words-of n) l a b → ((j : ℕ) → j < n → state-spelled l j ≡ true) →
+    (j : ℕ) → j < n → state-spelled b j ≡ true
+copied-spelled n l a b copy spells j low =
+    within-same l b (state-words-of j) state-limits (λ x from to. copy .front x (omega arith)) ∙ spells j low
+
 pub behind-copied : (n : ℕ) (l a b : List ℕ) → Copied (state-words-of n) l a b → ((j : ℕ) → j < n → state-spelled l j ≡ true) → SameBehind n a b
 behind-copied n l a b copy spells =
     record { size = copy .size; behind = copy .behind; form = λ j before. form j before (either (ltb j n)) }
   where
     form : (j : ℕ) → state-spelled a j ≡ true → (ltb j n ≡ true) ⊎ (ltb j n ≡ false) → state-spelled b j ≡ true
-    form j before (inl e) =
-        let low = ltb-true j n e in
-        within-same l b (state-words-of j) state-limits (λ x from to. copy .front x (omega arith)) ∙ spells j low
+    form j before (inl e) = copied-spelled n l a b copy spells j (ltb-true j n e)
     form j before (inr e) =
         let high = ltb-false j n e in
         within-same a b (state-words-of j) state-limits (λ x from to. copy .behind x (omega arith)) ∙ before

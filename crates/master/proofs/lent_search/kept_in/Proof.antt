@@ -1,34 +1,34 @@
+-- `kept_in` copies all words of the state of a table.
+use Prim.Native.Nat.{ℕ}
+use mathlib.Core.Path.{subst}
+use Rattle.store.specs.Held.{state-words-of}
+use Rattle.store.specs.Updated.{Copied}
 use borrow.Author.Needs.{needs}
 use Rattle.master.proofs.lent_search.kept_in.Statement.{statement}
 use Rattle.master.proofs.lent_search.kept_in.Tie as tie
-use Rattle.master.proofs.lent_search.kept_in.Reads as reads
-use Rattle.master.proofs.lent_search.kept_in.Lts as lts
-use Rattle.store.proofs.lookup.parts_of.Reads as parts-of-reads
-use Rattle.store.proofs.update.copy_words.Reads as copy-words-reads
 
--- src/lent_search.rt:51:9
 parts-of-requires : tie.Need-parts-of-requires
 parts-of-requires c κs = search needs
 
--- src/lent_search.rt:52:21
 mul-copy-words : tie.Need-mul-copy-words
 mul-copy-words c = search needs
 
--- src/lent_search.rt:52:21
 add-copy-words : tie.Need-add-copy-words
 add-copy-words c = search needs
 
--- src/lent_search.rt:52:5
 copy-words-requires : tie.Need-copy-words-requires
 copy-words-requires c κs = search needs
 
--- src/lent_search.rt:46:1
 same-length : tie.Need-same-length
 same-length c = search needs
 
--- src/lent_search.rt:46:1
 returns : tie.Need-returns
-returns c = ?
+returns c =
+    let copies = c .before .before in
+    let counts = copies .before .before in
+    let s = counts .before .before .before .before in
+    subst (λ (n : ℕ). Copied (state-words-of n) (s .args .old .now) (s .args .new .now) (copies .copy-words .last .1 .1 .0)) (counts .parts-of .ensures)
+    (copies .copy-words .ensures)
 
 pub kept-in-spec : {M : Type 1} → statement M
 kept-in-spec =
