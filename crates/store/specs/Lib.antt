@@ -1,4 +1,4 @@
--- What words mean, whether they spell a model, and what writing a part's state into them changes.
+-- What words mean, whether they spell a model, what writing a part's state into them changes, and a model by value put into them and taking their state.
 pub mod Held
 pub mod Form
 pub mod Written
@@ -6,3 +6,7 @@ pub mod Updated
 pub mod Frame
 pub mod Spelling
 pub mod Respelled
+pub mod TableRuns
+pub mod ComponentPut
+pub mod ModelPut
+pub mod Recalled

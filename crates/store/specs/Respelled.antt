@@ -31,7 +31,7 @@ parts-at ts ss (suc n) j all low = cases (either (ltb j n)) (simp and-eq-true-if
         let same : j ≡ n = omega (arith, ltb-false j n e) in
         rw same (both .1)
 
-parts-all : (ts ss : List ℕ) (n : ℕ) →
+pub parts-all : (ts ss : List ℕ) (n : ℕ) →
     ((j : ℕ) → j < n → (words-within ts (table-words j) table-limits ≡ true) × (state-spelled ss j ≡ true)) → parts-spelled ts ss n ≡ true
 unfolding parts-spelled part-spelled
 parts-all ts ss zero each = refl

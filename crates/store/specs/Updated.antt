@@ -56,7 +56,7 @@ pub record SameBehind (n : ℕ) (a b : List ℕ) : Type 0 where
   pub form : (j : ℕ) → state-spelled a j ≡ true → state-spelled b j ≡ true
 
 -- words that are at most their limits one by one are within them
-within-all : (ws : List ℕ) (k : ℕ) (ls : List ℕ) → ((n : ℕ) → n < length ls → lent ws (k + n) ≤ getD ls n 0) → words-within ws k ls ≡ true
+pub within-all : (ws : List ℕ) (k : ℕ) (ls : List ℕ) → ((n : ℕ) → n < length ls → lent ws (k + n) ≤ getD ls n 0) → words-within ws k ls ≡ true
 unfolding words-within
 within-all ws k [] below = refl
 within-all ws k (l ∷ ls) below =

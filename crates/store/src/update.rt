@@ -17,7 +17,7 @@ ghost use Rattle.store.specs.Held.{state-words-of};
 ghost use Rattle.store.specs.Updated.{Copied, PointPut, StatePut};
 
 // The word of a signed number, which is read back as the number.
-fn word_of(v: i64) -> u64
+pub(crate) fn word_of(v: i64) -> u64
     ensures { λ r. ⌜ word-signed r ≡ v ⌝ }
 {
     signed_word(v)

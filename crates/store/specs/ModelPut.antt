@@ -1,0 +1,174 @@
+-- A model by value, put into words: they spell a model, and it is that one, but for the places in no use. The idea: the parts are put one after the other,
+-- and a record's words lie behind those of the records before it, so that what is put is still read back at the end. Assumes nothing.
+use Prim.Native.Nat.{ℕ, _+_, _*_, _%_, _≤_, _<_}
+use native.Mathlib.Omega.{arith}
+use mathlib.Core.Path.{_≡_, refl, sym, ap, _∙_}
+use mathlib.Core.Bool.{true}
+use mathlib.Core.Logic.{inl}
+use mathlib.Core.List.{List, map}
+use lib.ListN.{length, getD, set, length-set, take}
+use lib.Seq.{getD-set-same, getD-set-other, getD-take, length-take-le, take-all, ext-getD}
+use Rattle.machine.specs.declared.model.Model.{Model}
+use Rattle.machine.specs.Model.{most-parts, blank-part, part-at, trimmed-part, trimmed}
+use Rattle.codec.specs.Words.{table}
+use Rattle.codec.specs.Tables.{length-table, table-at, below-more}
+use Rattle.store.specs.Held.{lent, parts-lent, table-words, state-words-of, stored-ratio, stored-number, stored-part, stored-point, held}
+use Rattle.store.specs.Form.{table-limits, words-within, spelled}
+use Rattle.store.specs.Updated.{state-spelled, StatePut, PointPut, within-same}
+use Rattle.store.specs.Frame.{state-kept, spelled-kept, point-kept}
+use Rattle.store.specs.Spelling.{spelled-parts}
+use Rattle.store.specs.Respelled.{parts-all}
+use Rattle.store.specs.ComponentPut.{ComponentPut, same-component}
+
+-- the words ts and ss hold the model m, but for its places in no use
+pub record ModelPut (m : Model) (ts ss : List ℕ) : Type 0 where
+  pub is : trimmed (held ts ss) ≡ trimmed m
+  pub form : spelled ts ss ≡ true
+
+-- the words b are the words a with the magnitude, which fits its field, and the count written anew
+pub record HeaderPut (magnitude count : ℕ) (a b : List ℕ) : Type 0 where
+  pub size : length b ≡ length a
+  pub magnitude-is : lent b 0 ≡ magnitude
+  pub octet : magnitude ≤ 255
+  pub count-is : lent b 1 ≡ count
+
+-- the two words, written
+pub header-put : (a : List ℕ) (magnitude count : ℕ) → 2 ≤ length a → magnitude ≤ 255 →
+    HeaderPut magnitude count a (set (set a 0 magnitude) 1 count)
+header-put a magnitude count room octet =
+    let inside : 1 < length (set a 0 magnitude) = rw (length-set a 0 magnitude) (omega arith) in
+    record {
+      size = length-set (set a 0 magnitude) 1 count ∙ length-set a 0 magnitude;
+      magnitude-is = getD-set-other (set a 0 magnitude) 1 0 count 0 (λ e. omega arith) ∙ getD-set-same a 0 magnitude 0 (omega arith);
+      octet = octet;
+      count-is = getD-set-same (set a 0 magnitude) 1 count 0 inside;
+    }
+
+-- part j of m stands in the words, and so does the number at place j of its order, all in words within their limits
+pub record PutAt (m : Model) (j : ℕ) (ts ss : List ℕ) : Type 0 where
+  pub part-is : stored-part ts ss j ≡ part-at (m .parts) j
+  pub number-is : stored-number ts j ≡ getD (m .order) j 0
+  pub table-form : words-within ts (table-words j) table-limits ≡ true
+  pub state-form : state-spelled ss j ≡ true
+
+-- the magnitude, the count, the point and the first i parts of m stand in the words, which are as many as a and s
+pub record PutFirst (m : Model) (i : ℕ) (a s ts ss : List ℕ) : Type 0 where
+  pub table-size : length ts ≡ length a
+  pub state-size : length ss ≡ length s
+  pub magnitude-is : lent ts 0 ≡ m .magnitude
+  pub octet : m .magnitude ≤ 255
+  pub count-is : lent ts 1 ≡ m .count
+  pub point-is : stored-point ss ≡ m .point
+  pub each : (j : ℕ) → j < i → PutAt m j ts ss
+
+-- no part at first
+pub put-none : (m : Model) (a s ts ss : List ℕ) → HeaderPut (m .magnitude) (m .count) a ts → PointPut (m .point) s ss →
+    PutFirst m 0 ts ss ts ss
+put-none m a s ts ss header point =
+    record {
+      table-size = refl;
+      state-size = refl;
+      magnitude-is = header .magnitude-is;
+      octet = header .octet;
+      count-is = header .count-is;
+      point-is = point .is;
+      each = λ j low. absurd (omega arith);
+    }
+
+-- and then one part more
+module _
+    (m : Model)
+    (i : ℕ)
+    (a s ts ss us vs : List ℕ)
+    (before : PutFirst m i a s ts ss)
+    (table-put : ComponentPut i (part-at (m .parts) i .component) (part-at (m .parts) i .ratio) (getD (m .order) i 0) ts us)
+    (state-put : StatePut i (part-at (m .parts) i .state) ss vs) where
+  -- what stood there stays
+  kept : (j : ℕ) → j < i → PutAt m j us vs
+  unfolding stored-part stored-ratio stored-number
+  kept j low =
+      let at = before .each j low in
+      let words : (x : ℕ) → x < table-words (j + 1) → lent us x ≡ lent ts x = λ x below. table-put .others x (inl (omega arith)) in
+      record {
+        part-is =
+            rw (
+              same-component ts us j words,
+              words (18 * j + 18) (omega arith),
+              state-kept ss vs i j (part-at (m .parts) i .state) state-put (λ e. omega arith),
+            )
+            (at .part-is);
+        number-is = ap (λ (w : ℕ). w % 65536) (words (18 * j + 19) (omega arith)) ∙ at .number-is;
+        table-form = within-same ts us (table-words j) table-limits (λ x from to. words x (omega arith)) ∙ at .table-form;
+        state-form = spelled-kept ss vs i j (part-at (m .parts) i .state) state-put (λ e. omega arith) ∙ at .state-form;
+      }
+
+  -- the part itself is read back
+  here : PutAt m i us vs
+  unfolding stored-part
+  here =
+      record {
+        part-is = rw (table-put .is, table-put .ratio-is, state-put .is) refl;
+        number-is = table-put .number-is;
+        table-form = table-put .form;
+        state-form = state-put .form;
+      }
+
+  -- so one part more is put
+  pub put-more : PutFirst m (i + 1) a s us vs
+  put-more =
+      record {
+        table-size = table-put .size ∙ before .table-size;
+        state-size = state-put .size ∙ before .state-size;
+        magnitude-is = table-put .others 0 (inl (omega arith)) ∙ before .magnitude-is;
+        octet = before .octet;
+        count-is = table-put .others 1 (inl (omega arith)) ∙ before .count-is;
+        point-is = point-kept ss vs i (part-at (m .parts) i .state) state-put ∙ before .point-is;
+        each = below-more (λ (j : ℕ). PutAt m j us vs) i kept here;
+      }
+
+-- the table of the first n elements of a list
+front-of : {A : Type 0} (f : ℕ → A) (l : List A) (d : A) (n : ℕ) → n ≤ length l → ((j : ℕ) → j < n → f j ≡ getD l j d) →
+    take n (table f n) ≡ take n l
+front-of f l d n long each =
+    let many : length (table f n) ≡ length (take n l) = length-table f n ∙ sym (length-take-le n l long) in
+    take-all n (table f n) (omega (arith, length-table f n)) ∙
+    ext-getD d (table f n) (take n l) many
+    (λ j inside.
+    let low : j < n = omega (arith, length-table f n) in
+    table-at f n j d low ∙ each j low ∙ sym (getD-take n l j d low))
+
+-- models are equal trimmed where each field is, of the places in use
+pub trimmed-same :
+    (h m : Model) → h .magnitude ≡ m .magnitude → h .count ≡ m .count → take (m .count) (h .order) ≡ take (m .count) (m .order) →
+    h .point ≡ m .point → map trimmed-part (take (m .count) (h .parts)) ≡ map trimmed-part (take (m .count) (m .parts)) → trimmed h ≡ trimmed m
+unfolding trimmed
+trimmed-same h m magnitude count order point parts = rw (magnitude, count, order, point, parts) refl
+
+-- once all parts are put, so is the model
+pub model-put :
+    (m : Model) (a s ts ss : List ℕ) → PutFirst m (m .count) a s ts ss → m .count ≤ most-parts → m .count ≤ length (m .order) →
+    m .count ≤ length (m .parts) → table-words (m .count) ≤ length a → state-words-of (m .count) ≤ length s → ModelPut m ts ss
+unfolding held
+model-put m a s ts ss put few orders parts table-room state-room =
+    let n = m .count in
+    record {
+      is =
+          trimmed-same (held ts ss) m (omega (arith, put .magnitude-is, put .octet)) (put .count-is)
+          (ap (λ (k : ℕ). take n (table (stored-number ts) k)) (put .count-is) ∙
+          front-of (stored-number ts) (m .order) 0 n orders (λ j low. put .each j low .number-is))
+          (put .point-is)
+          (ap (map trimmed-part)
+          (ap (λ (k : ℕ). take n (table (stored-part ts ss) k)) (put .count-is) ∙
+          front-of (stored-part ts ss) (m .parts) blank-part n parts (λ j low. put .each j low .part-is)));
+      form =
+          spelled-parts ts ss
+          (record {
+            two = omega (arith, put .table-size);
+            magnitude = omega (arith, put .magnitude-is, put .octet);
+            few = omega (arith, put .count-is);
+            table = omega (arith, put .count-is, put .table-size);
+            state = omega (arith, put .count-is, put .state-size);
+          }) ∙
+          parts-all ts ss (parts-lent ts)
+          (λ j low. let at = put .each j (omega (arith, put .count-is)) in (at .table-form, at .state-form));
+    }

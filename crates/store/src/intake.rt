@@ -1,0 +1,121 @@
+// A model by value, put into the words of a table and of a state.
+//
+// The contracts cite `specs/TableRuns.antt`, `specs/ComponentPut.antt` and `specs/ModelPut.antt`: what was written is read
+// back, from words within their limits.
+use crate::update::put_point;
+use crate::update::put_state;
+use crate::update::word_of;
+use codec::fields::kind_code;
+use codec::fields::source_code;
+use machine::model::Model;
+use machine::part::Component;
+use machine::part::Kind;
+use machine::part::SPANS;
+use machine::part::Source;
+ghost use mathlib.Core.Path.{_≡_};
+ghost use Prim.Native.Nat.{_+_, _≤_, _<_};
+ghost use lib.ListN.{length};
+ghost use Rattle.store.specs.Held.{state-words-of, table-words};
+ghost use Rattle.store.specs.TableRuns.{OperandsPut, SpansPut, WiresPut};
+ghost use Rattle.store.specs.ComponentPut.{ComponentPut};
+ghost use Rattle.store.specs.ModelPut.{HeaderPut, ModelPut};
+
+// The kind, the preference, the operands and the count of spans of part `i`.
+fn put_operands(
+    table: &mut [u64],
+    i: usize,
+    kind: Kind,
+    preference: u8,
+    a: i64,
+    b: i64,
+    p: u32,
+    span_count: usize,
+)
+    requires { ⌜ table-words (i + 1) ≤ length (now table) ⌝ }
+    ensures { λ r. ⌜ OperandsPut i kind preference a b p «span_count» (now (table .entry)) (now (table .exit)) ⌝ }
+{
+    let k = 18 * i;
+    table[k + 2] = kind_code(kind);
+    table[k + 3] = preference as u64;
+    table[k + 4] = word_of(a);
+    table[k + 5] = word_of(b);
+    table[k + 6] = p as u64;
+    table[k + 7] = span_count as u64;
+}
+
+// A span as a word.
+fn span_word(v: u32) -> u64
+    ensures { λ r. ⌜ r ≡ v ⌝ }
+    ensures fits { λ r. ⌜ v < 4294967296 ⌝ }
+{
+    v as u64
+}
+
+// The eight places for spans of part `i`.
+fn put_spans(table: &mut [u64], i: usize, spans: [u32; SPANS])
+    requires { ⌜ table-words (i + 1) ≤ length (now table) ⌝ }
+    ensures { λ r. ⌜ SpansPut i spans (now (table .entry)) (now (table .exit)) ⌝ }
+{
+    let k = 18 * i + 8;
+    let mut j: usize = 0;
+    while j < SPANS {
+        table[k + j] = span_word(spans[j]);
+        j += 1;
+    }
+}
+
+// The ports of part `i`, its ratio, and the number at place `i` of the part order.
+fn put_wires(table: &mut [u64], i: usize, port0: Source, port1: Source, ratio: u64, number: u16)
+    requires { ⌜ table-words (i + 1) ≤ length (now table) ⌝ }
+    ensures { λ r. ⌜ WiresPut i port0 port1 ratio number (now (table .entry)) (now (table .exit)) ⌝ }
+{
+    let k = 18 * i;
+    table[k + 16] = source_code(port0);
+    table[k + 17] = source_code(port1);
+    table[k + 18] = ratio;
+    table[k + 19] = number as u64;
+}
+
+// What the table fixes of part `i`, its ratio, and the number at place `i` of the part order.
+fn put_component(table: &mut [u64], i: usize, c: Component, ratio: u64, number: u16)
+    requires { ⌜ table-words (i + 1) ≤ length (now table) ⌝ }
+    ensures { λ r. ⌜ ComponentPut i c ratio number (now (table .entry)) (now (table .exit)) ⌝ }
+{
+    let kind = c.kind;
+    let spans = c.spans;
+    let port0 = c.port0;
+    let port1 = c.port1;
+    put_operands(table, i, kind, c.preference, c.a, c.b, c.p, c.span_count);
+    put_spans(table, i, spans);
+    put_wires(table, i, port0, port1, ratio, number);
+}
+
+// The default magnitude and the count of parts.
+fn put_header(table: &mut [u64], magnitude: u8, count: usize)
+    requires { ⌜ 2 ≤ length (now table) ⌝ }
+    ensures { λ r. ⌜ HeaderPut magnitude count (now (table .entry)) (now (table .exit)) ⌝ }
+{
+    table[0] = magnitude as u64;
+    table[1] = count as u64;
+}
+
+// The model, put into words that have room for it.
+pub fn put_model(m: Model, table: &mut [u64], state: &mut [u64])
+    requires { ⌜ m .count ≤ 32 ⌝ }
+    requires { ⌜ table-words (m .count) ≤ length (now table) ⌝ }
+    requires { ⌜ state-words-of (m .count) ≤ length (now state) ⌝ }
+    ensures { λ r. ⌜ ModelPut m (now (table .exit)) (now (state .exit)) ⌝ }
+{
+    let now = m.point;
+    put_header(table, m.magnitude, m.count);
+    put_point(state, now);
+    let mut i: usize = 0;
+    while i < m.count {
+        let p = m.parts[i];
+        let c = p.component;
+        let s = p.state;
+        put_component(table, i, c, p.ratio, m.order[i]);
+        put_state(state, i, s);
+        i += 1;
+    }
+}
