@@ -43,12 +43,13 @@ outcome-with ts os w room = unless-short (leb (state-words-of (parts-lent ts)) r
 unfoldable pub outcome-into : List ℕ → List ℕ → ℕ → ℕ → Outcome
 outcome-into ts os w room = cond (spelled ts os) (outcome-with ts os w room) (barred-outcome 24)
 
--- what a call promises of the words b, which were a, and of how it ends, o being the outcome. A call that is barred makes no round and writes no word; of
--- one that made a round, b spells the model of the machine's answer: the step made, or where it is refused the model handed in. The words behind
+-- what a call promises of the words b, which were a, and of how it ends, o being the outcome. A call that is barred makes no round and writes no word; one
+-- that commits a step made a round; of one that did, b spells the model of the machine's answer: the step made, or where it is refused the model handed in. The words behind
 -- the model's are kept
 pub record CalledInto (o : Outcome) (ts os a b : List ℕ) (r : Verdict) : Type 0 where
   pub ends : r ≡ verdict-of o
   pub barred : r .rounds ≡ 0 → b ≡ a
+  pub asked : r .number ≡ 0 → 0 < r .rounds
   pub next : 0 < r .rounds → lent-model ts b ≡ answer-with (lent-model ts os) o .model
   pub form : 0 < r .rounds → spelled ts b ≡ true
   pub behind : SameBehind (parts-lent ts) a b

@@ -65,11 +65,12 @@ with-searched ts os w room none enough =
     rw (eq-eqb (barred (lent-model ts os) w) 0 none, le-leb (state-words-of (parts-lent ts)) room enough) (outcome-searched (lent-model ts os) w none)
 
 -- a call that is barred writes nothing
-called-barred : (o : Outcome) (ts os a : List ℕ) (k : ℕ) → o ≡ barred-outcome k → CalledInto o ts os a a (verdict-of (barred-outcome k))
-called-barred o ts os a k e =
+called-barred : (o : Outcome) (ts os a : List ℕ) (k : ℕ) → o ≡ barred-outcome k → (k ≡ 0 → ⊥) → CalledInto o ts os a a (verdict-of (barred-outcome k))
+called-barred o ts os a k e other =
     record {
       ends = ap verdict-of (sym e);
       barred = λ none. refl;
+      asked = λ zero-number. absurd (other zero-number);
       next = λ some. absurd (omega arith);
       form = λ some. absurd (omega arith);
       behind = behind-none (parts-lent ts) a;
@@ -78,12 +79,12 @@ called-barred o ts os a k e =
 pub barred-call : (ts os a : List ℕ) (w k : ℕ) → k ≡ barred (lent-model ts os) w → (k ≡ 0 → ⊥) →
     CalledInto (outcome-with ts os w (length a)) ts os a a (verdict-of (barred-outcome k))
 barred-call ts os a w k e other =
-    called-barred (outcome-with ts os w (length a)) ts os a k (with-barred ts os w (length a) k e other)
+    called-barred (outcome-with ts os w (length a)) ts os a k (with-barred ts os w (length a) k e other) other
 
 pub short-call : (ts os a : List ℕ) (w : ℕ) → barred (lent-model ts os) w ≡ 0 → length a < state-words-of (parts-lent ts) →
     CalledInto (outcome-with ts os w (length a)) ts os a a (verdict-of (barred-outcome 25))
 short-call ts os a w none short =
-    called-barred (outcome-with ts os w (length a)) ts os a 25 (with-short ts os w (length a) none short)
+    called-barred (outcome-with ts os w (length a)) ts os a 25 (with-short ts os w (length a) none short) (λ z. omega arith)
 
 -- a call that nothing bars is the search
 pub searched-call : (ts os a b : List ℕ) (w : ℕ) (r : Verdict) → spelled ts os ≡ true → barred (lent-model ts os) w ≡ 0 →
@@ -94,6 +95,7 @@ searched-call ts os a b w r spells none enough found =
     record {
       ends = found .ends ∙ ap verdict-of (sym same);
       barred = λ no-round. absurd (omega (arith, found .asked));
+      asked = λ zero-number. found .asked;
       next = λ some. found .next ∙ ap (λ (o : Outcome). answer-with (lent-model ts os) o .model) (sym same);
       form = λ some. respelled ts os b spells (omega (arith, enough, found .behind .size)) (found .form);
       behind = found .behind;
@@ -118,6 +120,7 @@ pub unsound-call : (ts os a : List ℕ) (w : ℕ) → spelled ts os && sound (le
 unsound-call ts os a w fails =
     called-barred (outcome-into ts os w (length a)) ts os a 24
     (unsound-outcome ts os w (length a) (and-false-cases (spelled ts os) (sound (lent-model ts os)) fails) (either (spelled ts os)))
+    (λ z. omega arith)
 
 -- the number that bars a call of a sound model, by the point that was read
 pub bars-lent : (ts os : List ℕ) (now : Point) (w k : ℕ) → sound (lent-model ts os) ≡ true → now ≡ stored-point os → k ≡ barred-by true (tick now) w →

@@ -6,3 +6,4 @@ pub mod LentAsked
 pub mod Into
 pub mod IntoLaws
 pub mod EveryList
+pub mod EveryLent
