@@ -4,16 +4,13 @@ use native.Mathlib.Omega.{arith}
 use mathlib.Core.Path.{refl}
 use mathlib.Core.Bool.{true, false, true≢false}
 use mathlib.Core.List.{[], _∷_}
-use Rattle.machine.specs.Model.{no-model, trimmed}
 use Rattle.machine.specs.Load.{read-turn, read-from, load}
 use Rattle.machine.specs.Rehearse.{refused-at-line, loaded-lines, digits-before, decimal, rehearsed}
-use Rattle.rehearse.specs.declared.play.Rehearsing.{Rehearsing}
-use Rattle.rehearse.specs.Playing.{unprinted}
-use Rattle.rehearse.specs.Batches.{to-come, Batch, InBatches}
+use Rattle.rehearse.specs.Batches.{Stand, standing, unprinted, to-come, Batch, InBatches}
 
 -- where the rehearsal begins
-abbrev nothing-loaded : Rehearsing
-nothing-loaded = record { ended = false; number = 1; at = 0; used = 0; model = no-model }
+abbrev nothing-loaded : Stand
+nothing-loaded = standing (record { ended = false; number = 1; at = 0; used = 0; exchanged = false }) [] [] []
 
 -- a batch without room for the line
 abbrev without-room : Batch
@@ -25,12 +22,12 @@ with-the-line =
     record {
       from = nothing-loaded;
       buffer = refused-at-line 1 0;
-      next = record { ended = true; number = 1; at = 0; used = 15; model = no-model };
+      next = standing (record { ended = true; number = 1; at = 0; used = 15; exchanged = false }) [] [] [];
     }
 
 -- they rehearse it
 pub nothing-rehearsed : InBatches [] (without-room ∷ with-the-line ∷ [])
-unfolding to-come unprinted rehearsed loaded-lines load read-from read-turn no-model trimmed refused-at-line decimal digits-before
+unfolding to-come unprinted rehearsed loaded-lines load read-from read-turn refused-at-line decimal digits-before
 nothing-rehearsed =
     record {
       first = nothing-loaded;

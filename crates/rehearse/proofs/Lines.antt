@@ -3,28 +3,29 @@
 use Prim.Native.Nat.{ℕ, suc, _+_, _-_, _≤_, _<_}
 use native.Mathlib.Omega.{arith}
 use mathlib.Core.Path.{_≡_, refl, sym, ap, _∙_}
-use mathlib.Core.Bool.{true, false, true≢false}
+use mathlib.Core.Bool.{Bool, true, false, not, cond, true≢false}
 use mathlib.Core.List.{List, [], _++_, append-assoc, append-nil}
 use lib.ListN.{length, take, drop, length-append, length-take, length-drop, drop-of-length-le}
 use lib.Seq.{take-all, take-at, drop-at, drop-drop}
 use lib.Dec.{ltb}
 use borrow.Author.Tests.{le-leb, ltb-true}
 use Rattle.machine.specs.declared.model.Model.{Model}
-use Rattle.machine.specs.declared.model.Answer.{Answer}
 use Rattle.machine.specs.declared.model.Score.{Score}
 use Rattle.machine.specs.declared.model.Score.the-variants.{End, Wanted, Refused}
-use Rattle.machine.specs.Model.{trimmed, trimmed-answer}
-use Rattle.machine.specs.Calls.{Advanced}
+use Rattle.machine.specs.Model.{trimmed}
+use Rattle.machine.specs.Advance.{advance}
 use Rattle.machine.specs.Score.{score-command, score-at}
 use Rattle.machine.specs.Load.{byte-at}
-use Rattle.machine.specs.Rehearse.{answer-line, refused-at-line, lines-from, loaded-lines}
+use Rattle.machine.specs.Rehearse.{answer-line, refused-at-line, lines-from}
 use Rattle.laws.specs.Bools.{cond-cases}
 use Rattle.printing.specs.LineFuel.{score-later, lines-enough}
 use Rattle.writing.specs.declared.written.Written.{Written}
 use Rattle.writing.specs.Put.{Put}
 use Rattle.writing.specs.Written.{WrittenAs}
+use Rattle.store.specs.Held.{held}
 use Rattle.rehearse.specs.declared.play.Rehearsing.{Rehearsing}
-use Rattle.rehearse.specs.Playing.{lines-at, unprinted, PlayedOne}
+use Rattle.rehearse.specs.declared.play.Played.{Played}
+use Rattle.rehearse.specs.Playing.{stands-in, Playable, lines-at, lines-left, PlayedWanted, PlayedOne, PlayedTurn}
 
 -- what a written text's answer and buffer are, where the text fits
 fits-length : {text before after : List ℕ} {w : Written} → WrittenAs text before after w → w .length ≡ length text
@@ -78,15 +79,6 @@ score-inside bs at =
     (λ inside. inside-any at (length bs) (score-command bs at (byte-at bs at)) (ltb-true at (length bs) inside))
     (λ past. tt)
 
--- all lines after one command more of a score that did not end there
-pub lines-go-on : (bs : List ℕ) (r : Rehearsing) → r .ended ≡ false → r .number ≡ 0 → unprinted bs r ≡ lines-at bs (r .at) (r .model)
-unfolding unprinted loaded-lines lines-at
-lines-go-on bs r goes loaded = rw (goes, loaded) refl
-
-pub played-on : {bs before after all : List ℕ} {at used : ℕ} {m : Model} {r : Rehearsing} → r .ended ≡ false → all ≡ take used before ++ lines-at bs at m →
-    PlayedOne bs at m before used after r → all ≡ take (r .used) after ++ lines-at bs (r .at) (r .model)
-played-on {bs = bs} {r = r} e so-far one = so-far ∙ (rw (lines-go-on bs r e (one .loaded)) at (one .lines))
-
 module _ (bs : List ℕ) (at : ℕ) where
   wanted-later : (w next : ℕ) → score-at bs at ≡ Wanted w next → (at < next) × (at < length bs)
   wanted-later w next e =
@@ -103,41 +95,89 @@ module _ (bs : List ℕ) (at : ℕ) where
   unfolding lines-at lines-from
   lines-refused m number position e = rw e refl
 
-  lines-wanted : (m : Model) (w next : ℕ) (r : Answer) → score-at bs at ≡ Wanted w next → Advanced m w r →
-      lines-at bs at m ≡ answer-line (trimmed-answer r) ++ lines-at bs next (r .model)
-  unfolding lines-at lines-from trimmed-answer
-  lines-wanted m w next r e advanced =
+  lines-wanted : (m n : Model) (w next : ℕ) → score-at bs at ≡ Wanted w next → trimmed n ≡ advance (trimmed m) w .model →
+      lines-at bs at m ≡ answer-line (advance (trimmed m) w) ++ lines-at bs next n
+  unfolding lines-at lines-from
+  lines-wanted m n w next e answered =
       let later = wanted-later w next e in
-      let more = lines-enough (length bs) (suc (length bs)) bs next (trimmed (r .model)) (omega arith) (omega arith) in
-      rw (e, ← advanced .machine) (ap (λ text. answer-line (trimmed-answer r) ++ text) more)
+      let more = lines-enough (length bs) (suc (length bs)) bs next (trimmed n) (omega arith) (omega arith) in
+      let same : lines-from (length bs) bs next (advance (trimmed m) w .model) ≡ lines-from (length bs) bs next (trimmed n) =
+      ap (lines-from (length bs) bs next) (sym answered) in
+      rw e (ap (λ text. answer-line (advance (trimmed m) w) ++ text) (same ∙ more))
 
   -- one command played, by what the score holds there
-  pub played-end : (m : Model) (buffer : List ℕ) (used : ℕ) → score-at bs at ≡ End → used ≤ length buffer →
-      PlayedOne bs at m buffer used buffer (record { ended = true; number = 0; at = at; used = used; model = m })
-  unfolding unprinted
-  played-end m buffer used e room =
-      record { lines = rw (lines-end m e) refl; room = room; loaded = refl; later = λ goes. absurd (true≢false goes) }
+  module _ (ts os ns : List ℕ) (words : Playable ts os) where
+    pub played-end : (buffer : List ℕ) (used : ℕ) → score-at bs at ≡ End → used ≤ length buffer →
+        PlayedOne bs at ts os ns buffer used buffer (record { ended = true; at = at; used = used; moved = false })
+    unfolding lines-left
+    played-end buffer used e room =
+        record { lines = rw (lines-end (held ts os) e) refl; room = room; playable = words; later = λ goes. absurd (true≢false goes) }
 
-  pub played-refused : (m : Model) (number position used end : ℕ) (before after : List ℕ) → score-at bs at ≡ Refused number position →
-      Put 1024 (refused-at-line number position) used before after end → end ≤ length after →
-      PlayedOne bs at m before used after (record { ended = true; number = 0; at = at; used = end; model = m })
-  unfolding unprinted
-  played-refused m number position used end before after e put room =
-      record {
-        lines = rw (lines-refused m number position e, append-nil, put .line) refl;
-        room = room;
-        loaded = refl;
-        later = λ goes. absurd (true≢false goes);
-      }
+    pub played-refused : (number position used end : ℕ) (before after : List ℕ) → score-at bs at ≡ Refused number position →
+        Put 1024 (refused-at-line number position) used before after end → end ≤ length after →
+        PlayedOne bs at ts os ns before used after (record { ended = true; at = at; used = end; moved = false })
+    unfolding lines-left
+    played-refused number position used end before after e put room =
+        record {
+          lines = rw (lines-refused (held ts os) number position e, append-nil, put .line) refl;
+          room = room;
+          playable = words;
+          later = λ goes. absurd (true≢false goes);
+        }
 
-  pub played-wanted : (m : Model) (w next used end : ℕ) (before after : List ℕ) (r : Answer) → score-at bs at ≡ Wanted w next → Advanced m w r →
-      Put 1024 (answer-line (trimmed-answer r)) used before after end → end ≤ length after →
-      PlayedOne bs at m before used after (record { ended = false; number = 0; at = next; used = end; model = r .model })
-  unfolding unprinted loaded-lines lines-at
-  played-wanted m w next used end before after r e advanced put room =
-      record {
-        lines = rw (lines-wanted m w next r e advanced, put .line) (sym (append-assoc (take used before) _ _));
-        room = room;
-        loaded = refl;
-        later = λ goes. wanted-later w next e;
-      }
+    pub played-wanted : (w next used : ℕ) (before after : List ℕ) (r : Played) → score-at bs at ≡ Wanted w next →
+        PlayedWanted ts os w next ns before used after r → r .used ≤ length after → PlayedOne bs at ts os ns before used after r
+    unfolding lines-left
+    played-wanted w next used before after r e wanted room =
+        let left = held ts (cond (r .moved) ns os) in
+        let place = wanted .position in
+        record {
+          lines =
+              rw (wanted .goes, place, lines-wanted (held ts os) left w next e (wanted .model), wanted .line .line)
+              (sym (append-assoc (take used before) _ _));
+          room = room;
+          playable = wanted .playable;
+          later = λ goes. rw place (wanted-later w next e);
+        }
+
+-- the words in which a rehearsal stands, by the flag
+pub stood-second : {ts b : List ℕ} (a : List ℕ) (exchanged : Bool) → exchanged ≡ true → Playable ts (stands-in exchanged a b) → Playable ts b
+stood-second a exchanged e words = rw e at words
+
+pub stood-first : {ts a : List ℕ} (b : List ℕ) (exchanged : Bool) → exchanged ≡ false → Playable ts (stands-in exchanged a b) → Playable ts a
+stood-first b exchanged e words = rw e at words
+
+-- a state that was moved to, or not, is one of the two exchanged, or not
+exchanged-back : (moved : Bool) (a b : List ℕ) → stands-in (not moved) a b ≡ cond moved a b
+exchanged-back true a b = refl
+exchanged-back false a b = refl
+
+-- where a rehearsal stands after a command that was asked of the second state, and of the first
+pub turned-back :
+    {bs ts a b before after : List ℕ} {at used : ℕ} {r : Played} (a₀ : List ℕ) (exchanged : Bool) → exchanged ≡ true →
+    PlayedOne bs at ts b a before used after r →
+    PlayedTurn bs at ts (stands-in exchanged a₀ b) a b before used after
+    (record { ended = r .ended; number = 0; at = r .at; used = r .used; exchanged = not (r .moved) })
+turned-back {a = a} {b = b} {r = r} a₀ exchanged e one =
+    let same = exchanged-back (r .moved) a b in
+    record {
+      lines = rw (e, same) (one .lines);
+      room = one .room;
+      loaded = refl;
+      playable = rw same (one .playable);
+      later = one .later;
+    }
+
+pub turned-forth :
+    {bs ts a b before after : List ℕ} {at used : ℕ} {r : Played} (b₀ : List ℕ) (exchanged : Bool) → exchanged ≡ false →
+    PlayedOne bs at ts a b before used after r →
+    PlayedTurn bs at ts (stands-in exchanged a b₀) a b before used after
+    (record { ended = r .ended; number = 0; at = r .at; used = r .used; exchanged = r .moved })
+turned-forth b₀ exchanged e one = record { lines = rw e (one .lines); room = one .room; loaded = refl; playable = one .playable; later = one .later }
+
+-- all lines after one command more of a score that did not end there
+pub played-on : {bs ts ss a b before after all : List ℕ} {at used : ℕ} {r : Rehearsing} → r .ended ≡ false →
+    all ≡ take used before ++ lines-at bs at (held ts ss) → PlayedTurn bs at ts ss a b before used after r →
+    all ≡ take (r .used) after ++ lines-at bs (r .at) (held ts (stands-in (r .exchanged) a b))
+unfolding lines-left
+played-on e so-far turn = so-far ∙ (rw e at (turn .lines))

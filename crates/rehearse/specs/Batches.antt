@@ -1,43 +1,73 @@
--- What the program `rehearse` prints, whole: the text of every batch, one behind the other, is the machine's `rehearsed`. Assumes nothing.
+-- What the program `rehearse` prints, whole: the text of every batch, one behind the other, is the machine's `rehearsed`. The model is told of by words, those of the table
+-- and of the state in which the rehearsal stands. Assumes nothing.
 use Prim.Native.Nat.{ℕ, _≤_, _<_}
 use mathlib.Core.Path.{_≡_}
-use mathlib.Core.Bool.{true, false}
+use mathlib.Core.Bool.{true, false, cond}
 use mathlib.Core.List.{List, [], _∷_, _++_}
 use lib.ListN.{length, take}
-use Rattle.machine.specs.Rehearse.{most-read, rehearsed}
+use Rattle.machine.specs.Model.{trimmed}
+use Rattle.machine.specs.Rehearse.{most-read, loaded-lines, rehearsed}
+use Rattle.store.specs.Held.{held}
 use Rattle.rehearse.specs.declared.play.Rehearsing.{Rehearsing}
-use Rattle.rehearse.specs.Playing.{unprinted}
+use Rattle.rehearse.specs.Playing.{stands-in, Playable}
+
+-- where a rehearsal stands, with the words of the table and of the state in which it does
+pub record Stand : Type 0 where
+  pub told : Rehearsing
+  pub table : List ℕ
+  pub state : List ℕ
+
+-- it stands in one of two states
+abbrev pub standing : Rehearsing → List ℕ → List ℕ → List ℕ → Stand
+standing r ts a b = record { told = r; table = ts; state = stands-in (r .exchanged) a b }
+
+-- where the load was accepted, a score can be played of its words
+pub record Ready (s : Stand) : Type 0 where
+  pub playable : s .told .number ≡ 0 → Playable (s .table) (s .state)
 
 -- the first n bytes of an input are those that are read of it
 pub record BytesRead (input : List ℕ) (n : ℕ) : Type 0 where
   pub within : n ≤ length input
   pub all : take n input ≡ take most-read input
 
+-- what is still to be printed for a stream where a rehearsal stands: nothing once it ended, else what a load prints that answers this number, position
+-- and model
+unfoldable pub unprinted : List ℕ → Stand → List ℕ
+unprinted bs s =
+    cond (s .told .ended) []
+    (loaded-lines bs (record { number = s .told .number; position = s .told .at; model = trimmed (held (s .table) (s .state)) }))
+
 -- the text still to be printed for an input where its rehearsal stands
-unfoldable pub to-come : List ℕ → Rehearsing → List ℕ
+unfoldable pub to-come : List ℕ → Stand → List ℕ
 to-come input s = unprinted (take most-read input) s
+
+-- What the beginning of a rehearsal promises, of the words that the model was loaded into, its first state being ss: whatever the second state holds, all that is
+-- rehearsed is to come, and the rehearsal is ready.
+pub record Begun (input ts ss : List ℕ) (r : Rehearsing) : Type 0 where
+  pub all : (b : List ℕ) → to-come input (standing r ts ss b) ≡ rehearsed input
+  pub ready : (b : List ℕ) → Ready (standing r ts ss b)
 
 -- What a batch promises, of where the rehearsal stood, the buffer behind the call, and where the rehearsal stands then. The text that was to come is what the
 -- buffer's first bytes hold, and then what is still to come. Where the rehearsal did not end and the buffer has room for a line, it moved on within the input.
-pub record Batched (input : List ℕ) (from : Rehearsing) (buffer : List ℕ) (next : Rehearsing) : Type 0 where
-  pub text : to-come input from ≡ take (next .used) buffer ++ to-come input next
-  pub room : next .used ≤ length buffer
-  pub later : next .ended ≡ false → 1024 ≤ length buffer → (from .at < next .at) × (from .at < length input)
+pub record Batched (input : List ℕ) (from : Stand) (buffer : List ℕ) (next : Stand) : Type 0 where
+  pub text : to-come input from ≡ take (next .told .used) buffer ++ to-come input next
+  pub room : next .told .used ≤ length buffer
+  pub later : next .told .ended ≡ false → 1024 ≤ length buffer → (from .told .at < next .told .at) × (from .told .at < length input)
 
 -- what was printed so far and what is to come are what is rehearsed
-pub record PrintedSoFar (input : List ℕ) (s : Rehearsing) : Type 0 where
+pub record PrintedSoFar (input : List ℕ) (s : Stand) : Type 0 where
   pub printed : List ℕ
   pub whole : printed ++ to-come input s ≡ rehearsed input
 
 -- a batch: where the rehearsal stood, the buffer behind the call, and where it stands then
 pub record Batch : Type 0 where
-  pub from : Rehearsing
+  pub from : Stand
   pub buffer : List ℕ
-  pub next : Rehearsing
+  pub next : Stand
 
 -- a batch's text: the bytes of the buffer that are written
 unfoldable pub batch-text : Batch → List ℕ
-batch-text b = take (b .next .used) (b .buffer)
+batch-text b = take (b .next .told .used) (b .buffer)
 
 -- the texts of some batches, one behind the other
 unfoldable pub printed-by : List Batch → List ℕ
@@ -45,13 +75,13 @@ printed-by [] = []
 printed-by (b ∷ bs) = batch-text b ++ printed-by bs
 
 -- batches of an input that keep their promise, each from where the one before left the rehearsal, up to its end
-abbrev pub Batches : List ℕ → Rehearsing → List Batch → Type 0
-Batches input s [] = s .ended ≡ true
+abbrev pub Batches : List ℕ → Stand → List Batch → Type 0
+Batches input s [] = s .told .ended ≡ true
 Batches input s (b ∷ bs) = (b .from ≡ s) × Batched input (b .from) (b .buffer) (b .next) × Batches input (b .next) bs
 
 -- a rehearsal of an input in batches: where it was begun, all that is rehearsed is to come, and the batches lead from there to its end
 pub record InBatches (input : List ℕ) (bs : List Batch) : Type 0 where
-  pub first : Rehearsing
+  pub first : Stand
   pub begun : to-come input first ≡ rehearsed input
   pub batches : Batches input first bs
 

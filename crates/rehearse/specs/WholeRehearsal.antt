@@ -5,12 +5,10 @@ use mathlib.Core.Path.{_≡_, refl, sym, ap, _∙_}
 use mathlib.Core.List.{List, [], _∷_, _++_}
 use lib.ListN.{length, length-append}
 use Rattle.machine.specs.Rehearse.{rehearsed}
-use Rattle.rehearse.specs.declared.play.Rehearsing.{Rehearsing}
-use Rattle.rehearse.specs.Playing.{unprinted}
-use Rattle.rehearse.specs.Batches.{to-come, Batch, batch-text, printed-by, Batches, InBatches, WholeRehearsal}
+use Rattle.rehearse.specs.Batches.{Stand, unprinted, to-come, Batch, batch-text, printed-by, Batches, InBatches, WholeRehearsal}
 
 -- batches up to the end print all that was to come
-print-all : (input : List ℕ) (s : Rehearsing) (bs : List Batch) → Batches input s bs → printed-by bs ≡ to-come input s
+print-all : (input : List ℕ) (s : Stand) (bs : List Batch) → Batches input s bs → printed-by bs ≡ to-come input s
 unfolding printed-by batch-text to-come unprinted
 print-all input s [] ended = rw ended refl
 print-all input s (b ∷ bs) (at, batch, rest) = rw (← at, print-all input (b .next) bs rest) (sym (batch .text))

@@ -5,9 +5,11 @@ use crate::play::Rehearsing;
 use crate::play::play_some;
 use crate::play::put_refused_at;
 use loading::load;
-ghost use mathlib.Core.Path.{_≡_};
-ghost use Rattle.machine.specs.Rehearse.{rehearsed};
-ghost use Rattle.rehearse.specs.Batches.{to-come, BytesRead, Batched};
+use store::intake::put_model;
+ghost use Prim.Native.Nat.{_≤_};
+ghost use lib.ListN.{length};
+ghost use Rattle.rehearse.specs.Playing.{table-room, state-room};
+ghost use Rattle.rehearse.specs.Batches.{standing, Ready, BytesRead, Begun, Batched};
 
 // How many bytes of an input are read.
 pub(crate) const MOST: usize = 65536;
@@ -23,25 +25,40 @@ fn bytes_read(input: &[u8]) -> usize
     }
 }
 
-// Where the rehearsal of an input begins: all that is printed for it is still to come.
-pub(crate) fn begun(input: &[u8]) -> Rehearsing
-    ensures { λ r. ⌜ to-come (now (input .entry)) r ≡ rehearsed (now (input .entry)) ⌝ }
+// Where the rehearsal of an input begins, with the loaded model put into the words of `table` and `state`, the first of its
+// states: all that is printed for it is still to come.
+pub(crate) fn begun(input: &[u8], table: &mut [u64], state: &mut [u64]) -> Rehearsing
+    requires { ⌜ table-room ≤ length (now table) ⌝ }
+    requires { ⌜ state-room ≤ length (now state) ⌝ }
+    ensures { λ r. ⌜ Begun (now (input .entry)) (now (table .exit)) (now (state .exit)) r ⌝ }
 {
     let n = bytes_read(input);
     let loaded = load(&input[..n]);
     let model = loaded.model;
+    put_model(model, table, state);
     Rehearsing {
         ended: false,
         number: loaded.number,
         at: loaded.position,
         used: 0,
-        model: model,
+        exchanged: false,
     }
 }
 
 // The next lines of a rehearsal, as many as there is room for, and where it then stands.
-pub(crate) fn batch(input: &[u8], from: Rehearsing, lines: &mut [u8]) -> Rehearsing
-    ensures { λ r. ⌜ Batched (now (input .entry)) from (now (lines .exit)) r ⌝ }
+pub(crate) fn batch(
+    input: &[u8],
+    from: Rehearsing,
+    table: &[u64],
+    first: &mut [u64],
+    second: &mut [u64],
+    lines: &mut [u8],
+) -> Rehearsing
+    requires { ⌜ Ready (standing from (now table) (now first) (now second)) ⌝ }
+    requires { ⌜ state-room ≤ length (now first) ⌝ }
+    requires { ⌜ state-room ≤ length (now second) ⌝ }
+    ensures { λ r. ⌜ Batched (now (input .entry)) (standing from (now (table .entry)) (now (first .entry)) (now (second .entry))) (now (lines .exit)) (standing r (now (table .entry)) (now (first .exit)) (now (second .exit))) ⌝ }
+    ensures ready { λ r. ⌜ Ready (standing r (now (table .entry)) (now (first .exit)) (now (second .exit))) ⌝ }
 {
     let mut next = from;
     next.used = 0;
@@ -57,6 +74,13 @@ pub(crate) fn batch(input: &[u8], from: Rehearsing, lines: &mut [u8]) -> Rehears
         return next;
     }
     let n = bytes_read(input);
-    let model = from.model;
-    play_some(&input[..n], from.at, model, lines)
+    play_some(
+        &input[..n],
+        from.at,
+        from.exchanged,
+        table,
+        first,
+        second,
+        lines,
+    )
 }

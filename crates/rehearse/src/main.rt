@@ -11,12 +11,22 @@ ghost use Rattle.machine.specs.Rehearse.{most-read};
 mod batch;
 mod play;
 
-// All lines of an input, batch after batch, and whether they were written. A write that fails ends it.
+// How many words have room for a table of 32 parts.
+const TABLE: usize = 578;
+
+// And how many for a state of it.
+const STATE: usize = 290;
+
+// All lines of an input, batch after batch, and whether they were written. A write that fails ends it. It owns the words
+// that the model is in: those of the table, and of two states.
 fn print_batches(input: &[u8]) -> bool {
     let mut lines = io::large_buffer();
-    let mut now = begun(input);
+    let mut table = [0u64; TABLE];
+    let mut first = [0u64; STATE];
+    let mut second = [0u64; STATE];
+    let mut now = begun(input, &mut table, &mut first);
     loop {
-        let next = batch(input, now, &mut lines);
+        let next = batch(input, now, &table, &mut first, &mut second, &mut lines);
         let used = next.used;
         if !io::write_all(1, &lines[..used]) {
             return false;

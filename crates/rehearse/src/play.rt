@@ -1,30 +1,41 @@
-// Playing a score: its commands in turn, each with its line, as many as a buffer has room for.
-use lines::line::write_answer;
+// Playing a score: its commands in turn, each with its line, as many as a buffer has room for. The model is in words: those
+// of a table, and two states of it. A step is made from the one state into the other, and a flag says in which of the two
+// the rehearsal stands; no model is copied.
+use lines::lent_line::write_lent;
 use lines::line::write_refused_at;
-use machine::model::Answer;
-use machine::model::Model;
 use machine::model::Score;
-use master::advance;
+use master::advance_sound_into;
+use master::verdict::Verdict;
 use score::command::score_at;
 ghost use Prim.Native.Nat.{_+_, _≤_};
 ghost use lib.ListN.{length};
-ghost use Rattle.machine.specs.Model.{trimmed-answer};
 ghost use Rattle.machine.specs.Rehearse.{answer-line, refused-at-line};
+ghost use Rattle.store.specs.Held.{parts-lent, Room};
+ghost use Rattle.lines.specs.LentLines.{lent-answer};
 ghost use Rattle.writing.specs.Put.{Put};
-ghost use Rattle.rehearse.specs.Playing.{PlayedOne, PlayedSome};
+ghost use Rattle.rehearse.specs.Playing.{stands-in, state-room, Playable, PlayedWanted, PlayedOne, PlayedTurn, PlayedSome};
 
 // How many bytes have room for any line.
 pub(crate) const LINE: usize = 1024;
 
 // Where a rehearsal stands: whether it ended; the load's number, 0 where it was accepted; the position of the next
-// score command, or of the load's refusal; how many bytes the lines take that were put into a buffer last; and the
-// model.
+// score command, or of the load's refusal; how many bytes the lines take that were put into a buffer last; and whether
+// the two states are exchanged, so that the model's is the second.
 pub struct Rehearsing {
     pub ended: bool,
     pub number: u64,
     pub at: usize,
     pub used: usize,
-    pub model: Model,
+    pub exchanged: bool,
+}
+
+// What one score command came to: whether the score ended; the position of the next command; how many bytes the lines
+// take; and whether the model's state is now the new one.
+pub struct Played {
+    pub ended: bool,
+    pub at: usize,
+    pub used: usize,
+    pub moved: bool,
 }
 
 // The line of a load or score refusal, behind the first `used` bytes.
@@ -36,76 +47,165 @@ pub(crate) fn put_refused_at(number: u64, position: usize, lines: &mut [u8], use
     used + w.length
 }
 
-// The line of an answer, behind the first `used` bytes.
-fn put_answer(answer: Answer, lines: &mut [u8], used: usize) -> usize
+// The line of a call that ended so and left the state `state`, behind the first `used` bytes.
+fn put_answer(table: &[u64], state: &[u64], v: Verdict, lines: &mut [u8], used: usize) -> usize
+    requires { ⌜ Room (now table) (now state) ⌝ }
+    requires { ⌜ parts-lent (now table) ≤ 32 ⌝ }
     requires { ⌜ used + 1024 ≤ length (now lines) ⌝ }
-    ensures { λ r. ⌜ Put 1024 (answer-line (trimmed-answer answer)) used (now (lines .entry)) (now (lines .exit)) r ⌝ }
+    ensures { λ r. ⌜ Put 1024 (answer-line (lent-answer (now (table .entry)) (now (state .entry)) (v .number) (v .step) (v .rounds) (v .revisions) (v .ceiling))) used (now (lines .entry)) (now (lines .exit)) r ⌝ }
 {
-    let w = write_answer(answer, &mut lines[used..]);
+    let w = write_lent(
+        table,
+        state,
+        v.number,
+        v.step,
+        v.rounds,
+        v.revisions,
+        &mut lines[used..],
+    );
     used + w.length
 }
 
-// One score command, with its line behind the first `used` bytes.
-fn play_one(stream: &[u8], at: usize, model: Model, lines: &mut [u8], used: usize) -> Rehearsing
+// One advance of the state `old` by at most `wanted`, into `new`, with its line behind the first `used` bytes. The next command
+// is at `next`. A refused call leaves the model's state the old one.
+fn play_wanted(
+    table: &[u64],
+    old: &[u64],
+    wanted: u64,
+    next: usize,
+    new: &mut [u64],
+    lines: &mut [u8],
+    used: usize,
+) -> Played
+    requires { ⌜ Playable (now table) (now old) ⌝ }
+    requires { ⌜ state-room ≤ length (now new) ⌝ }
     requires { ⌜ used + 1024 ≤ length (now lines) ⌝ }
-    ensures { λ r. ⌜ PlayedOne (now (stream .entry)) at model (now (lines .entry)) used (now (lines .exit)) r ⌝ }
+    ensures { λ r. ⌜ PlayedWanted (now (table .entry)) (now (old .entry)) wanted next (now (new .exit)) (now (lines .entry)) used (now (lines .exit)) r ⌝ }
+{
+    let v = advance_sound_into(table, old, wanted, new);
+    if v.number != 0 {
+        let end = put_answer(table, old, v, lines, used);
+        return Played {
+            ended: false,
+            at: next,
+            used: end,
+            moved: false,
+        };
+    }
+    let end = put_answer(table, new, v, lines, used);
+    Played {
+        ended: false,
+        at: next,
+        used: end,
+        moved: true,
+    }
+}
+
+// One score command, asked of the state `old`, with its line behind the first `used` bytes.
+fn play_one(
+    stream: &[u8],
+    at: usize,
+    table: &[u64],
+    old: &[u64],
+    new: &mut [u64],
+    lines: &mut [u8],
+    used: usize,
+) -> Played
+    requires { ⌜ Playable (now table) (now old) ⌝ }
+    requires { ⌜ state-room ≤ length (now new) ⌝ }
+    requires { ⌜ used + 1024 ≤ length (now lines) ⌝ }
+    ensures { λ r. ⌜ PlayedOne (now (stream .entry)) at (now (table .entry)) (now (old .entry)) (now (new .exit)) (now (lines .entry)) used (now (lines .exit)) r ⌝ }
 {
     let s = score_at(stream, at);
     match s {
-        Score::End => Rehearsing {
+        Score::End => Played {
             ended: true,
-            number: 0,
             at: at,
             used: used,
-            model: model,
+            moved: false,
         },
-        Score::Wanted(wanted, next) => {
-            let answer = advance(model, wanted);
-            let end = put_answer(answer, lines, used);
-            let after = answer.model;
-            Rehearsing {
-                ended: false,
-                number: 0,
-                at: next,
-                used: end,
-                model: after,
-            }
-        }
+        Score::Wanted(wanted, next) => play_wanted(table, old, wanted, next, new, lines, used),
         Score::Refused(number, position) => {
             let last = put_refused_at(number, position, lines, used);
-            Rehearsing {
+            Played {
                 ended: true,
-                number: 0,
                 at: at,
                 used: last,
-                model: model,
+                moved: false,
             }
         }
     }
 }
 
+// One score command, asked of the state in which the rehearsal stands: the second of the two where they are exchanged.
+fn play_turn(
+    stream: &[u8],
+    at: usize,
+    exchanged: bool,
+    table: &[u64],
+    first: &mut [u64],
+    second: &mut [u64],
+    lines: &mut [u8],
+    used: usize,
+) -> Rehearsing
+    requires { ⌜ Playable (now table) (stands-in exchanged (now first) (now second)) ⌝ }
+    requires { ⌜ state-room ≤ length (now first) ⌝ }
+    requires { ⌜ state-room ≤ length (now second) ⌝ }
+    requires { ⌜ used + 1024 ≤ length (now lines) ⌝ }
+    ensures { λ r. ⌜ PlayedTurn (now (stream .entry)) at (now (table .entry)) (stands-in exchanged (now (first .entry)) (now (second .entry))) (now (first .exit)) (now (second .exit)) (now (lines .entry)) used (now (lines .exit)) r ⌝ }
+{
+    if exchanged {
+        let back = play_one(stream, at, table, second, first, lines, used);
+        return Rehearsing {
+            ended: back.ended,
+            number: 0,
+            at: back.at,
+            used: back.used,
+            exchanged: !back.moved,
+        };
+    }
+    let forth = play_one(stream, at, table, first, second, lines, used);
+    Rehearsing {
+        ended: forth.ended,
+        number: 0,
+        at: forth.at,
+        used: forth.used,
+        exchanged: forth.moved,
+    }
+}
+
 // The score commands from `from` on, as long as there is room for another line.
-pub(crate) fn play_some(stream: &[u8], from: usize, model: Model, lines: &mut [u8]) -> Rehearsing
-    ensures { λ r. ⌜ PlayedSome (now (stream .entry)) from model (now (lines .exit)) r ⌝ }
+pub(crate) fn play_some(
+    stream: &[u8],
+    from: usize,
+    exchanged: bool,
+    table: &[u64],
+    first: &mut [u64],
+    second: &mut [u64],
+    lines: &mut [u8],
+) -> Rehearsing
+    requires { ⌜ Playable (now table) (stands-in exchanged (now first) (now second)) ⌝ }
+    requires { ⌜ state-room ≤ length (now first) ⌝ }
+    requires { ⌜ state-room ≤ length (now second) ⌝ }
+    ensures { λ r. ⌜ PlayedSome (now (stream .entry)) from (now (table .entry)) (stands-in exchanged (now (first .entry)) (now (second .entry))) (now (first .exit)) (now (second .exit)) (now (lines .exit)) r ⌝ }
 {
     let mut at = from;
     let mut used: usize = 0;
-    let mut now = model;
+    let mut turned = exchanged;
     while lines.len() - used >= LINE {
-        let played = play_one(stream, at, now, lines, used);
+        let played = play_turn(stream, at, turned, table, first, second, lines, used);
         if played.ended {
             return played;
         }
         at = played.at;
         used = played.used;
-        let next = played.model;
-        now = next;
+        turned = played.exchanged;
     }
     Rehearsing {
         ended: false,
         number: 0,
         at: at,
         used: used,
-        model: now,
+        exchanged: turned,
     }
 }

@@ -4,17 +4,17 @@ use borrow.Author.Needs.{needs}
 use Rattle.rehearse.proofs.play.put_answer.Statement.{statement}
 use Rattle.rehearse.proofs.play.put_answer.Tie as tie
 
-sub-write-answer : tie.Need-sub-write-answer
-sub-write-answer c = search needs
+sub-write-lent : tie.Need-sub-write-lent
+sub-write-lent c = search needs
 
-part-write-answer-start : tie.Need-part-write-answer-start
-part-write-answer-start c = search needs
+part-write-lent-start : tie.Need-part-write-lent-start
+part-write-lent-start c = search needs
 
-part-write-answer-end : tie.Need-part-write-answer-end
-part-write-answer-end c = search needs
+part-write-lent-end : tie.Need-part-write-lent-end
+part-write-lent-end c = search needs
 
-write-answer-requires : tie.Need-write-answer-requires
-write-answer-requires c κs = search needs
+write-lent-requires : tie.Need-write-lent-requires
+write-lent-requires c κs = search needs
 
 add-result : tie.Need-add-result
 add-result c = search needs
@@ -25,17 +25,17 @@ same-length c = search needs
 returns : tie.Need-returns
 returns c =
     let call = c .before .before .before in
-    let start = call .before .before .before in
-    put-part (start .args .used) (start .pre) (call .write-answer .ensures .0) (call .write-answer .ensures .1)
+    let start = call .before .before .before .before .before in
+    put-part (start .args .used) (start .pre .1 .1) (call .write-lent .ensures .0 (start .args .v .ceiling)) (call .write-lent .ensures .1)
 
 pub put-answer-spec : {M : Type 1} → statement M
 put-answer-spec =
     tie.close
     (tie.spec
-    sub-write-answer
-    part-write-answer-start
-    part-write-answer-end
-    write-answer-requires
+    sub-write-lent
+    part-write-lent-start
+    part-write-lent-end
+    write-lent-requires
     add-result
     same-length
     returns)
