@@ -1,175 +1,203 @@
 //! The rehearsal master's calls `load` and `advance`. The calls themselves are the proved ones of the static
-//! library; here are the structs that callers hold, and their bytes. The crate `codec` of the repository
-//! defines those bytes, in `specs/Encoded.antt` and `specs/Decoded.antt`.
-mod words;
+//! library, and work in words of 64 bits that they are lent; here is the owner of those words, and what they
+//! say as typed records. The crate `store` of the repository defines the words, in `specs/Held.antt` and
+//! `specs/Form.antt`.
+mod part;
 
-use words::{Reader, Writer};
+pub use part::{Kind, Mark, Part, Side, KINDS};
 
 /// How many parts a model has room for, and how many spans a part.
 pub const PARTS: usize = 32;
 pub const SPANS: usize = 8;
 
-/// How many bytes a model has, a load's answer, and an advance's.
-pub const MODEL_BYTES: usize = 6944;
-pub const LOADED_BYTES: usize = 6960;
-pub const ANSWER_BYTES: usize = 6984;
+/// How many words a table has for each part, and a state, and how many either has before them.
+pub const TABLE_RECORD: usize = 18;
+pub const STATE_RECORD: usize = 9;
+pub const HEAD: usize = 2;
 
-/// The kinds of part, in the order of their numbers.
-#[derive(Clone, Copy, Debug, PartialEq, Eq)]
-pub enum Kind {
-    Constant,
-    Gain,
-    Adder,
-    Square,
-    Pulse,
-    Delay,
-    Integrator,
-    ResetIntegrator,
-    Detector,
-    Hold,
-    Sampler,
-    Drive,
-    Clapper,
+/// How many words the table of a model of so many parts has.
+pub const fn table_words(parts: usize) -> usize {
+    HEAD + TABLE_RECORD * parts
 }
 
-/// The kinds by their numbers.
-pub const KINDS: [Kind; 13] = [
-    Kind::Constant,
-    Kind::Gain,
-    Kind::Adder,
-    Kind::Square,
-    Kind::Pulse,
-    Kind::Delay,
-    Kind::Integrator,
-    Kind::ResetIntegrator,
-    Kind::Detector,
-    Kind::Hold,
-    Kind::Sampler,
-    Kind::Drive,
-    Kind::Clapper,
-];
-
-/// The side of zero on which a detector last saw its input; zero itself is on neither.
-#[derive(Clone, Copy, Debug, PartialEq, Eq)]
-pub enum Side {
-    Unset,
-    Negative,
-    Positive,
+/// How many words a state of a model of so many parts has.
+pub const fn state_words(parts: usize) -> usize {
+    HEAD + STATE_RECORD * parts
 }
 
-/// A detector's pending mark: none, 1 or -1.
-#[derive(Clone, Copy, Debug, PartialEq, Eq)]
-pub enum Mark {
-    Clear,
-    Rising,
-    Falling,
+extern "C" {
+    fn dozhumek_load(
+        stream: *const u8,
+        stream_length: usize,
+        table: *mut u64,
+        table_length: usize,
+        state: *mut u64,
+        state_length: usize,
+        out: *mut u64,
+        out_length: usize,
+    ) -> u64;
+    fn dozhumek_advance(
+        table: *const u64,
+        table_length: usize,
+        old: *const u64,
+        old_length: usize,
+        wanted: u64,
+        new: *mut u64,
+        new_length: usize,
+        out: *mut u64,
+        out_length: usize,
+    ) -> u64;
 }
 
-/// A part. Of `spans` the first `span_count` are in use; a port is `None` where it is unwired, else the
-/// number of its source part; a signal is `None` where it is absent. `held` is the held number, a clapper's
-/// position, and `speed` the second held number, a clapper's speed: of another kind it is 0 in a sound model.
-#[derive(Clone, Copy, Debug, PartialEq, Eq)]
-pub struct Part {
-    pub kind: Kind,
-    pub preference: u8,
-    pub a: i64,
-    pub b: i64,
-    pub p: u32,
-    pub span_count: u64,
-    pub spans: [u32; SPANS],
-    pub port0: Option<u16>,
-    pub port1: Option<u16>,
-    pub ratio: u64,
-    pub local: u64,
-    pub held: i64,
-    pub speed: i64,
-    pub signal: Option<i64>,
-    pub output: Option<i64>,
-    pub side: Side,
-    pub mark: Mark,
-}
-
-/// A model. Of `order` and `parts` the first `count` are in use; `t` and `n` are its point.
-#[derive(Clone, Debug, PartialEq, Eq)]
+/// A model: the words of its table, of its state, and of the state that the next advance writes. An advance that is
+/// committed exchanges the two states, and no other changes anything.
+#[derive(Clone, Debug)]
 pub struct Model {
-    pub magnitude: u8,
-    pub count: u64,
-    pub t: u64,
-    pub n: u64,
-    pub order: [u16; PARTS],
-    pub parts: [Part; PARTS],
+    table: Vec<u64>,
+    state: Vec<u64>,
+    next: Vec<u64>,
 }
 
-/// What loading answers: the number (0: accepted), the position, and the model.
-#[derive(Clone, Debug, PartialEq, Eq)]
+/// What loading answers: the number (0: accepted), the position, and the model, which is one of no parts with all else 0
+/// where the number is not 0.
+#[derive(Clone, Debug)]
 pub struct Loaded {
     pub number: u64,
     pub position: u64,
     pub model: Model,
 }
 
-/// What advancing answers: the number (0: committed), the counts, and the model.
-#[derive(Clone, Debug, PartialEq, Eq)]
+/// What advancing answers: the number (0: committed), and the counts.
+#[derive(Clone, Copy, Debug, PartialEq, Eq)]
 pub struct Answer {
     pub number: u64,
     pub step: u64,
     pub rounds: u64,
     pub revisions: u64,
     pub ceiling: u64,
-    pub model: Model,
-}
-
-extern "C" {
-    fn dozhumek_load(stream: *const u8, stream_length: usize, out: *mut u8, out_length: usize) -> u64;
-    fn dozhumek_advance(model: *const u8, model_length: usize, wanted: u64, out: *mut u8, out_length: usize) -> u64;
-}
-
-/// The bytes of an answer of N bytes, which `call` writes into a buffer of this function's own, handed over
-/// as its first byte and its length.
-fn answered<const N: usize>(call: impl FnOnce(*mut u8, usize) -> u64) -> [u8; N] {
-    let mut out = [0u8; N];
-    let number = call(out.as_mut_ptr(), out.len());
-    assert_eq!(number, 0, "an answer has {N} bytes");
-    out
 }
 
 /// The table at the start of a stream, loaded.
 pub fn load(stream: &[u8]) -> Loaded {
-    // SAFETY: both slices are whole, and the answer's overlaps no other.
-    let out: [u8; LOADED_BYTES] =
-        answered(|out, length| unsafe { dozhumek_load(stream.as_ptr(), stream.len(), out, length) });
-    let mut from = Reader::new(&out);
-    Loaded { number: from.word(), position: from.word(), model: from.model() }
+    let mut table = vec![0; table_words(PARTS)];
+    let mut state = vec![0; state_words(PARTS)];
+    let mut out = [0; 2];
+    // SAFETY: the slices are whole, and those that are written overlap no other.
+    unsafe {
+        dozhumek_load(
+            stream.as_ptr(),
+            stream.len(),
+            table.as_mut_ptr(),
+            table.len(),
+            state.as_mut_ptr(),
+            state.len(),
+            out.as_mut_ptr(),
+            out.len(),
+        )
+    };
+    let [number, position] = out;
+    // There was room for the most parts, so that the words of a refused load are all 0, and so is their count.
+    let count = table[1] as usize;
+    table.truncate(table_words(count));
+    table.shrink_to_fit();
+    state.truncate(state_words(count));
+    state.shrink_to_fit();
+    Loaded { number, position, model: Model::from_words(table, state) }
 }
 
-/// One advance of a model, by at most `wanted`.
-pub fn advance(model: &Model, wanted: u64) -> Answer {
-    let given = model.bytes();
-    // SAFETY: both slices are whole, and the answer's overlaps no other.
-    let out: [u8; ANSWER_BYTES] =
-        answered(|out, length| unsafe { dozhumek_advance(given.as_ptr(), given.len(), wanted, out, length) });
-    let mut from = Reader::new(&out);
-    Answer {
-        number: from.word(),
-        step: from.word(),
-        rounds: from.word(),
-        revisions: from.word(),
-        ceiling: from.word(),
-        model: from.model(),
+/// One advance of a model, by at most `wanted`. Where the number is 0 the model stands at the new point; otherwise it is kept.
+pub fn advance(model: &mut Model, wanted: u64) -> Answer {
+    let mut out = [0; 5];
+    // SAFETY: the slices are whole, and those that are written overlap no other.
+    unsafe {
+        dozhumek_advance(
+            model.table.as_ptr(),
+            model.table.len(),
+            model.state.as_ptr(),
+            model.state.len(),
+            wanted,
+            model.next.as_mut_ptr(),
+            model.next.len(),
+            out.as_mut_ptr(),
+            out.len(),
+        )
+    };
+    let [number, step, rounds, revisions, ceiling] = out;
+    if number == 0 {
+        std::mem::swap(&mut model.state, &mut model.next);
     }
+    Answer { number, step, rounds, revisions, ceiling }
 }
 
 impl Model {
-    /// The model's bytes, as `advance` of the static library takes them.
-    pub fn bytes(&self) -> Vec<u8> {
-        let mut to = Writer::new();
-        to.model(self);
-        to.bytes()
+    /// The model in these words, whatever they are. Where they spell no sound model an advance answers 24.
+    pub fn from_words(table: Vec<u64>, state: Vec<u64>) -> Model {
+        let next = state.clone();
+        Model { table, state, next }
     }
 
-    /// The model that bytes mean: a word that is not there is 0, a number is taken modulo its field's width,
-    /// and a number that is no kind's, side's or mark's stands for the first one.
-    pub fn from_bytes(bytes: &[u8]) -> Model {
-        Reader::new(bytes).model()
+    /// The table's words.
+    pub fn table(&self) -> &[u64] {
+        &self.table
     }
+
+    /// The state's words.
+    pub fn state(&self) -> &[u64] {
+        &self.state
+    }
+
+    /// The default magnitude; 0 where its word is not there, as for every number here.
+    pub fn magnitude(&self) -> u64 {
+        word(&self.table, 0)
+    }
+
+    /// How many parts are in use.
+    pub fn count(&self) -> u64 {
+        word(&self.table, 1)
+    }
+
+    /// The tick of the point.
+    pub fn t(&self) -> u64 {
+        word(&self.state, 0)
+    }
+
+    /// The microstep of the point.
+    pub fn n(&self) -> u64 {
+        word(&self.state, 1)
+    }
+
+    /// The part with a number. None where no such part is in use, or its words spell none.
+    pub fn part(&self, number: usize) -> Option<Part> {
+        if number as u64 >= self.count().min(PARTS as u64) {
+            return None;
+        }
+        let table = self.table.get(HEAD + TABLE_RECORD * number..)?.get(..TABLE_RECORD)?;
+        let state = self.state.get(HEAD + STATE_RECORD * number..)?.get(..STATE_RECORD)?;
+        Part::of_words(table.try_into().ok()?, state.try_into().ok()?)
+    }
+
+    /// The parts in use. None where there are more than there is room for, or a part's words spell none.
+    pub fn parts(&self) -> Option<Vec<Part>> {
+        (0..self.in_use()?).map(|number| self.part(number)).collect()
+    }
+
+    /// The outputs of the parts in use, a signal each, which is `None` where it is absent. None as for `parts`.
+    pub fn outputs(&self) -> Option<Vec<Option<i64>>> {
+        (0..self.in_use()?).map(|number| self.part(number).map(|part| part.output)).collect()
+    }
+
+    /// The part order. None where there are more parts than there is room for, or a word of it is no part's number.
+    pub fn order(&self) -> Option<Vec<u16>> {
+        let last = |number: usize| self.table.get(HEAD + TABLE_RECORD * number + TABLE_RECORD - 1);
+        (0..self.in_use()?).map(|number| u16::try_from(*last(number)?).ok()).collect()
+    }
+
+    fn in_use(&self) -> Option<usize> {
+        usize::try_from(self.count()).ok().filter(|&count| count <= PARTS)
+    }
+}
+
+/// The word with this number, 0 where it is not there.
+fn word(words: &[u64], number: usize) -> u64 {
+    words.get(number).copied().unwrap_or(0)
 }

@@ -1,5 +1,6 @@
-//! Document 01's played examples and a clapper through the binding: what crosses the boundary comes back whole.
-use dozhumek::{advance, load, Answer, Kind, Mark, Model, Part, Side, MODEL_BYTES};
+//! Document 01's played examples and a clapper through the binding: what lies in the words comes back whole, and words that
+//! spell no model are refused.
+use dozhumek::{advance, load, state_words, table_words, Answer, Kind, Mark, Model, Part, Side};
 
 /// A Part command.
 fn part(kind: u8, a: i32, b: i32, p: u32) -> Vec<u8> {
@@ -31,9 +32,21 @@ fn wire(source: u8, receiver: u8, port: u8) -> Vec<u8> {
 }
 
 /// t, n, step, rounds, revisions.
-fn line(answer: &Answer) -> [u64; 5] {
-    let model = &answer.model;
-    [model.t, model.n, answer.step, answer.rounds, answer.revisions]
+fn line(model: &Model, answer: &Answer) -> [u64; 5] {
+    [model.t(), model.n(), answer.step, answer.rounds, answer.revisions]
+}
+
+/// The words of a model.
+fn words(model: &Model) -> (Vec<u64>, Vec<u64>) {
+    (model.table().to_vec(), model.state().to_vec())
+}
+
+/// Fails unless an advance of these words is refused with 24, and leaves them.
+fn refused(table: Vec<u64>, state: Vec<u64>) {
+    let mut model = Model::from_words(table.clone(), state.clone());
+    let answer = advance(&mut model, 1);
+    assert_eq!(answer, Answer { number: 24, step: 0, rounds: 0, revisions: 0, ceiling: 0 });
+    assert_eq!(words(&model), (table, state));
 }
 
 #[test]
@@ -41,39 +54,42 @@ fn constant_into_drive() {
     let stream = table(&[part(0, 1, 0, 0), part(11, 0, 0, 0), span(2), span(5), wire(0, 1, 0)]);
     let loaded = load(&stream);
     assert_eq!((loaded.number, loaded.position), (0, stream.len() as u64));
-    let model = loaded.model;
-    assert_eq!((model.count, model.parts[1].kind, model.parts[1].port0), (2, Kind::Drive, Some(0)));
-    assert_eq!((model.parts[1].span_count, model.parts[1].spans[..2].to_vec()), (2, vec![2, 5]));
+    let mut model = loaded.model;
+    let drive = model.part(1).unwrap();
+    assert_eq!((model.magnitude(), model.count(), drive.kind, drive.port0), (0, 2, Kind::Drive, Some(0)));
+    assert_eq!((drive.span_count, drive.spans[..2].to_vec()), (2, vec![2, 5]));
+    assert_eq!((model.order(), model.part(2)), (Some(vec![0, 1]), None));
+    assert_eq!((model.table().len(), model.state().len()), (table_words(2), state_words(2)));
 
-    let first = advance(&model, 7);
-    assert_eq!((first.number, line(&first)), (0, [5, 0, 5, 2, 0]));
-    assert_eq!((first.model.parts[0].output, first.model.parts[1].output), (Some(1), Some(5)));
-    let second = advance(&first.model, 4);
-    assert_eq!((second.number, line(&second)), (0, [7, 0, 2, 2, 0]));
-    assert_eq!(second.model.parts[1].output, Some(7));
-    let third = advance(&second.model, 1);
-    assert_eq!((third.number, &third.model), (22, &second.model));
+    let first = advance(&mut model, 7);
+    assert_eq!((first.number, line(&model, &first)), (0, [5, 0, 5, 2, 0]));
+    assert_eq!(model.outputs(), Some(vec![Some(1), Some(5)]));
+    let second = advance(&mut model, 4);
+    assert_eq!((second.number, line(&model, &second)), (0, [7, 0, 2, 2, 0]));
+    assert_eq!(model.outputs(), Some(vec![Some(1), Some(7)]));
+    let before = words(&model);
+    assert_eq!((advance(&mut model, 1).number, words(&model)), (22, before));
 }
 
 #[test]
 fn integrator_into_detector() {
     let stream = table(&[part(0, 2, 0, 0), part(6, -7, 0, 0), part(8, 0, 0, 1), wire(0, 1, 0), wire(1, 2, 0)]);
     let mut model = load(&stream).model;
-    assert_eq!((model.parts[1].a, model.parts[1].output), (-7, Some(-7)));
-    assert_eq!(model.parts[2].side, Side::Negative);
+    let parts = model.parts().unwrap();
+    assert_eq!((parts[1].a, parts[1].output), (-7, Some(-7)));
+    assert_eq!(parts[2].side, Side::Negative);
     let mut steps = Vec::new();
     let mut revisions = Vec::new();
     for _ in 0..4 {
-        let answer = advance(&model, 8);
+        let answer = advance(&mut model, 8);
         assert_eq!(answer.number, 0);
         steps.push(answer.step);
         revisions.push(answer.revisions);
-        model = answer.model;
     }
     assert_eq!((steps, revisions), (vec![2, 1, 1, 0], vec![2, 3, 3, 0]));
-    assert_eq!((model.t, model.n, model.parts[2].output), (4, 1, Some(1)));
-    assert_eq!((model.parts[2].side, model.parts[2].mark), (Side::Positive, Mark::Clear));
-    assert_eq!(Model::from_bytes(&model.bytes()), model);
+    let detector = model.part(2).unwrap();
+    assert_eq!((model.t(), model.n(), detector.output), (4, 1, Some(1)));
+    assert_eq!((detector.side, detector.mark), (Side::Positive, Mark::Clear));
 }
 
 /// Position, speed, output.
@@ -86,30 +102,32 @@ fn constant_into_clapper() {
     let stream = table(&[part(0, 3, 0, 0), part(12, 10, -2, 0), wire(0, 1, 0)]);
     let loaded = load(&stream);
     assert_eq!((loaded.number, loaded.position), (0, stream.len() as u64));
-    let clapper = loaded.model.parts[1];
+    let mut model = loaded.model;
+    let clapper = model.part(1).unwrap();
     assert_eq!((clapper.kind, clapper.a, clapper.b, clapper.port0), (Kind::Clapper, 10, -2, Some(0)));
     assert_eq!(motion(&clapper), (10, -2, Some(10)));
 
     // The speed becomes -2 + 3 x 5, the position 10 + 13 x 5.
-    let first = advance(&loaded.model, 5);
-    assert_eq!((first.number, line(&first)), (0, [5, 0, 5, 1, 0]));
-    assert_eq!((first.model.parts[0].speed, motion(&first.model.parts[1])), (0, (75, 13, Some(75))));
-    let bytes = first.model.bytes();
-    assert_eq!(bytes[8 * (4 + 32 + 26 + 18)..][..16], [75, 0, 0, 0, 0, 0, 0, 0, 13, 0, 0, 0, 0, 0, 0, 0]);
-    assert_eq!((bytes.len(), Model::from_bytes(&bytes)), (MODEL_BYTES, first.model.clone()));
+    let first = advance(&mut model, 5);
+    assert_eq!((first.number, line(&model, &first)), (0, [5, 0, 5, 1, 0]));
+    let parts = model.parts().unwrap();
+    assert_eq!((parts[0].speed, motion(&parts[1])), (0, (75, 13, Some(75))));
+    // The local count, position, speed, held signal, output, side and mark of part 1.
+    assert_eq!(model.state()[state_words(1)..], [5, 75, 13, 0, 0, 1, 75, 0, 0]);
 
     // A speed of another kind, and a clapper's that is no value.
+    let (table, state) = words(&model);
     for (part, speed) in [(0, 1), (0, -1), (1, 1_000_000_001), (1, -1_000_000_001), (1, i64::MIN)] {
-        let mut model = first.model.clone();
-        model.parts[part].speed = speed;
-        let answer = advance(&model, 1);
-        assert_eq!((answer.number, answer.ceiling, &answer.model), (24, 0, &model));
+        let mut state = state.clone();
+        state[state_words(part) + 2] = speed as u64;
+        refused(table.clone(), state);
     }
     // Another speed: it becomes -20 + 3 x 2, and the position 75 - 14 x 2.
-    let mut model = first.model;
-    model.parts[1].speed = -20;
-    let second = advance(&model, 2);
-    assert_eq!((second.number, motion(&second.model.parts[1])), (0, (47, -14, Some(47))));
+    let mut state = state;
+    state[state_words(1) + 2] = -20i64 as u64;
+    let mut model = Model::from_words(table, state);
+    let second = advance(&mut model, 2);
+    assert_eq!((second.number, motion(&model.part(1).unwrap())), (0, (47, -14, Some(47))));
 }
 
 #[test]
@@ -117,20 +135,85 @@ fn clappers_refused() {
     let beyond = 1_000_000_001;
     for row in [part(12, beyond, 0, 0), part(12, 0, -beyond, 0), part(12, 0, 0, 1), part(13, 0, 0, 0)] {
         let loaded = load(&table(&[row]));
-        assert_eq!((loaded.number, loaded.position, loaded.model.count), (5, 2, 0));
+        assert_eq!((loaded.number, loaded.position, loaded.model.count()), (5, 2, 0));
     }
     let second_port = load(&table(&[part(0, 3, 0, 0), part(12, 10, -2, 0), wire(0, 1, 1)]));
-    assert_eq!((second_port.number, second_port.position, second_port.model.count), (7, 32, 0));
+    assert_eq!((second_port.number, second_port.position, second_port.model.count()), (7, 32, 0));
 }
 
 #[test]
 fn refusals() {
     let empty = load(&[]);
-    assert_eq!((empty.number, empty.position, empty.model.count), (1, 0, 0));
+    assert_eq!((empty.number, empty.position, empty.model.count()), (1, 0, 0));
     let loop_of_one = load(&table(&[part(1, 2, 0, 0), wire(0, 0, 0)]));
-    assert_eq!((loop_of_one.number, loop_of_one.model), (11, empty.model));
-    let nothing = Model::from_bytes(&[]);
-    assert_eq!(nothing.bytes(), vec![0; MODEL_BYTES]);
-    let answer = advance(&nothing, 1);
-    assert_eq!((answer.number, answer.ceiling, &answer.model), (24, 0, &nothing));
+    assert_eq!((loop_of_one.number, words(&loop_of_one.model)), (11, (vec![0, 0], vec![0, 0])));
+    refused(vec![0, 0], vec![0, 0]);
+    refused(vec![], vec![]);
+}
+
+/// The words of a constant into a clapper.
+fn spelled() -> (Vec<u64>, Vec<u64>) {
+    words(&load(&table(&[part(0, 3, 0, 0), part(12, 10, -2, 0), wire(0, 1, 0)])).model)
+}
+
+#[test]
+fn words_that_mean_nothing() {
+    let (table, state) = spelled();
+    // Words behind the model's, and any word behind an absent signal.
+    let mut model = Model::from_words([&table[..], &[9; 7]].concat(), [&state[..], &[9; 7]].concat());
+    assert_eq!(advance(&mut model, 1).number, 0);
+    assert_eq!(model.state()[state_words(2)..], [9; 7]);
+    let mut absent = state;
+    absent[state_words(1) + 4] = 9;
+    assert_eq!(advance(&mut Model::from_words(table, absent), 1).number, 0);
+}
+
+#[test]
+fn malformed_words() {
+    let (table, state) = spelled();
+    // A magnitude, a kind, a preference, an operand p, a span, a port and a place of the order.
+    let of_part = table_words(1);
+    let in_table = [
+        (0, 256),
+        (of_part, 99),
+        (of_part, 256 + 12),
+        (of_part + 1, 511),
+        (of_part + 4, 1 << 32),
+        (of_part + 6, 1 << 32),
+        (of_part + 13, 1 << 32),
+        (of_part + 14, 70_000),
+        (of_part + 14, 65_536 + 1),
+        (of_part + 15, 70_000),
+        (of_part + 17, 65_536 + 1),
+    ];
+    for (at, word) in in_table {
+        let mut table = table.clone();
+        table[at] = word;
+        refused(table, state.clone());
+    }
+    // A tag of each signal, a side and a mark.
+    for (at, word) in [(3, 2), (5, 2), (5, 257), (7, 3), (8, 3), (8, 77)] {
+        let mut state = state.clone();
+        state[state_words(1) + at] = word;
+        let model = Model::from_words(table.clone(), state.clone());
+        assert_eq!((model.part(0).is_some(), model.part(1), model.parts()), (true, None, None));
+        refused(table.clone(), state);
+    }
+}
+
+#[test]
+fn too_few_words() {
+    let (table, state) = spelled();
+    for length in [0, 1, 2, table_words(1), table.len() - 1] {
+        refused(table[..length].to_vec(), state.clone());
+    }
+    for length in [0, 1, 2, state_words(1), state.len() - 1] {
+        refused(table.clone(), state[..length].to_vec());
+    }
+    // A count of more parts than there are words for, or room.
+    for count in [3, 32, 33, 1 << 32, u64::MAX] {
+        let mut table = table.clone();
+        table[1] = count;
+        refused(table, state.clone());
+    }
 }

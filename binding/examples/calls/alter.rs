@@ -348,7 +348,7 @@ pub const SORTS: &[Sort] = &[
         let count = random.pick(&[words.0[COUNT], 1, any]);
         *words = noise(random);
         words.0[COUNT] = count;
-        !words.normal().model().is_some_and(|model| model.sound())
+        !words.model().is_some_and(|model| model.sound())
     }),
 ];
 

@@ -1,6 +1,7 @@
 //! What the calls reached.
 
 use crate::alter::{Then, BILLION, LAST_TICK, SORTS};
+use crate::malformed::MALFORMED;
 use crate::words::*;
 use std::collections::BTreeMap;
 
@@ -9,8 +10,6 @@ pub struct Seen {
     pub cases: u64,
     pub loads: u64,
     pub advances: u64,
-    /// Whether a model's bytes may be cut, so that it is another.
-    pub may_cut: bool,
     /// By number.
     pub load_numbers: [u64; 32],
     numbers: [u64; 32],
@@ -40,15 +39,19 @@ const WANTED: [(&str, fn(u64) -> bool); 10] = [
 ];
 
 /// What else has to be tried.
-const OTHERS: [&str; 21] = [
+const OTHERS: [&str; 25] = [
     "load through the binding",
+    "load into too few words",
+    "refused load into too few words",
     "load with too little room",
     "advance through the binding",
+    "advance of too few words",
+    "advance into too few words",
+    "barred advance into too few words",
     "advance with too little room",
-    "bytes behind the model",
-    "missing bytes",
-    "unused places with noise",
-    "unused places with words too wide",
+    "words behind all places",
+    "no word behind the model",
+    "a word behind an absent signal",
     "committed up to the last tick",
     "committed above 9 x 10^17",
     "committed up to the last microstep",
@@ -150,7 +153,7 @@ impl Seen {
             must(self.numbers[number] > 0, format!("number {number} of an advance"));
         }
         must(self.by_rule > 0, "models that the second implementation cannot say".to_string());
-        for (name, then, _) in SORTS {
+        for (name, then, _) in SORTS.iter().chain(MALFORMED) {
             let [sound, unsound] = self.sorts.get(name).copied().unwrap_or_default();
             must(*then == Then::Unsound || sound > 0, format!("{name}, sound"));
             must(*then == Then::Sound || unsound > 0, format!("{name}, unsound"));
@@ -171,6 +174,7 @@ impl Seen {
         };
         let sorts: Vec<String> = SORTS
             .iter()
+            .chain(MALFORMED)
             .map(|(name, then, _)| {
                 let [sound, unsound] = self.sorts.get(name).copied().unwrap_or_default();
                 match then {

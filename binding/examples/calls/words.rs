@@ -1,5 +1,6 @@
-//! A model as the 868 words that cross the boundary, read and written without the binding's own code, and the models
-//! of the second implementation that such words mean.
+//! A model as words in one row, part after part, with all of its places; the words of a table and of a state, which are the same
+//! ones in two rows; whether they spell a model, by the rules of the words and without the binding's own code; and the models of the
+//! second implementation that they mean.
 
 use second::{Kind, Model, Part, Point, Side, Signal};
 
@@ -35,23 +36,57 @@ pub const SIDE: usize = 24;
 pub const MARK: usize = 25;
 pub const PART_WORDS: usize = 26;
 
+// The words before the parts of a table and of a state, and how many each has for a part: the words of a part up to its
+// ratio and then its place of the order, and the words from its local count on.
+pub const HEAD: usize = 2;
+pub const TABLE_RECORD: usize = LOCAL + 1;
+pub const STATE_RECORD: usize = PART_WORDS - LOCAL;
+
 pub const NO_PREFERENCE: u64 = 255;
 
 #[derive(Clone, PartialEq, Eq)]
 pub struct Words(pub [u64; WORDS]);
 
 impl Words {
-    /// Bytes that are missing are 0.
-    pub fn from_bytes(bytes: &[u8]) -> Words {
-        let mut words = [0; WORDS];
-        for (at, &byte) in bytes.iter().enumerate().take(8 * WORDS) {
-            words[at / 8] |= u64::from(byte) << (8 * (at % 8));
-        }
-        Words(words)
+    /// No model: no parts, and all else 0.
+    pub fn none() -> Words {
+        Words([0; WORDS])
     }
 
-    pub fn bytes(&self) -> Vec<u8> {
-        self.0.iter().flat_map(|word| word.to_le_bytes()).collect()
+    /// The words of a table and of a state; those that are missing are 0.
+    pub fn of_lent(table: &[u64], state: &[u64]) -> Words {
+        let mut table = table.iter().copied().chain(std::iter::repeat(0));
+        let mut state = state.iter().copied().chain(std::iter::repeat(0));
+        let next = |words: &mut dyn Iterator<Item = u64>| words.next().unwrap_or(0);
+        let mut words = Words::none();
+        (words.0[MAGNITUDE], words.0[COUNT]) = (next(&mut table), next(&mut table));
+        (words.0[T], words.0[N]) = (next(&mut state), next(&mut state));
+        for number in 0..PARTS {
+            let (fixed, own) = words.part_mut(number).split_at_mut(LOCAL);
+            fixed.fill_with(|| next(&mut table));
+            own.fill_with(|| next(&mut state));
+            words.0[ORDER + number] = next(&mut table);
+        }
+        words
+    }
+
+    /// The table's words, of all places.
+    pub fn table(&self) -> Vec<u64> {
+        let mut table = vec![self.0[MAGNITUDE], self.0[COUNT]];
+        for number in 0..PARTS {
+            table.extend_from_slice(&self.part(number)[..LOCAL]);
+            table.push(self.0[ORDER + number]);
+        }
+        table
+    }
+
+    /// The state's words, of all places.
+    pub fn state(&self) -> Vec<u64> {
+        let mut state = vec![self.0[T], self.0[N]];
+        for number in 0..PARTS {
+            state.extend_from_slice(&self.part(number)[LOCAL..]);
+        }
+        state
     }
 
     pub fn part(&self, number: usize) -> &[u64] {
@@ -81,37 +116,46 @@ impl Words {
         }
     }
 
-    /// The words that come back: a number modulo its field's width, and an unknown code as 0.
-    pub fn normal(&self) -> Words {
+    /// The words with 0 behind each absent signal, where a word means nothing.
+    pub fn plain(&self) -> Words {
         let mut words = self.clone();
-        words.0[MAGNITUDE] &= 0xFF;
-        words.0[ORDER..FIRST_PART].iter_mut().for_each(|number| *number &= 0xFFFF);
         for number in 0..PARTS {
             let part = words.part_mut(number);
-            part[KIND] = if part[KIND] < KINDS as u64 { part[KIND] } else { 0 };
-            part[PREFERENCE] &= 0xFF;
-            part[P] &= 0xFFFF_FFFF;
-            part[FIRST_SPAN..PORT].iter_mut().for_each(|span| *span &= 0xFFFF_FFFF);
-            for port in PORT..RATIO {
-                part[port] = if part[port] == 0 { 0 } else { (part[port] - 1) % 65_536 + 1 };
-            }
             for signal in [SIGNAL, OUTPUT] {
-                if part[signal] != 1 {
-                    part[signal..signal + 2].fill(0);
+                if part[signal] == 0 {
+                    part[signal + 1] = 0;
                 }
-            }
-            for code in [SIDE, MARK] {
-                part[code] = if part[code] < 3 { part[code] } else { 0 };
             }
         }
         words
     }
 
-    /// The model that normal words mean, or none if the second implementation's types cannot say it. Then it is
-    /// unsound: more parts or spans than there is room for, spans of a part that is no drive, an operand that its kind
+    /// Whether a part's words are codes of cases and numbers that fit their fields.
+    pub fn part_spelled(&self, number: usize) -> bool {
+        let part = self.part(number);
+        let within = |from: usize, to: usize, most: u64| part[from..to].iter().all(|&word| word <= most);
+        part[KIND] < KINDS as u64
+            && part[PREFERENCE] <= 0xFF
+            && part[P] <= 0xFFFF_FFFF
+            && within(FIRST_SPAN, PORT, 0xFFFF_FFFF)
+            && within(PORT, RATIO, 0x1_0000)
+            && part[SIGNAL] < 2
+            && part[OUTPUT] < 2
+            && within(SIDE, MARK + 1, 2)
+    }
+
+    /// Whether the words, all of which are there, spell a model.
+    pub fn spelled(&self) -> bool {
+        self.0[MAGNITUDE] <= 0xFF
+            && self.0[COUNT] <= PARTS as u64
+            && (0..self.count()).all(|number| self.part_spelled(number) && self.0[ORDER + number] <= 0xFFFF)
+    }
+
+    /// The model that the words mean, or none if they spell none or the second implementation's types cannot say it. Then it is
+    /// unsound: more spans than there is room for, spans of a part that is no drive, an operand that its kind
     /// does not name and that is not 0, or a number far out of its range.
     pub fn model(&self) -> Option<Model> {
-        let count = usize::try_from(self.0[COUNT]).ok().filter(|&count| count <= PARTS)?;
+        let count = self.spelled().then(|| self.count())?;
         let order = self.0[ORDER..][..count].iter().map(|&number| u8::try_from(number).ok());
         Some(Model {
             default_magnitude: self.0[MAGNITUDE] as u8,

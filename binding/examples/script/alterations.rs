@@ -1,43 +1,43 @@
 //! The fields of a model that a script alters, by name.
 
-use dozhumek::{Mark, Model, Part, Side, KINDS};
+use crate::words::*;
 use std::str::FromStr;
 
 /// Puts a value into a field. None where there is no such field or place, or its type cannot hold the value; then nothing
 /// is changed.
-pub fn alter(model: &mut Model, field: &[&str], value: &str) -> Option<()> {
+pub fn alter(model: &mut Words, field: &[&str], value: &str) -> Option<()> {
     match *field {
-        ["magnitude"] => model.magnitude = number(value)?,
-        ["count"] => model.count = number(value)?,
-        ["tick"] => model.t = number(value)?,
-        ["microstep"] => model.n = number(value)?,
-        ["order", place] => *at(&mut model.order, place)? = number(value)?,
-        ["part", place, ref field @ ..] => alter_part(at(&mut model.parts, place)?, field, value)?,
+        ["magnitude"] => model.0[MAGNITUDE] = number::<u8>(value)?.into(),
+        ["count"] => model.0[COUNT] = number(value)?,
+        ["tick"] => model.0[T] = number(value)?,
+        ["microstep"] => model.0[N] = number(value)?,
+        ["order", at] => model.0[ORDER + place(at, PARTS)?] = number::<u16>(value)?.into(),
+        ["part", at, ref field @ ..] => alter_part(model.part_mut(place(at, PARTS)?), field, value)?,
         _ => return None,
     }
     Some(())
 }
 
 /// Puts a value into a field of a part.
-fn alter_part(part: &mut Part, field: &[&str], value: &str) -> Option<()> {
+fn alter_part(part: &mut [u64], field: &[&str], value: &str) -> Option<()> {
     match *field {
-        ["kind"] => part.kind = *KINDS.get(number::<usize>(value)?)?,
-        ["preference"] => part.preference = number(value)?,
-        ["a"] => part.a = number(value)?,
-        ["b"] => part.b = number(value)?,
-        ["p"] => part.p = number(value)?,
-        ["spans"] => part.span_count = number(value)?,
-        ["span", place] => *at(&mut part.spans, place)? = number(value)?,
-        ["port0"] => part.port0 = number_or_none(value)?,
-        ["port1"] => part.port1 = number_or_none(value)?,
-        ["ratio"] => part.ratio = number(value)?,
-        ["local"] => part.local = number(value)?,
-        ["held"] => part.held = number(value)?,
-        ["speed"] => part.speed = number(value)?,
-        ["signal"] => part.signal = number_or_none(value)?,
-        ["output"] => part.output = number_or_none(value)?,
-        ["side"] => part.side = side(value)?,
-        ["mark"] => part.mark = mark(value)?,
+        ["kind"] => part[KIND] = place(value, KINDS)? as u64,
+        ["preference"] => part[PREFERENCE] = number::<u8>(value)?.into(),
+        ["a"] => part[A] = signed(value)?,
+        ["b"] => part[B] = signed(value)?,
+        ["p"] => part[P] = number::<u32>(value)?.into(),
+        ["spans"] => part[SPAN_COUNT] = number(value)?,
+        ["span", at] => part[FIRST_SPAN + place(at, SPANS)?] = number::<u32>(value)?.into(),
+        ["port0"] => part[PORT] = port(value)?,
+        ["port1"] => part[PORT + 1] = port(value)?,
+        ["ratio"] => part[RATIO] = number(value)?,
+        ["local"] => part[LOCAL] = number(value)?,
+        ["held"] => part[HELD] = signed(value)?,
+        ["speed"] => part[SPEED] = signed(value)?,
+        ["signal"] => part[SIGNAL..][..2].copy_from_slice(&signal(value)?),
+        ["output"] => part[OUTPUT..][..2].copy_from_slice(&signal(value)?),
+        ["side"] => part[SIDE] = one_of(&["unset", "negative", "positive"], value)?,
+        ["mark"] => part[MARK] = one_of(&["none", "1", "-1"], value)?,
         _ => return None,
     }
     Some(())
@@ -52,34 +52,33 @@ pub fn number<T: FromStr>(word: &str) -> Option<T> {
     word.parse().ok()
 }
 
-/// A number, or `-`: an unwired port, an absent signal.
-fn number_or_none<T: FromStr>(word: &str) -> Option<Option<T>> {
+/// A signed number as a word.
+fn signed(word: &str) -> Option<u64> {
+    number::<i64>(word).map(|value| value as u64)
+}
+
+/// A port's word: a part number, or `-` where it is unwired.
+fn port(word: &str) -> Option<u64> {
     if word == "-" {
-        Some(None)
-    } else {
-        number(word).map(Some)
+        return Some(0);
     }
+    number::<u16>(word).map(|source| u64::from(source) + 1)
 }
 
-/// The place that a word numbers.
-fn at<'a, T>(places: &'a mut [T], word: &str) -> Option<&'a mut T> {
-    places.get_mut(number::<usize>(word)?)
+/// A signal's two words: a value, or `-` where it is absent.
+fn signal(word: &str) -> Option<[u64; 2]> {
+    if word == "-" {
+        return Some([0, 0]);
+    }
+    signed(word).map(|value| [1, value])
 }
 
-fn side(word: &str) -> Option<Side> {
-    match word {
-        "unset" => Some(Side::Unset),
-        "negative" => Some(Side::Negative),
-        "positive" => Some(Side::Positive),
-        _ => None,
-    }
+/// The place that a word numbers, of so many.
+fn place(word: &str, places: usize) -> Option<usize> {
+    number(word).filter(|&at| at < places)
 }
 
-fn mark(word: &str) -> Option<Mark> {
-    match word {
-        "none" => Some(Mark::Clear),
-        "1" => Some(Mark::Rising),
-        "-1" => Some(Mark::Falling),
-        _ => None,
-    }
+/// The number of a name.
+fn one_of(names: &[&str], word: &str) -> Option<u64> {
+    names.iter().position(|&name| name == word).map(|at| at as u64)
 }

@@ -1,15 +1,15 @@
 //! The lines of a script: their words, the registers that they name, and the answers as they are printed.
 
 use crate::alterations::{alter, number};
-use crate::implementations::Calls;
-use dozhumek::{Answer, Model, PARTS};
+use crate::implementations::{Answer, Calls};
+use crate::words::{Words, COUNT, N, OUTPUT, PARTS, T};
 use std::collections::BTreeMap;
 use std::fmt::Write;
 use std::marker::PhantomData;
 
 /// The models by the names of their registers; a register that was never set holds no model.
 pub struct Registers<C> {
-    models: BTreeMap<String, Model>,
+    models: BTreeMap<String, Words>,
     calls: PhantomData<C>,
 }
 
@@ -60,8 +60,8 @@ impl<C: Calls> Registers<C> {
     }
 
     /// What a register holds.
-    pub fn model(&self, name: &str) -> Model {
-        self.models.get(name).cloned().unwrap_or_else(|| Model::from_bytes(&[]))
+    pub fn model(&self, name: &str) -> Words {
+        self.models.get(name).cloned().unwrap_or_else(Words::none)
     }
 }
 
@@ -86,14 +86,16 @@ fn bytes(word: &str) -> Option<Vec<u8>> {
 
 /// An answer as a script prints it: outputs by part number, none of them where there are more parts than room for them.
 fn said(answer: &Answer) -> String {
-    let Answer { number, step, rounds, revisions, ceiling, model } = answer;
-    let mut said = format!("{number} {step} {rounds} {revisions} {ceiling} at {} {} outputs", model.t, model.n);
-    let count = usize::try_from(model.count).ok().filter(|&count| count <= PARTS).unwrap_or(0);
-    for part in &model.parts[..count] {
+    let Answer { counts: [number, step, rounds, revisions, ceiling], model } = answer;
+    let (t, n) = (model.0[T], model.0[N]);
+    let mut said = format!("{number} {step} {rounds} {revisions} {ceiling} at {t} {n} outputs");
+    let count = if model.0[COUNT] <= PARTS as u64 { model.count() } else { 0 };
+    for number in 0..count {
+        let output = &model.part(number)[OUTPUT..][..2];
         // A string takes every write.
-        let _ = match part.output {
-            Some(value) => write!(said, " {value}"),
-            None => write!(said, " -"),
+        let _ = match output[0] {
+            0 => write!(said, " -"),
+            _ => write!(said, " {}", output[1] as i64),
         };
     }
     said

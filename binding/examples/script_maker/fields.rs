@@ -37,7 +37,33 @@ pub fn sort_of(field: &str) -> &str {
     }
 }
 
-/// The fields in use and their values, of a model in normal words. Where it claims more parts than there is room for, `parts`
+/// The words that a script's alterations can say: a number modulo its field's width, and an unknown code as 0.
+pub fn sayable(words: &Words) -> Words {
+    let mut words = words.clone();
+    words.0[MAGNITUDE] &= 0xFF;
+    for number in 0..PARTS {
+        words.0[ORDER + number] &= 0xFFFF;
+        let part = words.part_mut(number);
+        part[KIND] = if part[KIND] < KINDS as u64 { part[KIND] } else { 0 };
+        part[PREFERENCE] &= 0xFF;
+        part[P] &= 0xFFFF_FFFF;
+        part[FIRST_SPAN..PORT].iter_mut().for_each(|span| *span &= 0xFFFF_FFFF);
+        for port in &mut part[PORT..RATIO] {
+            *port = if *port == 0 { 0 } else { (*port - 1) % 65_536 + 1 };
+        }
+        for signal in [SIGNAL, OUTPUT] {
+            if part[signal] != 1 {
+                part[signal..signal + 2].fill(0);
+            }
+        }
+        for code in [SIDE, MARK] {
+            part[code] = if part[code] < 3 { part[code] } else { 0 };
+        }
+    }
+    words
+}
+
+/// The fields in use and their values, of words that a script can say. Where it claims more parts than there is room for, `parts`
 /// are in use.
 pub fn of(words: &Words, parts: usize) -> Vec<(String, String)> {
     let count = if words.0[COUNT] <= PARTS as u64 { words.count() } else { parts };

@@ -79,7 +79,7 @@ impl Made {
 
     /// What a register holds.
     fn words(&self, name: &str) -> Words {
-        Words::from_bytes(&self.registers.model(name).bytes())
+        self.registers.model(name)
     }
 
     /// Advances a model by some step, up to `most` times. The last number.
@@ -114,7 +114,7 @@ impl Made {
         if !alteration(&mut altered, random) {
             return;
         }
-        self.alter_into(name, &altered.normal(), before.count());
+        self.alter_into(name, &fields::sayable(&altered), before.count());
         let number = self.play(name, 3, random);
         self.reached.insert(format!("sort {sort}"));
         if number == Some(24) || random.once_in(2) {

@@ -1,2 +1,2 @@
--- A model's bytes within the bytes of an answer mean that model.
-mod Again
+-- Laws behind the exported calls.
+mod Laws

@@ -1,31 +1,58 @@
--- What the exported calls leave in the buffer that the caller lends: the bytes of an answer that the call behind it gives. Assumes nothing.
-use Prim.Native.Nat.{ℕ}
+-- What the exported calls leave in the words that the caller lends, and what they answer, for every argument. Assumes nothing.
+use Prim.Native.Nat.{ℕ, _≤_, _<_}
 use mathlib.Core.Path.{_≡_}
-use mathlib.Core.List.{List}
-use lib.ListN.{take, drop}
-use Rattle.machine.specs.declared.model.Loaded.{Loaded}
-use Rattle.machine.specs.declared.model.Answer.{Answer}
-use Rattle.machine.specs.Model.{trimmed-loaded}
+use mathlib.Core.Bool.{true, cond, _&&_}
+use mathlib.Core.List.{List, _∷_}
+use lib.Dec.{eqb, leb}
+use lib.ListN.{length, drop}
+use Rattle.machine.specs.declared.model.Model.{Model}
 use Rattle.machine.specs.Load.{load}
-use Rattle.machine.specs.Calls.{Advanced}
-use Rattle.codec.specs.Encoded.{loaded-bytes, answer-bytes}
-use Rattle.codec.specs.Decoded.{model-of}
-use Rattle.encoding.specs.WrittenInto.{WrittenInto}
-use Rattle.loading.specs.Blank.{blank-model}
+use Rattle.machine.specs.Sound.{sound}
+use Rattle.machine.specs.Advance.{Outcome}
+use Rattle.store.specs.Held.{table-words, state-words-of}
+use Rattle.store.specs.Form.{spelled}
+use Rattle.store.specs.ModelPut.{ModelPut}
+use Rattle.master.specs.Into.{verdict-of, lent-model, outcome-into, CalledInto}
 
--- A stream, the buffer before and after a load, and the call's number: there is an answer that loading the stream gives, with all of the model 0
--- where it is refused, and its bytes were written. Handed in again, the model's bytes mean that very model.
-pub record LoadedInto (stream before after : List ℕ) (number : ℕ) : Type 0 where
-  pub answer : Loaded
-  pub machine : trimmed-loaded answer ≡ load stream
-  pub refused : (answer .number ≡ 0 → ⊥) → answer .model ≡ blank-model
-  pub written : WrittenInto (loaded-bytes answer) 6960 before after number
-  pub again : number ≡ 0 → model-of (take 6944 (drop 16 after)) ≡ answer .model
+-- the number of a load that ended with a number and a model of so many parts, with so many words lent for the table and for the state: 25 where the
+-- table is accepted and there are too few of either
+unfoldable pub taken-number : (number count table state : ℕ) → ℕ
+taken-number number count table state =
+    cond (eqb number 0) (cond (leb (table-words count) table && leb (state-words-of count) state) 0 25) number
 
--- The bytes of a model, a wanted step, the buffer before and after an advance, and the call's number: there is an answer that advancing the model
--- gives, and its bytes were written. Handed in again, the model's bytes mean that very model, so that calls behind calls are a chain of advances.
-pub record AdvancedInto (model : List ℕ) (wanted : ℕ) (before after : List ℕ) (number : ℕ) : Type 0 where
-  pub answer : Answer
-  pub machine : Advanced (model-of model) wanted answer
-  pub written : WrittenInto (answer-bytes answer) 6984 before after number
-  pub again : number ≡ 0 → model-of (take 6944 (drop 40 after)) ≡ answer .model
+-- a model that was loaded with a number, and the words of a table before and after it was taken in, a and b, and of a state, s and t: where the number is then 0 the model
+-- was put into the words, and where it is not they are kept
+pub record TakenIn (m : Model) (loaded : ℕ) (a b s t : List ℕ) (number : ℕ) : Type 0 where
+  pub is : number ≡ taken-number loaded (m .count) (length a) (length s)
+  pub put : number ≡ 0 → ModelPut m b t
+  pub kept : (number ≡ 0 → ⊥) → (b ≡ a) × (t ≡ s)
+
+-- the number of a load of a stream
+abbrev pub loaded-number : List ℕ → ℕ → ℕ → ℕ
+loaded-number stream table state = taken-number (load stream .number) (load stream .model .count) table state
+
+-- A stream, the words of a table before and after a load, a and b, of a state, s and t, and of the answer, o and p, and the call's number. Where the
+-- answer has room, the number is the load's, or 25; it and the load's position are the answer's first words, and the others are kept. Where the number is 0,
+-- the words spell the model that loading the stream gives, and it is sound, so that a call on it is not refused with 24; where it is not, the words are kept.
+pub record LoadedWords (stream a b s t o p : List ℕ) (number : ℕ) : Type 0 where
+  pub short : length o < 2 → (number ≡ 25) × (p ≡ o)
+  pub is : 2 ≤ length o → number ≡ loaded-number stream (length a) (length s)
+  pub answer : 2 ≤ length o → p ≡ number ∷ load stream .position ∷ drop 2 o
+  pub model : number ≡ 0 → lent-model b t ≡ load stream .model
+  pub form : number ≡ 0 → spelled b t ≡ true
+  pub sounds : number ≡ 0 → sound (lent-model b t) ≡ true
+  pub kept : (number ≡ 0 → ⊥) → (b ≡ a) × (t ≡ s)
+
+-- how a call of `advance` ends, in words, with what stood behind them
+unfoldable pub outcome-words : Outcome → List ℕ → List ℕ
+outcome-words o rest = o .number ∷ o .step ∷ o .rounds ∷ o .revisions ∷ o .ceiling ∷ rest
+
+-- The words of a table, of an old state, of a new state before and after an advance by at most w, a and b, and of the answer, o and p, and the call's number.
+-- Where the answer has room, the call ends as it does on those words, the answer's first words say so, and the others are kept. Where it has none, nothing is
+-- written.
+pub record AdvancedWords (table old : List ℕ) (w : ℕ) (a b o p : List ℕ) (number : ℕ) : Type 0 where
+  pub short : length o < 5 → (number ≡ 25) × (b ≡ a) × (p ≡ o)
+  pub is : 5 ≤ length o → number ≡ outcome-into table old w (length a) .number
+  pub answer : 5 ≤ length o → p ≡ outcome-words (outcome-into table old w (length a)) (drop 5 o)
+  pub called : 5 ≤ length o →
+      CalledInto (outcome-into table old w (length a)) table old a b (verdict-of (outcome-into table old w (length a)))

@@ -1,32 +1,114 @@
-// The calls `load` and `advance` for programs in Rust and C, through a static library: numbers and bytes
-// alone cross the boundary. A model is 6944 bytes, and every number a word of 8 bytes, the lowest first, as
-// the crate `codec` lays down in its `specs/Encoded.antt`. The contracts cite `specs/Exported.antt`; they ask
-// nothing of the caller but that each slice is one, and that `out` overlaps no other.
-use codec::decode::model_of;
-use encoding::write::write_answer;
-use encoding::write::write_loaded;
+// The calls `load` and `advance` for programs in Rust and C, through a static library. A model lies in words of 64 bits that
+// the caller lends, as the crate `store` lays down in its `specs/Held.antt`: those of a table, 18 for each part and 2 before them,
+// and those of a state, 9 for each part and 2 before them. The calls work in the caller's own memory, and the answer's
+// numbers are written into `out`. The contracts cite `specs/Exported.antt`; they ask nothing of the caller but that each slice is
+// one, and that what is lent for writing overlaps no other.
 use loading::load;
-use master::advance;
-ghost use Rattle.boundary.specs.Exported.{AdvancedInto, LoadedInto};
+use machine::model::Model;
+use master::advance_into;
+use store::intake::put_model;
+ghost use mathlib.Core.Path.{_≡_};
+ghost use mathlib.Core.List.{_∷_};
+ghost use Prim.Native.Nat.{_≤_};
+ghost use lib.ListN.{drop, length};
+ghost use Rattle.boundary.specs.Exported.{AdvancedWords, LoadedWords, TakenIn};
 
-// The table at the start of a stream, loaded. Written into `out` are 6960 bytes: the number, the position and
-// the model. The answer is 0, or 25 where `out` is shorter, and then nothing is written.
-#[no_mangle]
-pub extern "C" fn dozhumek_load(stream: &[u8], out: &mut [u8]) -> u64
-    ensures { λ n. ⌜ LoadedInto (now (stream .entry)) (now (out .entry)) (now (out .exit)) n ⌝ }
+// The number of a call whose words are too few for what it has to write.
+const TOO_SHORT: u64 = 25;
+
+// How many words of `out` a load writes, and an advance.
+const LOADED: usize = 2;
+
+const ADVANCED: usize = 5;
+
+// A load's numbers.
+fn put_found(out: &mut [u64], number: u64, position: u64)
+    requires { ⌜ 2 ≤ length (now out) ⌝ }
+    ensures { λ r. ⌜ now (out .exit) ≡ number ∷ position ∷ drop 2 (now (out .entry)) ⌝ }
 {
-    let loaded = load(stream);
-    write_loaded(loaded, out)
+    out[0] = number;
+    out[1] = position;
 }
 
-// One advance, by at most `wanted`, of the model that the bytes mean, whatever they are. Written into `out`
-// are 6984 bytes: the number, the step, the rounds, the revisions, the last ceiling and the model. The answer
-// is 0, or 25 where `out` is shorter, and then nothing is written.
-#[no_mangle]
-pub extern "C" fn dozhumek_advance(model: &[u8], wanted: u64, out: &mut [u8]) -> u64
-    ensures { λ n. ⌜ AdvancedInto (now (model .entry)) wanted (now (out .entry)) (now (out .exit)) n ⌝ }
+// An advance's numbers.
+fn put_counts(out: &mut [u64], number: u64, step: u64, rounds: u64, revisions: u64, ceiling: u64)
+    requires { ⌜ 5 ≤ length (now out) ⌝ }
+    ensures { λ r. ⌜ now (out .exit) ≡ number ∷ step ∷ rounds ∷ revisions ∷ ceiling ∷ drop 5 (now (out .entry)) ⌝ }
 {
-    let given = model_of(model);
-    let answer = advance(given, wanted);
-    write_answer(answer, out)
+    out[0] = number;
+    out[1] = step;
+    out[2] = rounds;
+    out[3] = revisions;
+    out[4] = ceiling;
+}
+
+// A model that was loaded with a number, put into the words where it was accepted and they have room for it. The number
+// that the call then has.
+fn take_in(model: Model, number: u64, table: &mut [u64], state: &mut [u64]) -> u64
+    requires { ⌜ (number ≡ 0 → model .count ≤ 32) ⌝ }
+    ensures { λ n. ⌜ TakenIn model number (now (table .entry)) (now (table .exit)) (now (state .entry)) (now (state .exit)) n ⌝ }
+{
+    if number != 0 {
+        return number;
+    }
+    let count = model.count;
+    if table.len() < 18 * count + 2 {
+        return TOO_SHORT;
+    }
+    if state.len() < 9 * count + 2 {
+        return TOO_SHORT;
+    }
+    put_model(model, table, state);
+    0
+}
+
+// The table at the start of a stream, loaded into the words of a table and of a state. Written into `out` are two words, the
+// number, which is the answer too, and the position. The number is 25 where the table is accepted and its words or
+// the state's are too few, and where `out` is, and then not even that is written.
+#[no_mangle]
+pub extern "C" fn dozhumek_load(
+    stream: &[u8],
+    table: &mut [u64],
+    state: &mut [u64],
+    out: &mut [u64],
+) -> u64
+    ensures { λ n. ⌜ LoadedWords (now (stream .entry)) (now (table .entry)) (now (table .exit)) (now (state .entry)) (now (state .exit)) (now (out .entry)) (now (out .exit)) n ⌝ }
+{
+    if out.len() < LOADED {
+        return TOO_SHORT;
+    }
+    let loaded = load(stream);
+    let model = loaded.model;
+    let number = take_in(model, loaded.number, table, state);
+    put_found(out, number, loaded.position as u64);
+    number
+}
+
+// One advance, by at most `wanted`, of the model that the words spell, whatever they are. The words of the new state are the
+// caller's to take up where the number is 0. Written into `out` are five words: the number, which is the answer too, the
+// step, the rounds, the revisions and the last ceiling. The number is 25 where the new state's words are too few, and
+// where `out` is, and then nothing is written.
+#[no_mangle]
+pub extern "C" fn dozhumek_advance(
+    table: &[u64],
+    old: &[u64],
+    wanted: u64,
+    new: &mut [u64],
+    out: &mut [u64],
+) -> u64
+    ensures { λ n. ⌜ AdvancedWords (now (table .entry)) (now (old .entry)) wanted (now (new .entry)) (now (new .exit)) (now (out .entry)) (now (out .exit)) n ⌝ }
+{
+    if out.len() < ADVANCED {
+        return TOO_SHORT;
+    }
+    let verdict = advance_into(table, old, wanted, new);
+    put_counts(
+        out,
+        verdict.number,
+        verdict.step,
+        verdict.rounds,
+        verdict.revisions,
+        verdict.ceiling,
+    );
+    verdict.number
 }

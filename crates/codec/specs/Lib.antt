@@ -1,12 +1,7 @@
--- The bytes of a model and of what the calls answer, and the model that bytes mean: what the contracts of this crate and of `encoding` cite; then laws
--- of them, the last of which is that a model's bytes mean that model.
+-- Numbers and fields as words, and what words mean as numbers and fields: what the contracts of this crate and of `store` cite; then laws of them.
 pub mod Words
 pub mod Encoded
 pub mod Decoded
-pub mod WordsPut
 pub mod Tables
-pub mod Widths
-pub mod WordPieces
 pub mod Sized
 pub mod Fields
-pub mod RoundTrip

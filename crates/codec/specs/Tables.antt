@@ -1,6 +1,5 @@
--- Laws of tables and rows: how long they are, what stands where, and one list more; and an array that is filled from the front with a table's
--- elements. Assumes nothing.
-use Prim.Native.Nat.{ℕ, zero, suc, _+_, _*_, _<_, _≤_}
+-- Laws of tables: how long they are and what stands where; and an array that is filled from the front with a table's elements. Assumes nothing.
+use Prim.Native.Nat.{ℕ, zero, suc, _+_, _<_, _≤_}
 use native.Mathlib.Numerals.{add-one}
 use native.Mathlib.Omega.{arith}
 use mathlib.Core.Path.{_≡_, refl, sym, subst, ap, ap₂, _∙_}
@@ -8,11 +7,11 @@ use mathlib.Core.Bool.{true, false}
 use mathlib.Core.Logic.{_⊎_, inl, inr}
 use mathlib.Core.List.{List, [], _∷_, _++_}
 use lib.ListN.{length, getD, take, set, length-append, length-set, List·getD-append}
-use lib.Seq.{take-suc-set, take-all, getD-at, getD-append-add, ext-getD}
+use lib.Seq.{take-suc-set, take-all, getD-at, ext-getD}
 use lib.Dec.{ltb}
 use borrow.Author.Tests.{ltb-true, ltb-false}
 use Rattle.laws.specs.Bools.{either}
-use Rattle.codec.specs.Words.{table, rows}
+use Rattle.codec.specs.Words.{table}
 
 module _ {ℓ} {A : Type ℓ} where
   -- as many as the table's number
@@ -66,48 +65,6 @@ module _ {ℓ} {A : Type ℓ} where
       let f : ℕ → A = λ (i : ℕ). getD l i d in
       let wide = length-table f n in
       ext-getD d (table f n) l (wide ∙ sym e) (λ i p. table-at f n i d (omega arith))
-
--- one list more
-pub rows-more : (f : ℕ → List ℕ) (i : ℕ) → rows f i ++ f i ≡ rows f (i + 1)
-unfolding rows
-rows-more f i = rw add-one refl
-
--- lists of one element each make a table
-pub rows-ones : (f : ℕ → ℕ) (n : ℕ) → rows (λ (i : ℕ). f i ∷ []) n ≡ table f n
-unfolding rows table
-rows-ones f zero = refl
-rows-ones f (suc n) = ap (λ (l : List ℕ). l ++ (f n ∷ [])) (rows-ones f n)
-
--- how many elements lists of k each have
-pub length-rows : (k : ℕ) (f : ℕ → List ℕ) (n : ℕ) → ((i : ℕ) → length (f i) ≡ k) → length (rows f n) ≡ n * k
-unfolding rows
-length-rows k f zero wide = omega arith
-length-rows k f (suc n) wide =
-    let later = length-rows k f n wide in
-    let last = wide n in
-    rw (length-append (rows f n) (f n)) (omega arith)
-
--- what stands at a place of lists of 26 each
-pub rows-at : (f : ℕ → List ℕ) (n i j : ℕ) → ((i : ℕ) → length (f i) ≡ 26) → i < n → j < 26 → getD (rows f n) (26 * i + j) 0 ≡ getD (f i) j 0
-unfolding rows
-rows-at f zero i j wide h low = absurd (omega arith)
-rows-at f (suc n) i j wide h low = cases (either (ltb i n)) (rows-at f n i j wide)
-  where
-    cases :
-        (ltb i n ≡ true) ⊎ (ltb i n ≡ false) →
-        (i < n → j < 26 → getD (rows f n) (26 * i + j) 0 ≡ getD (f i) j 0) →
-        getD (rows f (suc n)) (26 * i + j) 0 ≡ getD (f i) j 0
-    cases (inl e) later =
-        let before = ltb-true i n e in
-        let many = length-rows 26 f n wide in
-        let inside : 26 * i + j < length (rows f n) = omega arith in
-        List·getD-append (rows f n) (f n) 0 (26 * i + j) inside ∙ later before low
-    cases (inr e) later =
-        let same : i ≡ n = omega (arith, ltb-false i n e) in
-        let many = length-rows 26 f n wide in
-        let place : 26 * i + j ≡ length (rows f n) + j = omega arith in
-        ap (λ (k : ℕ). getD (rows f n ++ f n) k 0) place ∙ getD-append-add (rows f n) (f n) j 0 ∙
-        ap (λ (k : ℕ). getD (f k) j 0) (sym same)
 
 -- what holds of the elements before a place, and at it, holds of those before the next
 pub below-more : (P : ℕ → Type 0) (i : ℕ) → ((j : ℕ) → j < i → P j) → P i → (j : ℕ) → j < i + 1 → P j

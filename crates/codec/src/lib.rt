@@ -1,6 +1,5 @@
-// The bytes of a model, for callers in other languages: a model is read from any bytes, and a number or a
-// field of a part is made a word of 8 bytes, of which the crate `encoding` builds a model's bytes. The
-// contracts cite `specs/Words.antt`, `specs/Encoded.antt` and `specs/Decoded.antt`.
-pub mod decode;
+// Numbers and the fields of a part as words of 64 bits, and back: a signed number in two's complement, and a number for
+// each case of an enum. The crate `store` lays a model's words out of them. The contracts cite `specs/Words.antt`, `specs/Encoded.antt`
+// and `specs/Decoded.antt`.
 pub mod fields;
 pub mod word;

@@ -1,29 +1,47 @@
--- `dozhumek_load` loads the stream, and writes that answer; taken out again, the model's bytes mean that model (`Again.antt`).
+-- `dozhumek_load` loads the stream, puts the model into the words where they have room for it, and then writes its two numbers.
+use Rattle.boundary.proofs.Laws.{loaded-few, loaded-short, loaded-words}
 use borrow.Author.Needs.{needs}
-use Rattle.boundary.proofs.Again.{loaded-again}
 use Rattle.boundary.proofs.dozhumek_load.Statement.{statement}
 use Rattle.boundary.proofs.dozhumek_load.Tie as tie
+
+returns : tie.Need-returns
+returns c = loaded-short _ _ _ _ (c .if1 .taken)
 
 load-requires : tie.Need-load-requires
 load-requires c κs = search needs
 
-write-loaded-requires : tie.Need-write-loaded-requires
-write-loaded-requires c κs = search needs
+take-in-requires : tie.Need-take-in-requires
+take-in-requires c κs = λ none. loaded-few _ (c .before .before .before .load .result) (c .before .before .before .load .ensures .0) none
+
+put-found-requires : tie.Need-put-found-requires
+put-found-requires c κs = search needs
 
 same-length : tie.Need-same-length
 same-length c = search needs
 
-returns : tie.Need-returns
-returns c =
-    let written = c .before .before in
-    let call = written .before .before in
-    record {
-      answer = call .load .result;
-      machine = call .load .ensures .0;
-      refused = call .load .ensures .1;
-      written = written .write-loaded .ensures .0;
-      again = loaded-again (call .load .result) (written .write-loaded .ensures .0) (written .write-loaded .ensures .1);
-    }
+same-length-2 : tie.Need-same-length-2
+same-length-2 c = search needs
+
+same-length-3 : tie.Need-same-length-3
+same-length-3 c = search needs
+
+returns-2 : tie.Need-returns-2
+returns-2 c =
+    let writes = c .before .before in
+    let takes = writes .before .before .before .before .before .before in
+    let loads = takes .before .before .before .before in
+    loaded-words _ _ (takes .take-in .last .1 .1 .0) _ (takes .take-in .last .1 .1 .1 .0) _ (writes .put-found .last .0) (loads .load .result)
+    (takes .take-in .result) (loads .load .ensures .0) (takes .take-in .ensures) (loads .before .if1 .left) (writes .put-found .ensures)
 
 pub dozhumek-load-spec : {M : Type 1} → statement M
-dozhumek-load-spec = tie.close (tie.spec load-requires write-loaded-requires same-length returns)
+dozhumek-load-spec =
+    tie.close
+    (tie.spec
+    returns
+    load-requires
+    take-in-requires
+    put-found-requires
+    same-length
+    same-length-2
+    same-length-3
+    returns-2)

@@ -1,0 +1,240 @@
+//! One load and one advance by both, compared: as it is, through the binding, and with too few words.
+
+use crate::alter::any;
+use crate::lent::{self, fewer, same_records, spare, state_words, table_words, TOO_SHORT};
+use crate::random::Random;
+use crate::seen::Seen;
+use crate::words::*;
+use second::Model;
+
+/// The number of a model that is not sound.
+pub const NOT_SOUND: u64 = 24;
+
+/// An answer's number, step, rounds, revisions and last ceiling, and the words of its model.
+struct Expected {
+    counts: [u64; 5],
+    model: Words,
+    by_rule: bool,
+}
+
+fn expected(given: &Words, w: u64) -> Result<Expected, String> {
+    let mut model = given.clone();
+    let Some(meant) = model.model() else {
+        return Ok(Expected { counts: [NOT_SOUND, 0, 0, 0, 0], model, by_rule: true });
+    };
+    let answer = second::advance(meant.clone(), w);
+    if answer.number == 0 {
+        model.put(&answer.model);
+    } else if answer.model != meant {
+        return Err("the second implementation changes a model that it refuses".to_string());
+    }
+    let counts = [answer.number.into(), answer.step, answer.rounds.into(), answer.revisions.into(), answer.ceiling];
+    Ok(Expected { counts, model, by_rule: false })
+}
+
+/// Loads a stream with both. The second implementation's model, if it is accepted.
+pub fn load(stream: &[u8], random: &mut Random, seen: &mut Seen) -> Result<Option<Model>, String> {
+    let fill = any(random);
+    seen.loads += 1;
+    let (number, position, loaded) = match second::load(stream) {
+        Ok(accepted) => (0, accepted.end as u64, Some(accepted.model)),
+        Err(refusal) => (u64::from(refusal.number), refusal.position as u64, None),
+    };
+    let count = loaded.as_ref().map_or(0, |model| model.parts.len());
+    let lengths = [table_words(count) + spare(random), state_words(count) + spare(random), 2 + spare(random)];
+    let got = lent::load(stream, lengths, fill);
+    if got.code != number || got.out[..2] != [number, position] || got.out[2..].iter().any(|&word| word != fill) {
+        return Err(format!("load answers {} and {:?} instead of {number} at {position}", got.code, got.out));
+    }
+    seen.load_numbers[number as usize] += 1;
+    let words = Words::of_lent(&got.table, &got.state);
+    match &loaded {
+        Some(model) => {
+            // The spans in no use are free.
+            let mut wanted = words.clone();
+            wanted.put(model);
+            same_words(&words, &wanted)?;
+            let behind = got.table[table_words(count)..].iter().chain(&got.state[state_words(count)..]);
+            if behind.copied().any(|word| word != fill) {
+                return Err("load writes behind the model".to_string());
+            }
+        }
+        None if !got.kept(fill) => return Err("a refused load writes a model".to_string()),
+        None => {}
+    }
+    if random.once_in(8) {
+        load_bound(stream, [number, position], count)?;
+        seen.count("load through the binding");
+    }
+    load_short(stream, [number, position], count, fill, random, seen)?;
+    Ok(loaded)
+}
+
+/// The same load through the binding.
+fn load_bound(stream: &[u8], said: [u64; 2], count: usize) -> Result<(), String> {
+    let bound = dozhumek::load(stream);
+    let (table, state) = (bound.model.table(), bound.model.state());
+    let again = lent::load(stream, [table_words(count), state_words(count), 2], 0);
+    if [bound.number, bound.position] != said || table != again.table || state != again.state {
+        return Err("the binding's load answers something else".to_string());
+    }
+    same_records(&bound.model, &Words::of_lent(table, state))
+}
+
+/// The same load with too few words.
+fn load_short(
+    stream: &[u8],
+    [number, position]: [u64; 2],
+    count: usize,
+    fill: u64,
+    random: &mut Random,
+    seen: &mut Seen,
+) -> Result<(), String> {
+    let (table, state) = (table_words(count), state_words(count));
+    if random.once_in(8) {
+        let lengths = match random.below(3) {
+            0 => [fewer(table, random), state, 2],
+            1 => [table, fewer(state, random), 2],
+            _ => [fewer(table, random), fewer(state, random), 2],
+        };
+        let got = lent::load(stream, lengths, fill);
+        let due = if number == 0 { TOO_SHORT } else { number };
+        if got.code != due || got.out != [due, position] || !got.kept(fill) {
+            return Err(format!("load into {lengths:?} words answers {} and {:?}", got.code, got.out));
+        }
+        seen.count(if number == 0 { "load into too few words" } else { "refused load into too few words" });
+    }
+    if random.once_in(16) {
+        let got = lent::load(stream, [table, state, random.below(2)], fill);
+        if got.code != TOO_SHORT || got.out.iter().any(|&word| word != fill) || !got.kept(fill) {
+            return Err(format!("load with room for {} words of its answer answers {}", got.out.len(), got.code));
+        }
+        seen.count("load with too little room");
+    }
+    Ok(())
+}
+
+/// The words of a model as they are lent: as many as are needed, or more, and any behind an absent signal.
+fn lend(given: &Words, random: &mut Random, seen: &mut Seen) -> (Vec<u64>, Vec<u64>) {
+    let mut words = given.clone();
+    if given.0[COUNT] <= PARTS as u64 && random.once_in(4) {
+        for number in 0..given.count() {
+            for signal in [SIGNAL, OUTPUT] {
+                if words.part(number)[signal] == 0 {
+                    words.part_mut(number)[signal + 1] = any(random);
+                    seen.count("a word behind an absent signal");
+                }
+            }
+        }
+    }
+    let (mut table, mut state) = (words.table(), words.state());
+    match random.below(4) {
+        0 => {
+            table.extend((0..1 + random.below(20)).map(|_| any(random)));
+            state.extend((0..1 + random.below(20)).map(|_| any(random)));
+            seen.count("words behind all places");
+        }
+        1 | 2 if given.0[COUNT] <= PARTS as u64 => {
+            table.truncate(table_words(given.count()));
+            state.truncate(state_words(given.count()));
+            seen.count("no word behind the model");
+        }
+        _ => {}
+    }
+    (table, state)
+}
+
+/// Advances a model with both. The number, and the model afterwards.
+pub fn advance(given: &Words, w: u64, random: &mut Random, seen: &mut Seen) -> Result<(u64, Words), String> {
+    let want = expected(given, w)?;
+    let fill = any(random);
+    seen.advances += 1;
+    let (table, old) = lend(given, random, seen);
+    let count = given.0[COUNT].min(PARTS as u64) as usize;
+    let got = lent::advance(&table, &old, w, [state_words(count) + spare(random), 5 + spare(random)], fill);
+    got.says(&want.counts, fill)?;
+    let mut after = given.clone();
+    if want.counts[2] == 0 {
+        if !got.kept(fill) {
+            return Err("a call that is barred writes a state".to_string());
+        }
+    } else {
+        if got.new[state_words(count)..].iter().any(|&word| word != fill) {
+            return Err("advance writes behind the state".to_string());
+        }
+        let mut state = given.state();
+        state[..state_words(count)].copy_from_slice(&got.new[..state_words(count)]);
+        after = Words::of_lent(&given.table(), &state);
+        same_words(&after.plain(), &want.model.plain())?;
+    }
+    if random.once_in(8) {
+        advance_bound(&table, &old, w, &want)?;
+        seen.count("advance through the binding");
+    }
+    advance_short(&table, &old, w, &want, fill, random, seen)?;
+    seen.answer(given, w, &want.counts, &want.model, want.by_rule);
+    Ok((want.counts[0], if want.counts[0] == 0 { after } else { given.clone() }))
+}
+
+/// The same advance through the binding.
+fn advance_bound(table: &[u64], old: &[u64], w: u64, want: &Expected) -> Result<(), String> {
+    let mut meant = Words::of_lent(table, old);
+    let mut model = dozhumek::Model::from_words(table.to_vec(), old.to_vec());
+    same_records(&model, &meant)?;
+    let bound = dozhumek::advance(&mut model, w);
+    let its = [bound.number, bound.step, bound.rounds, bound.revisions, bound.ceiling];
+    let after = Words::of_lent(model.table(), model.state());
+    if its[0] == 0 {
+        let needed = state_words(want.model.count());
+        meant = Words::of_lent(table, &[&want.model.state()[..needed], &old[needed..]].concat());
+    }
+    if its != want.counts || model.table() != table || after.plain() != meant.plain() {
+        return Err("the binding's advance answers something else".to_string());
+    }
+    same_records(&model, &after)
+}
+
+/// The same advance with too few words.
+fn advance_short(
+    table: &[u64],
+    old: &[u64],
+    w: u64,
+    want: &Expected,
+    fill: u64,
+    random: &mut Random,
+    seen: &mut Seen,
+) -> Result<(), String> {
+    let count = want.model.0[COUNT].min(PARTS as u64) as usize;
+    let needed = state_words(count);
+    if random.once_in(16) {
+        let (cut_table, cut_old) = match random.below(3) {
+            0 => (fewer(table_words(count), random), old.len()),
+            1 => (table.len(), fewer(needed, random)),
+            _ => (fewer(table_words(count), random), fewer(needed, random)),
+        };
+        let got = lent::advance(&table[..cut_table], &old[..cut_old], w, [needed, 5], fill);
+        got.bars(NOT_SOUND, fill)?;
+        seen.count("advance of too few words");
+    }
+    if random.once_in(16) {
+        let got = lent::advance(table, old, w, [fewer(needed, random), 5], fill);
+        let barred = want.counts[2] == 0;
+        got.bars(if barred { want.counts[0] } else { TOO_SHORT }, fill)?;
+        seen.count(if barred { "barred advance into too few words" } else { "advance into too few words" });
+    }
+    if random.once_in(64) {
+        let got = lent::advance(table, old, w, [needed, random.below(5)], fill);
+        if got.code != TOO_SHORT || got.out.iter().any(|&word| word != fill) || !got.kept(fill) {
+            return Err(format!("advance with room for {} words of its answer answers {}", got.out.len(), got.code));
+        }
+        seen.count("advance with too little room");
+    }
+    Ok(())
+}
+
+fn same_words(got: &Words, want: &Words) -> Result<(), String> {
+    match (0..WORDS).find(|&at| got.0[at] != want.0[at]) {
+        None => Ok(()),
+        Some(at) => Err(format!("word {at} of the model is {} instead of {}", got.0[at], want.0[at])),
+    }
+}

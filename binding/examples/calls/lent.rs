@@ -1,0 +1,189 @@
+//! The exported calls on words that are lent: what they are handed, what they answer and what they leave.
+
+use crate::random::Random;
+use crate::words::*;
+
+/// The number of a call whose words are too few for what it has to write.
+pub const TOO_SHORT: u64 = 25;
+
+extern "C" {
+    fn dozhumek_load(
+        stream: *const u8,
+        stream_length: usize,
+        table: *mut u64,
+        table_length: usize,
+        state: *mut u64,
+        state_length: usize,
+        out: *mut u64,
+        out_length: usize,
+    ) -> u64;
+    fn dozhumek_advance(
+        table: *const u64,
+        table_length: usize,
+        old: *const u64,
+        old_length: usize,
+        wanted: u64,
+        new: *mut u64,
+        new_length: usize,
+        out: *mut u64,
+        out_length: usize,
+    ) -> u64;
+}
+
+/// How many words the table of so many parts has, and a state.
+pub fn table_words(parts: usize) -> usize {
+    HEAD + TABLE_RECORD * parts
+}
+
+pub fn state_words(parts: usize) -> usize {
+    HEAD + STATE_RECORD * parts
+}
+
+/// What a load leaves: its number, and the words of the table, of the state and of the answer.
+pub struct Load {
+    pub code: u64,
+    pub table: Vec<u64>,
+    pub state: Vec<u64>,
+    pub out: Vec<u64>,
+}
+
+/// Loads a stream into so many words of each, all `fill` before.
+pub fn load(stream: &[u8], [table, state, out]: [usize; 3], fill: u64) -> Load {
+    let [mut table, mut state, mut out] = [table, state, out].map(|length| vec![fill; length]);
+    // SAFETY: the slices are whole, and overlap no other.
+    let code = unsafe {
+        dozhumek_load(
+            stream.as_ptr(),
+            stream.len(),
+            table.as_mut_ptr(),
+            table.len(),
+            state.as_mut_ptr(),
+            state.len(),
+            out.as_mut_ptr(),
+            out.len(),
+        )
+    };
+    Load { code, table, state, out }
+}
+
+impl Load {
+    /// Whether the words of the table and of the state are all `fill` still.
+    pub fn kept(&self, fill: u64) -> bool {
+        self.table.iter().chain(&self.state).all(|&word| word == fill)
+    }
+}
+
+/// What an advance leaves: its number, and the words of the new state and of the answer.
+pub struct Advance {
+    pub code: u64,
+    pub new: Vec<u64>,
+    pub out: Vec<u64>,
+}
+
+/// Advances the model of these words into so many of each, all `fill` before.
+pub fn advance(table: &[u64], old: &[u64], wanted: u64, [new, out]: [usize; 2], fill: u64) -> Advance {
+    let [mut new, mut out] = [new, out].map(|length| vec![fill; length]);
+    // SAFETY: the slices are whole, and those that are written overlap no other.
+    let code = unsafe {
+        dozhumek_advance(
+            table.as_ptr(),
+            table.len(),
+            old.as_ptr(),
+            old.len(),
+            wanted,
+            new.as_mut_ptr(),
+            new.len(),
+            out.as_mut_ptr(),
+            out.len(),
+        )
+    };
+    Advance { code, new, out }
+}
+
+impl Advance {
+    /// Whether the words of the new state are all `fill` still.
+    pub fn kept(&self, fill: u64) -> bool {
+        self.new.iter().all(|&word| word == fill)
+    }
+
+    /// Fails unless the answer is these numbers, with `fill` behind them.
+    pub fn says(&self, counts: &[u64; 5], fill: u64) -> Result<(), String> {
+        let (said, behind) = self.out.split_at(5);
+        if said != counts || self.code != counts[0] {
+            return Err(format!(
+                "number, step, rounds, revisions and ceiling are {said:?} instead of {counts:?}, and {} is answered",
+                self.code
+            ));
+        }
+        if behind.iter().any(|&word| word != fill) {
+            return Err("advance writes behind its answer".to_string());
+        }
+        Ok(())
+    }
+
+    /// Fails unless the call is barred by a number: counts of 0, and no word of the new state written.
+    pub fn bars(&self, number: u64, fill: u64) -> Result<(), String> {
+        self.says(&[number, 0, 0, 0, 0], fill)?;
+        if !self.kept(fill) {
+            return Err("a call that is barred writes a state".to_string());
+        }
+        Ok(())
+    }
+}
+
+/// How many words more than are needed.
+pub fn spare(random: &mut Random) -> usize {
+    random.pick(&[0, 0, 0, 1, 100])
+}
+
+/// Fewer words than are needed.
+pub fn fewer(needed: usize, random: &mut Random) -> usize {
+    let any = random.below(needed);
+    random.pick(&[0, 1.min(needed - 1), needed - 1, needed - 1, any])
+}
+
+/// The words of a part, by the binding's record of it.
+fn part_words(part: &dozhumek::Part) -> [u64; PART_WORDS] {
+    let mut words = [0; PART_WORDS];
+    words[KIND] = part.kind as u64;
+    words[PREFERENCE] = part.preference.into();
+    (words[A], words[B], words[P]) = (part.a as u64, part.b as u64, part.p.into());
+    words[SPAN_COUNT] = part.span_count;
+    for (at, span) in part.spans.into_iter().enumerate() {
+        words[FIRST_SPAN + at] = span.into();
+    }
+    for (at, port) in [part.port0, part.port1].into_iter().enumerate() {
+        words[PORT + at] = port.map_or(0, |source| u64::from(source) + 1);
+    }
+    (words[RATIO], words[LOCAL]) = (part.ratio, part.local);
+    (words[HELD], words[SPEED]) = (part.held as u64, part.speed as u64);
+    for (at, signal) in [(SIGNAL, part.signal), (OUTPUT, part.output)] {
+        (words[at], words[at + 1]) = signal.map_or((0, 0), |value| (1, value as u64));
+    }
+    (words[SIDE], words[MARK]) = (part.side as u64, part.mark as u64);
+    words
+}
+
+/// Fails unless the binding's records of a model say what its words do, and none where a part's words spell none.
+pub fn same_records(model: &dozhumek::Model, words: &Words) -> Result<(), String> {
+    let head = [model.magnitude(), model.count(), model.t(), model.n()];
+    if head != words.0[..ORDER] {
+        return Err(format!("the binding's magnitude, count, t and n are {head:?}"));
+    }
+    let words = words.plain();
+    if words.0[COUNT] > PARTS as u64 {
+        let none = model.parts().is_none() && model.outputs().is_none() && model.order().is_none();
+        return if none { Ok(()) } else { Err("the binding has parts that there is no room for".to_string()) };
+    }
+    let count = words.count();
+    let order: Option<Vec<u16>> = words.0[ORDER..][..count].iter().map(|&number| u16::try_from(number).ok()).collect();
+    let same = |number: usize| match model.part(number) {
+        Some(part) => part_words(&part) == words.part(number),
+        None => !words.part_spelled(number),
+    };
+    let outputs = model.parts().map(|parts| parts.iter().map(|part| part.output).collect::<Vec<_>>());
+    if model.order() != order || model.outputs() != outputs || model.part(count).is_some() || !(0..count).all(same) {
+        return Err("the binding's records say something else than the words".to_string());
+    }
+    Ok(())
+}

@@ -1,2 +1,0 @@
--- The bytes of an answer, put piece by piece.
-mod Answers
