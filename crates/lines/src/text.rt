@@ -17,7 +17,7 @@ fn last_digit(n: u64) -> u8
     48 + (n % 10) as u8
 }
 
-// A number in base ten: the digits of its tenth part, then its last one.
+// A number in base ten: the digits of its hundredth part, where it has one, then its last two.
 pub(crate) fn put_decimal(line: &mut [u8], at: usize, n: u64) -> usize
     requires { ⌜ at + 20 ≤ length (now line) ⌝ }
     ensures { λ r. ⌜ Put 20 (decimal n) at (now (line .entry)) (now (line .exit)) r ⌝ }
@@ -25,7 +25,12 @@ pub(crate) fn put_decimal(line: &mut [u8], at: usize, n: u64) -> usize
     if n < 10 {
         return put_byte(line, at, last_digit(n));
     }
-    let next = put_decimal(line, at, n / 10);
+    if n < 100 {
+        let next = put_byte(line, at, last_digit(n / 10));
+        return put_byte(line, next, last_digit(n));
+    }
+    let next = put_decimal(line, at, n / 100);
+    let next = put_byte(line, next, last_digit(n / 10));
     put_byte(line, next, last_digit(n))
 }
 

@@ -1,8 +1,8 @@
--- `put_decimal`, which calls itself, ends by the number itself, of which a tenth part is less. It puts the digits of `decimal`: those of the tenth part,
--- by its own promise, and the last one behind them. Each need is shown at a measure t: the call of itself is below t.
+-- `put_decimal`, which calls itself, ends by the number itself, of which a hundredth part is less. It puts the digits of `decimal`: those of the hundredth
+-- part, by its own promise, and the last two behind them. Each need is shown at a measure t: the call of itself is below t.
 use Prim.Native.Nat.{ℕ, _+_, _/_, _%_, _≤_, _<_}
 use native.Mathlib.Omega.{arith}
-use mathlib.Core.Path.{_≡_, sym}
+use mathlib.Core.Path.{_≡_, sym, subst}
 use mathlib.Core.List.{List, [], _∷_}
 use lib.ListN.{length}
 use mir.Syntax.{w64}
@@ -25,7 +25,7 @@ use Rattle.lines.proofs.text.+put_decimal.Tie.{close}
 abbrev μ-put-decimal : Measures 1 put-decimal-kinds.ps ℕ
 μ-put-decimal κs a = a .1 .1 .0
 
--- a number's only digit, and its last digit behind those of its tenth part
+-- a number's only digit, its last digit behind those of its tenth part, and its last two behind those of its hundredth
 module _ {n b : ℕ} (digit : b ≡ 48 + n % 10) (fits : Fits w64 n) where
   few : length (decimal n) ≤ 20
   few = few-digits 19 n (omega arith)
@@ -36,6 +36,13 @@ module _ {n b : ℕ} (digit : b ≡ 48 + n % 10) (fits : Fits w64 n) where
   last : {at p q : ℕ} {l₀ l₁ l₂ : List ℕ} → 10 ≤ n → Put 20 (decimal (n / 10)) at l₀ l₁ p → Put 1 (b ∷ []) p l₁ l₂ q →
       Put 20 (decimal n) at l₀ l₂ q
   last large tenth put = put-as (put-then tenth put) (rw digit (sym (more-digits n large))) few
+
+-- the digits of a tenth part, by those of the hundredth
+tenth-of : {n b : ℕ} → b ≡ 48 + n / 10 % 10 → Fits w64 n → 100 ≤ n → {at p q : ℕ} {l₀ l₁ l₂ : List ℕ} →
+    Put 20 (decimal (n / 100)) at l₀ l₁ p → Put 1 (b ∷ []) p l₁ l₂ q → Put 20 (decimal (n / 10)) at l₀ l₂ q
+tenth-of {n = n} digit fits large {at = at} {p = p} {l₀ = l₀} {l₁ = l₁} hundredth put =
+    let same : n / 100 ≡ n / 10 / 10 = omega arith in
+    last digit (omega arith) (omega arith) (subst (λ (k : ℕ). Put 20 (decimal k) at l₀ l₁ p) same hundredth) put
 
 module _ (t : ℕ) where
   -- what `put_decimal` is given at the measure t, and what it may take of the functions that it calls
@@ -63,17 +70,17 @@ module _ (t : ℕ) where
       let small = call .before .before .before in
       only (call .before .last-digit .ensures) (small .before .before .fits .n) (small .if1 .taken) (call .put-byte .ensures)
 
-  put-decimal-requires : put-decimal-lts.Need-put-decimal-requires callees given put-decimal.Post
-  put-decimal-requires c κs = (omega arith, search needs)
-
   last-digit-requires-2 : put-decimal-lts.Need-last-digit-requires-2 callees given put-decimal.Post
   last-digit-requires-2 c κs = tt
 
   put-byte-requires-2 : put-decimal-lts.Need-put-byte-requires-2 callees given put-decimal.Post
-  put-byte-requires-2 c κs =
-      let tenth = c .before .before .before .before in
-      let start = tenth .before .before .before .before in
-      omega (arith, few-digits 18 (start .args .n / 10) (omega arith))
+  put-byte-requires-2 c κs = search needs
+
+  last-digit-requires-3 : put-decimal-lts.Need-last-digit-requires-3 callees given put-decimal.Post
+  last-digit-requires-3 c κs = tt
+
+  put-byte-requires-3 : put-decimal-lts.Need-put-byte-requires-3 callees given put-decimal.Post
+  put-byte-requires-3 c κs = search needs
 
   same-length-2 : put-decimal-lts.Need-same-length-2 callees given put-decimal.Post
   same-length-2 c = search needs
@@ -82,10 +89,50 @@ module _ (t : ℕ) where
   returns-2 c =
       let call = c .before .before in
       let digit = call .before in
-      let tenth = digit .before .before .before .before in
-      let large = tenth .before .before in
-      last (digit .last-digit2 .ensures) (large .before .before .fits .n) (large .if1 .left) (tenth .put-decimal .ensures)
-      (call .put-byte2 .ensures)
+      let first = digit .before .before .before .before in
+      let two = first .before .before .before in
+      let start = two .before .before .before in
+      last (digit .last-digit3 .ensures) (start .fits .n) (two .before .if1 .left)
+      (only (first .before .last-digit2 .ensures) (omega (arith, start .fits .n)) (omega (arith, two .if2 .taken)) (first .put-byte2 .ensures))
+      (call .put-byte3 .ensures)
+
+  put-decimal-requires : put-decimal-lts.Need-put-decimal-requires callees given put-decimal.Post
+  put-decimal-requires c κs = (omega arith, search needs)
+
+  last-digit-requires-4 : put-decimal-lts.Need-last-digit-requires-4 callees given put-decimal.Post
+  last-digit-requires-4 c κs = tt
+
+  put-byte-requires-4 : put-decimal-lts.Need-put-byte-requires-4 callees given put-decimal.Post
+  put-byte-requires-4 c κs =
+      let hundredth = c .before .before .before .before in
+      let start = hundredth .before .before .before .before .before in
+      omega (arith, few-digits 17 (start .args .n / 100) (omega arith))
+
+  last-digit-requires-5 : put-decimal-lts.Need-last-digit-requires-5 callees given put-decimal.Post
+  last-digit-requires-5 c κs = tt
+
+  put-byte-requires-5 : put-decimal-lts.Need-put-byte-requires-5 callees given put-decimal.Post
+  put-byte-requires-5 c κs =
+      let first = c .before .before .before .before in
+      let hundredth = first .before .before .before .before .before in
+      let start = hundredth .before .before .before .before .before in
+      omega (arith, few-digits 17 (start .args .n / 100) (omega arith))
+
+  same-length-3 : put-decimal-lts.Need-same-length-3 callees given put-decimal.Post
+  same-length-3 c = search needs
+
+  returns-3 : put-decimal-lts.Need-returns-3 callees given put-decimal.Post
+  returns-3 c =
+      let call = c .before .before in
+      let digit = call .before in
+      let first = digit .before .before .before .before in
+      let tens = first .before in
+      let hundredth = tens .before .before .before .before in
+      let three = hundredth .before .before in
+      let start = three .before .before .before in
+      last (digit .last-digit5 .ensures) (start .fits .n) (omega (arith, three .if2 .left))
+      (tenth-of (tens .last-digit4 .ensures) (start .fits .n) (three .if2 .left) (hundredth .put-decimal .ensures) (first .put-byte4 .ensures))
+      (call .put-byte5 .ensures)
 
 pub +put-decimal-spec : {M : Type 1} → statement M
 +put-decimal-spec = close μ-put-decimal λ t.
@@ -97,8 +144,16 @@ pub +put-decimal-spec : {M : Type 1} → statement M
     (put-byte-requires t)
     (same-length t)
     (returns t)
-    (put-decimal-requires t)
     (last-digit-requires-2 t)
     (put-byte-requires-2 t)
+    (last-digit-requires-3 t)
+    (put-byte-requires-3 t)
     (same-length-2 t)
     (returns-2 t)
+    (put-decimal-requires t)
+    (last-digit-requires-4 t)
+    (put-byte-requires-4 t)
+    (last-digit-requires-5 t)
+    (put-byte-requires-5 t)
+    (same-length-3 t)
+    (returns-3 t)
