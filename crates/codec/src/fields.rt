@@ -1,7 +1,6 @@
 // The fields of a part that are enums, as numbers and back. The contracts cite `specs/Encoded.antt` and
 // `specs/Decoded.antt`.
 use crate::word::word_signed;
-use kinds::kind::kind_at;
 use kinds::kind::number_of;
 use machine::part::Kind;
 use machine::part::Mark;
@@ -14,9 +13,6 @@ ghost use Rattle.codec.specs.Encoded.{mark-code, side-code, source-code}
 ghost use Rattle.codec.specs.Decoded.{mark-coded, side-coded, signal-of, source-coded};
 ghost use Rattle.codec.specs.Sized.{FitsSource};
 
-// How many kinds there are.
-const KIND_COUNT: u64 = 13;
-
 // The number of a kind.
 pub fn kind_code(k: Kind) -> u64
     ensures { λ r. ⌜ r ≡ kind-number k ⌝ }
@@ -24,14 +20,25 @@ pub fn kind_code(k: Kind) -> u64
     number_of(k) as u64
 }
 
-// The kind that has a number, the constant where none has.
+// The kind that has a number, the constant where none has. A match and no table: a table is copied to be read.
 pub fn kind_coded(w: u64) -> Kind
     ensures { λ r. ⌜ r ≡ kind-of w ⌝ }
 {
-    if w >= KIND_COUNT {
-        return Kind::Constant;
+    match w {
+        1 => Kind::Gain,
+        2 => Kind::Adder,
+        3 => Kind::Square,
+        4 => Kind::Pulse,
+        5 => Kind::Delay,
+        6 => Kind::Integrator,
+        7 => Kind::ResetIntegrator,
+        8 => Kind::Detector,
+        9 => Kind::Hold,
+        10 => Kind::Sampler,
+        11 => Kind::Drive,
+        12 => Kind::Clapper,
+        _ => Kind::Constant,
     }
-    kind_at(w as u8)
 }
 
 // A port as a number: 0 unwired, k + 1 from part k.
