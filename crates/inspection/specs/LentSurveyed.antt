@@ -8,10 +8,10 @@ use Rattle.machine.specs.Model.{trimmed}
 use Rattle.machine.specs.Table.{magnitude-of, table-of}
 use Rattle.placing.specs.Direct.{direct-of}
 use Rattle.store.specs.Held.{held, parts-lent}
-use Rattle.inspection.specs.declared.lent_survey.LentSurvey.{LentSurvey}
+use Rattle.inspection.specs.declared.survey.Survey.{Survey}
 
 -- whatever state the table stands in: the master's magnitude, the direct sources and the part order of the model that the words mean
-pub record LentSurveyed (ts : List ℕ) (r : LentSurvey) : Type 0 where
+pub record LentSurveyed (ts : List ℕ) (r : Survey) : Type 0 where
   pub magnitude : (ss : List ℕ) → r .magnitude ≡ magnitude-of (table-of (trimmed (held ts ss)))
   pub direct : (ss : List ℕ) → take (parts-lent ts) (r .direct) ≡ map (λ (p : Part). direct-of (p .component)) (held ts ss .parts)
   pub order : (ss : List ℕ) → take (parts-lent ts) (r .order) ≡ held ts ss .order

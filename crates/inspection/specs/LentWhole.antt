@@ -23,7 +23,7 @@ use Rattle.placing.specs.declared.Direct.{Direct}
 use Rattle.placing.specs.Direct.{direct-of}
 use Rattle.store.specs.Held.{lent, parts-lent, stored-component, stored-number, stored-part, stored-point, held}
 use Rattle.store.specs.Frame.{held-many, held-order, held-part, held-number}
-use Rattle.inspection.specs.declared.lent_survey.LentSurvey.{LentSurvey}
+use Rattle.inspection.specs.declared.survey.Survey.{Survey}
 use Rattle.inspection.specs.LentSurveyed.{LentSurveyed}
 use Rattle.inspection.specs.Parts.{part-fits}
 use Rattle.inspection.specs.TrimmedPlaces.{preferences, preferences-count, preferences-on, parts-count, parts-on, directs-trimmed}
@@ -139,7 +139,7 @@ module _ (ts : List ℕ) where
 
   -- of all
   pub surveying-end :
-      (i : ℕ) (r : LentSurvey) → Surveying ts i (r .magnitude) (r .direct) (r .order) → parts-lent ts ≤ i → LentSurveyed ts r
+      (i : ℕ) (r : Survey) → Surveying ts i (r .magnitude) (r .direct) (r .order) → parts-lent ts ≤ i → LentSurveyed ts r
   surveying-end i r before past =
       let done : parts-lent ts ≡ i = omega (arith, before .low) in
       record {

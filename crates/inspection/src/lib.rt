@@ -1,12 +1,8 @@
 // The test of soundness, which advancing asks first. Its contract cites the machine's
-// `specs/Sound.antt`.
-use crate::lent_parts::parts_fit_in;
-use crate::lent_survey::surveyed_in;
-use crate::parts::parts_fit;
-use crate::survey::surveyed;
+// `specs/Sound.antt` and `store`'s `specs/Held.antt` and `specs/Form.antt`.
+use crate::parts::parts_fit_in;
+use crate::survey::surveyed_in;
 use kinds::range::magnitude_known;
-use machine::model::Model;
-use machine::model::PARTS;
 use machine::time::Point;
 use precedence::follows;
 use store::form::spelled;
@@ -20,8 +16,6 @@ ghost use Rattle.machine.specs.Time.{in-time};
 ghost use Rattle.store.specs.Held.{held};
 ghost use Rattle.store.specs.Form.{spelled};
 
-mod lent_parts;
-mod lent_survey;
 mod parts;
 mod survey;
 
@@ -33,34 +27,6 @@ fn in_time(now: Point) -> bool
         return false;
     }
     now.n <= Point::LAST.n
-}
-
-// Whether a model is sound, whatever stands in it.
-pub fn is_sound(m: Model) -> bool
-    ensures { λ r. ⌜ r ≡ sound (trimmed m) ⌝ }
-{
-    let count = m.count;
-    if count < 1 {
-        return false;
-    }
-    if count > PARTS {
-        return false;
-    }
-    let now = m.point;
-    if !in_time(now) {
-        return false;
-    }
-    let survey = surveyed(m);
-    let magnitude = survey.magnitude;
-    if !magnitude_known(magnitude) {
-        return false;
-    }
-    if !parts_fit(m, magnitude) {
-        return false;
-    }
-    let order = m.order;
-    let direct = survey.direct;
-    follows(order, direct, count)
 }
 
 // Whether words spell a sound model, whatever stands in them.

@@ -1,21 +1,23 @@
-// The tests of the parts of a model, one by one. Its contracts cite `specs/Parts.antt`, which
-// gathers what the machine's `specs/Sound.antt` asks of one part.
+// The tests of the parts of a model in words, one by one. Its contracts cite `specs/Parts.antt`, which gathers what
+// the machine's `specs/Sound.antt` asks of one part, and `store`'s `specs/Held.antt`.
 use kinds::component::component_fits;
 use kinds::operand::speed_fits;
 use kinds::range::is_signal;
 use kinds::range::is_value;
 use kinds::ratio::period_fits;
 use kinds::ratio::ratio_of;
-use machine::model::Model;
 use machine::part::Kind;
 use machine::part::Part;
 use machine::part::State;
 use machine::time::Ticks;
+use store::lookup::part_at;
+use store::lookup::parts_of;
 ghost use mathlib.Core.Path.{_≡_};
 ghost use Prim.Native.Nat.{_≤_};
 ghost use Rattle.machine.specs.Lists.{every};
 ghost use Rattle.machine.specs.Model.{trimmed, trimmed-part};
-ghost use Rattle.machine.specs.Time.{last-magnitude, tick};
+ghost use Rattle.machine.specs.Time.{last-magnitude};
+ghost use Rattle.store.specs.Held.{Room, held, parts-lent};
 ghost use Rattle.inspection.specs.Parts.{part-fits, state-holds};
 
 // Whether a state may be that of a part of this kind with this ratio at tick t.
@@ -41,7 +43,7 @@ fn state_fits(t: Ticks, ratio: u64, kind: Kind, state: State) -> bool
 }
 
 // Whether a part may be one of so many parts at tick t, by the master's magnitude.
-pub(crate) fn part_fits(p: Part, parts: usize, magnitude: u8, t: Ticks) -> bool
+fn part_fits(p: Part, parts: usize, magnitude: u8, t: Ticks) -> bool
     requires { ⌜ magnitude ≤ last-magnitude ⌝ }
     ensures { λ r. ⌜ r ≡ part-fits parts magnitude (t .0) (trimmed-part p) ⌝ }
 {
@@ -61,18 +63,18 @@ pub(crate) fn part_fits(p: Part, parts: usize, magnitude: u8, t: Ticks) -> bool
     state_fits(t, ratio, kind, state)
 }
 
-// Whether every part in use may be one of the model's, by the master's magnitude.
-pub(crate) fn parts_fit(m: Model, magnitude: u8) -> bool
-    requires { ⌜ m .count ≤ 32 ⌝ }
+// Whether every part may be one of the model's at tick `t`, by the master's magnitude.
+pub(crate) fn parts_fit_in(table: &[u64], state: &[u64], magnitude: u8, t: Ticks) -> bool
+    requires { ⌜ Room (now table) (now state) ⌝ }
+    requires { ⌜ parts-lent (now table) ≤ 32 ⌝ }
     requires { ⌜ magnitude ≤ last-magnitude ⌝ }
-    ensures { λ r. ⌜ r ≡ every (part-fits (m .count) magnitude (tick (m .point))) (trimmed m .parts) ⌝ }
+    ensures { λ r. ⌜ r ≡ every (part-fits (parts-lent (now (table .entry))) magnitude (t .0)) (trimmed (held (now (table .entry)) (now (state .entry))) .parts) ⌝ }
 {
-    let now = m.point;
-    let t = now.t;
+    let count = parts_of(table);
     let mut i: usize = 0;
-    while i < m.count {
-        let p = m.parts[i];
-        if !part_fits(p, m.count, magnitude, t) {
+    while i < count {
+        let p = part_at(table, state, i);
+        if !part_fits(p, count, magnitude, t) {
             return false;
         }
         i += 1;

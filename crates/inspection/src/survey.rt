@@ -1,46 +1,53 @@
-// What the components of a model say of it as a whole, found in one loop over the parts: the master's magnitude, and
-// the direct sources, which the part order follows from. Its contract cites the machine's `specs/Table.antt`.
+// What the words of a table say of it as a whole, found in one loop over the parts: the master's magnitude, the direct
+// sources, which the part order follows from, and the part order that is given. Its contract cites the machine's
+// `specs/Table.antt` and `store`'s `specs/Held.antt`.
 use kinds::ratio::larger_of;
-use machine::model::Model;
 use machine::model::PARTS;
 use machine::part::Source;
 use placing::Direct;
 use placing::direct_sources;
-ghost use mathlib.Core.Path.{_≡_};
-ghost use mathlib.Core.List.{map};
+use store::lookup::component_at;
+use store::lookup::magnitude_of;
+use store::lookup::number_at;
+use store::lookup::parts_of;
 ghost use Prim.Native.Nat.{_≤_};
-ghost use lib.ListN.{take};
-ghost use Rattle.machine.specs.declared.part.Part.{Part};
-ghost use Rattle.machine.specs.Model.{trimmed};
-ghost use Rattle.machine.specs.Table.{magnitude-of, table-of};
-ghost use Rattle.placing.specs.Direct.{direct-of};
+ghost use lib.ListN.{length};
+ghost use Rattle.store.specs.Held.{parts-lent, table-words};
+ghost use Rattle.inspection.specs.LentSurveyed.{LentSurveyed};
 
-// The master's magnitude, and the direct sources of the parts in use; those of the other places are unwired.
+// The master's magnitude, and of the parts in use the direct sources and the numbers in their order.
 pub struct Survey {
     pub magnitude: u8,
     pub direct: [Direct; PARTS],
+    pub order: [u16; PARTS],
 }
 
-// The survey of a model: the largest of the default magnitude and the preferences of the parts in use, and their
-// direct sources.
-pub(crate) fn surveyed(m: Model) -> Survey
-    requires { ⌜ m .count ≤ 32 ⌝ }
-    ensures { λ r. ⌜ r .magnitude ≡ magnitude-of (table-of (trimmed m)) ⌝ }
-    ensures { λ r. ⌜ take (m .count) (r .direct) ≡ map (λ (p : Part). direct-of (p .component)) (take (m .count) (m .parts)) ⌝ }
+// The survey of a table: the largest of the default magnitude and the preferences of the parts, their direct sources,
+// and the part order that is given.
+pub(crate) fn surveyed_in(table: &[u64]) -> Survey
+    requires { ⌜ parts-lent (now table) ≤ 32 ⌝ }
+    requires { ⌜ table-words (parts-lent (now table)) ≤ length (now table) ⌝ }
+    ensures { λ r. ⌜ LentSurveyed (now (table .entry)) r ⌝ }
 {
     let none = Direct {
         port0: Source::Unwired,
         port1: Source::Unwired,
     };
-    let mut magnitude = m.magnitude;
+    let count = parts_of(table);
+    let mut magnitude = magnitude_of(table);
     let mut direct = [none; PARTS];
+    let mut order = [0u16; PARTS];
     let mut i: usize = 0;
-    while i < m.count {
-        let p = m.parts[i];
-        let c = p.component;
+    while i < count {
+        let c = component_at(table, i);
         magnitude = larger_of(magnitude, c.preference);
         direct[i] = direct_sources(c);
+        order[i] = number_at(table, i) as u16;
         i += 1;
     }
-    Survey { magnitude, direct }
+    Survey {
+        magnitude,
+        direct,
+        order,
+    }
 }

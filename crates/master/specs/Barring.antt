@@ -1,5 +1,5 @@
 -- What bars a call of advance, by whether the model is sound, the tick where it stands, and the wanted step; and what `advance` promises of an answer
--- that is barred, and of one that the search gives. Assumes nothing.
+-- that is barred. Assumes nothing.
 use Prim.Native.Nat.{ℕ, _+_}
 use native.Mathlib.Omega.{arith}
 use mathlib.Core.Path.{_≡_, refl, sym, ap, _∙_}
@@ -8,14 +8,13 @@ use lib.Dec.{leb}
 use borrow.Author.Tests.{leb-true, ne-eqb}
 use Rattle.machine.specs.declared.time.Point.{Point}
 use Rattle.machine.specs.declared.model.Model.{Model}
-use Rattle.machine.specs.declared.model.Answer.{Answer}
 use Rattle.machine.specs.Time.{in-time, last-tick, led-to, tick}
 use Rattle.machine.specs.Model.{trimmed, trimmed-answer}
 use Rattle.machine.specs.Sound.{sound}
 use Rattle.machine.specs.Advance.{longest-wanted, barred, barred-outcome, answer-with, advance}
 use Rattle.machine.specs.Calls.{Advanced}
-use Rattle.stepsearch.specs.Outcomes.{outcome-barred, outcome-searched}
-use Rattle.master.specs.Searching.{Searched, answer-of, answer-refused}
+use Rattle.stepsearch.specs.Outcomes.{outcome-barred}
+use Rattle.master.specs.Searching.{answer-of, answer-refused}
 
 -- the number, by the three things that it depends on
 unfoldable pub barred-by : Bool → ℕ → ℕ → ℕ
@@ -51,14 +50,4 @@ barred-answer m w k e other =
           answer-refused (trimmed m) k 0 0 0 other);
       unchanged = λ z. refl;
       unused = record { orders = refl; parts = refl; spans = λ i l. refl };
-    }
-
--- the answer to a call that nothing bars is the search's
-pub searched-advance : (m : Model) (w : ℕ) (r : Answer) → barred (trimmed m) w ≡ 0 → Searched m w r → Advanced m w r
-unfolding advance
-searched-advance m w r none found =
-    record {
-      machine = found .machine ∙ ap (answer-with (trimmed m)) (sym (outcome-searched (trimmed m) w none));
-      unchanged = found .unchanged;
-      unused = found .unused;
     }

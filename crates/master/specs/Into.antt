@@ -5,10 +5,9 @@ use mathlib.Core.Path.{_≡_}
 use mathlib.Core.Bool.{Bool, true, cond, not, _&&_}
 use mathlib.Core.List.{List}
 use lib.Dec.{eqb, leb}
-use lib.ListN.{length}
 use Rattle.machine.specs.declared.model.Model.{Model}
 use Rattle.machine.specs.Model.{trimmed}
-use Rattle.machine.specs.Advance.{Outcome, searched, barred, barred-outcome, outcome, answer-with}
+use Rattle.machine.specs.Advance.{Outcome, barred, barred-outcome, outcome, answer-with}
 use Rattle.store.specs.Held.{held, parts-lent, state-words-of}
 use Rattle.store.specs.Form.{spelled}
 use Rattle.store.specs.Updated.{state-spelled, SameBehind}

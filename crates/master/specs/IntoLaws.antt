@@ -1,4 +1,4 @@
--- From the machine's answer to what a call on lent words promises: the search's answer by value, told of the model that words mean, is what the search in
+-- From the machine's answer to what a call on lent words promises: an answer of the search, told of the model that words mean, is what the search in
 -- words owes; a call that is barred writes nothing; and where nothing bars it the search's promise is the call's. Assumes nothing.
 use Prim.Native.Nat.{ℕ, _≤_, _<_}
 use native.Mathlib.Omega.{arith}
@@ -13,7 +13,7 @@ use Rattle.machine.specs.declared.model.Answer.{Answer}
 use Rattle.machine.specs.Time.{tick}
 use Rattle.machine.specs.Model.{trimmed, trimmed-answer}
 use Rattle.machine.specs.Sound.{sound}
-use Rattle.machine.specs.Advance.{Outcome, searched, barred, barred-outcome, outcome, answer-with}
+use Rattle.machine.specs.Advance.{Outcome, searched, barred, barred-outcome, answer-with}
 use Rattle.laws.specs.Bools.{and-false-cases, either}
 use Rattle.stepsearch.specs.Outcomes.{outcome-barred, outcome-searched}
 use Rattle.store.specs.Held.{parts-lent, state-words-of, stored-point, held}

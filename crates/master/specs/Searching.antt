@@ -10,7 +10,7 @@ use Rattle.machine.specs.declared.time.Point.{Point}
 use Rattle.machine.specs.declared.model.Model.{Model}
 use Rattle.machine.specs.declared.model.Answer.{Answer}
 use Rattle.machine.specs.Time.{in-time, last-microstep, last-tick, led-to, tick}
-use Rattle.machine.specs.Model.{trimmed, trimmed-answer, SameUnused}
+use Rattle.machine.specs.Model.{trimmed, trimmed-answer}
 use Rattle.machine.specs.Step.{step-made}
 use Rattle.machine.specs.Sound.{sound}
 use Rattle.machine.specs.Advance.{Turn, Lower, Halve, Commit, Refuse, followed, search-from, searched, turn, tried, round, any-due, any-objects, answer-with}
@@ -21,12 +21,9 @@ use Rattle.stepsearch.specs.Fair.{fair-falls}
 use Rattle.stepsearch.specs.SearchTurns.{turn-fair}
 use Rattle.wholelist.specs.RoundsOwed.{round-owes}
 
--- what the search promises of its answer r to a call that nothing bars, for the model m and the wanted step w: the machine's answer, trimmed; the very
--- model handed in where it is refused; and the same bytes in unused places
+-- what the search promises of its answer r to a call that nothing bars, for the model m and the wanted step w: the machine's answer, trimmed
 pub record Searched (m : Model) (w : ℕ) (r : Answer) : Type 0 where
   pub machine : trimmed-answer r ≡ answer-with (trimmed m) (searched (trimmed m) w)
-  pub unchanged : (r .number ≡ 0 → ⊥) → r .model ≡ m
-  pub unused : SameUnused m (r .model)
 
 -- the number of a refusal: of a step of 0, where no part is due, 22; where one is and the microstep is the last, 21
 abbrev number-by : Bool → Bool → Bool → ℕ
@@ -163,22 +160,18 @@ module _ (m : Model) (is-sound : sound (trimmed m) ≡ true) where
         machine =
             sym (ap (answer-with (trimmed m)) (refused (trimmed m) is-sound w c h n v k left same e other) ∙
             answer-refused (trimmed m) k (n + 1) v c other);
-        unchanged = λ z. refl;
-        unused = record { orders = refl; parts = refl; spans = λ i l. refl };
       }
 
   pub committed-answer : (trial : Model) (w c h n v : ℕ) → Left (trimmed m) w c h n v → round (trimmed m) h ≡ h → refusal (trimmed m) h ≡ 0 →
-      any-objects h (trimmed trial) ≡ false → trimmed trial ≡ step-made (trimmed m) h → SameUnused m trial →
+      any-objects h (trimmed trial) ≡ false → trimmed trial ≡ step-made (trimmed m) h →
       Searched m w (answer-of trial 0 h (n + 1) v c)
   unfolding trimmed-answer
-  committed-answer trial w c h n v left same none all is unused =
+  committed-answer trial w c h n v left same none all is =
       record {
         machine =
             ap (λ (z : Model). answer-of z 0 h (n + 1) v c) is ∙
             sym (ap (answer-with (trimmed m)) (committed (trimmed m) is-sound w c h n v left same none (ap (any-objects h) (sym is) ∙ all)) ∙
             answer-committed (trimmed m) h (n + 1) v c);
-        unchanged = λ other. absurd (other refl);
-        unused = unused;
       }
 
   -- a step of 0 that is not refused stands before the last microstep

@@ -1,15 +1,19 @@
 // One advance: what bars a call, the search for a step by rounds in which every part is asked, trials, and
-// the answer. The call is `advance`; what it is made of stays within the crate.
+// the answer. The calls are `advance_into` on lent words, `advance_sound_into` on those of a model that is known to be
+// sound, and `advance` by value; what they are made of stays within the crate.
 use crate::barring::barred_number;
-use crate::lent_search::searched_into;
-use crate::search::searched_answer;
+use crate::search::searched_into;
 use crate::verdict::Verdict;
-use inspection::is_sound;
 use inspection::is_sound_in;
 use machine::model::Answer;
 use machine::model::Model;
+use machine::model::PARTS;
+use store::intake::put_model;
+use store::lookup::STATE_ROOM;
+use store::lookup::TABLE_ROOM;
 use store::lookup::parts_of;
 use store::lookup::point_of;
+use store::recall::recalled;
 ghost use mathlib.Core.Path.{_≡_};
 ghost use mathlib.Core.Bool.{true};
 ghost use lib.ListN.{length};
@@ -21,38 +25,56 @@ ghost use Rattle.master.specs.Into.{CalledInto, lent-model, outcome-into
 
 mod asking;
 mod barring;
-mod lent_asking;
-mod lent_search;
 mod past;
 mod search;
 pub mod verdict;
 
 // One advance of a model by at most `w`, whatever they are: the tests 24, 20 and 23 in that order, then the
-// search. A call that is barred answers the model handed in, the number, and counts of 0.
+// search. A call that is refused answers the model handed in; one that is barred, with the number and counts of 0.
 //
 // The contract is the machine's answer. It is the very promise that a chain of calls asks of each of its
 // answers, so that demand 3 holds of every list of these calls behind a load: `specs/EveryList.antt`.
 //
-// Copies of the model are what a call costs beside the work on each part, since a struct handed over by value is
-// copied. Compiled, a call that commits its first trial after one round copies about fourteen models' worth of bytes:
-// two of them to test that the model is sound, one for the round, seven to make the step, the others to take the
-// model in, ask for objections and answer. Each further round is one copy more, and each trial that is dropped nine.
+// The call is `advance_into` on words of its own: the model is put into them, and where a step is committed it takes
+// the new state back. So the rounds and trials of a call copy no model; what it costs beside them is the model handed
+// in and handed over, which is copied since it goes by value, and put into words and read from them once.
 pub fn advance(m: Model, w: u64) -> Answer
     ensures { λ r. ⌜ Advanced m w r ⌝ }
 {
-    let now = m.point;
-    let number = barred_number(is_sound(m), now, w);
-    if number != 0 {
+    if m.count > PARTS {
         return Answer {
             model: m,
-            number: number,
+            number: 24,
             step: 0,
             rounds: 0,
             revisions: 0,
             ceiling: 0,
         };
     }
-    searched_answer(m, w)
+    let mut table = [0u64; TABLE_ROOM];
+    let mut old = [0u64; STATE_ROOM];
+    let mut new = [0u64; STATE_ROOM];
+    put_model(m, &mut table, &mut old);
+    let verdict = advance_into(&table, &old, w, &mut new);
+    if verdict.number != 0 {
+        return Answer {
+            model: m,
+            number: verdict.number,
+            step: verdict.step,
+            rounds: verdict.rounds,
+            revisions: verdict.revisions,
+            ceiling: verdict.ceiling,
+        };
+    }
+    let next = recalled(m, &new);
+    Answer {
+        model: next,
+        number: verdict.number,
+        step: verdict.step,
+        rounds: verdict.rounds,
+        revisions: verdict.revisions,
+        ceiling: verdict.ceiling,
+    }
 }
 
 // The verdict on a call that a number bars: counts of 0.

@@ -1,33 +1,39 @@
-// The search for the step of one advance, of a sound model.
+// The search for the step of one advance on lent words, of a sound model.
 //
-// Its contracts cite this crate's `specs/Searching.antt`, which goes by `machine`'s `specs/Advance.antt`.
-use crate::asking::any_due_of;
-use crate::asking::any_objects_of;
-use crate::asking::round_of;
+// Its contracts cite this crate's `specs/Into.antt` and `specs/Searching.antt`, which go by `machine`'s `specs/Advance.antt`.
+use crate::asking::any_due_in;
+use crate::asking::any_objects_in;
+use crate::asking::round_in;
 use crate::past::leads_past;
-use machine::model::Answer;
-use machine::model::Model;
+use crate::verdict::Verdict;
 use machine::time::Ticks;
-use steps::step::made;
+use steps::step::made_into;
+use store::lookup::parts_of;
+use store::lookup::point_of;
+use store::update::copy_words;
 ghost use mathlib.Core.Path.{_≡_};
 ghost use mathlib.Core.Bool.{true};
 ghost use lib.Dec.{eqb};
-ghost use Prim.Native.Nat.{_+_, _≤_};
+ghost use Prim.Native.Nat.{ℕ, _+_, _≤_, _<_};
 ghost use Rattle.machine.specs.Time.{last-tick, tick};
-ghost use Rattle.machine.specs.Model.{trimmed};
 ghost use Rattle.machine.specs.Sound.{sound};
-ghost use Rattle.master.specs.Searching.{Searched, refusal};
+ghost use Rattle.machine.specs.Advance.{searched};
+ghost use Rattle.store.specs.Held.{Room, held, parts-lent, state-words-of};
+ghost use Rattle.store.specs.Updated.{Copied, state-spelled};
+ghost use Rattle.master.specs.Into.{SearchedInto, lent-model};
+ghost use Rattle.master.specs.Searching.{refusal};
 
 // The number of the refusal of a step of `h` that all parts accept, 0 where it is made on trial.
-fn refusal_of(m: Model, h: Ticks) -> u64
-    requires { ⌜ sound (trimmed m) ≡ true ⌝ }
-    ensures { λ r. ⌜ r ≡ refusal (trimmed m) (h .0) ⌝ }
+fn refusal_in(table: &[u64], state: &[u64], h: Ticks) -> u64
+    requires { ⌜ Room (now table) (now state) ⌝ }
+    requires { ⌜ sound (lent-model (now table) (now state)) ≡ true ⌝ }
+    ensures { λ r. ⌜ r ≡ refusal (lent-model (now (table .entry)) (now (state .entry))) (h .0) ⌝ }
 {
     if h.0 != 0 {
         return 0;
     }
-    if any_due_of(m) {
-        let now = m.point;
+    if any_due_in(table, state) {
+        let now = point_of(state);
         if leads_past(now, Ticks(0)) {
             return 21;
         }
@@ -37,20 +43,33 @@ fn refusal_of(m: Model, h: Ticks) -> u64
 }
 
 // Whether a round at `h` that came to `least` changed nothing.
-pub(crate) fn changed_nothing(least: Ticks, h: Ticks) -> bool
+fn changed_nothing(least: Ticks, h: Ticks) -> bool
     ensures { λ r. ⌜ r ≡ eqb (least .0) (h .0) ⌝ }
 {
     least.0 == h.0
 }
 
-// The answer to a call that nothing bars: rounds lower h under a ceiling until one changes nothing; the
-// step is then refused, or made on trial, and an objection to the trial halves the ceiling. Within the search, h
-// and the ceiling are plain numbers, as in the answer; h counts ticks where parts are asked and a step is made.
-pub(crate) fn searched_answer(m: Model, w: u64) -> Answer
-    requires { ⌜ sound (trimmed m) ≡ true ⌝ }
+// The state of a table copied, for a call that is refused after its search.
+fn kept_in(table: &[u64], old: &[u64], new: &mut [u64])
+    requires { ⌜ Room (now table) (now old) ⌝ }
+    requires { ⌜ Room (now table) (now new) ⌝ }
+    ensures { λ r. ⌜ Copied (state-words-of (parts-lent (now (table .entry)))) (now (old .entry)) (now (new .entry)) (now (new .exit)) ⌝ }
+{
+    let count = parts_of(table);
+    copy_words(old, 9 * count + 2, new);
+}
+
+// How a call ends that nothing bars, its state left in `new`: rounds lower h under a ceiling until one changes nothing; the
+// step is then refused, or made on trial in `new`, and an objection to the trial halves the ceiling. A trial that is dropped
+// is written over. Within the search, h and the ceiling are plain numbers; h counts ticks where parts are asked and a step is made.
+pub(crate) fn searched_into(table: &[u64], old: &[u64], w: u64, new: &mut [u64]) -> Verdict
+    requires { ⌜ Room (now table) (now old) ⌝ }
+    requires { ⌜ Room (now table) (now new) ⌝ }
+    requires { ⌜ sound (lent-model (now table) (now old)) ≡ true ⌝ }
     requires { ⌜ w ≤ 1_000_000_000 ⌝ }
-    requires { ⌜ tick (m .point) + w ≤ last-tick ⌝ }
-    ensures { λ r. ⌜ Searched m w r ⌝ }
+    requires { ⌜ tick (held (now table) (now old) .point) + w ≤ last-tick ⌝ }
+    requires { ⌜ ((j : ℕ) → j < parts-lent (now table) → state-spelled (now old) j ≡ true) ⌝ }
+    ensures { λ r. ⌜ SearchedInto (searched (lent-model (now (table .entry)) (now (old .entry))) w) (now (table .entry)) (now (old .entry)) (now (new .entry)) (now (new .exit)) r ⌝ }
 {
     let mut ceiling = w;
     let mut h = w;
@@ -58,13 +77,13 @@ pub(crate) fn searched_answer(m: Model, w: u64) -> Answer
     let mut revisions: u64 = 0;
     'ceilings: loop {
         loop {
-            let least = round_of(m, Ticks(h));
+            let least = round_in(table, old, Ticks(h));
             rounds += 1;
             if changed_nothing(least, Ticks(h)) {
-                let number = refusal_of(m, Ticks(h));
+                let number = refusal_in(table, old, Ticks(h));
                 if number != 0 {
-                    break 'ceilings Answer {
-                        model: m,
+                    kept_in(table, old, new);
+                    break 'ceilings Verdict {
                         number: number,
                         step: 0,
                         rounds: rounds,
@@ -72,12 +91,11 @@ pub(crate) fn searched_answer(m: Model, w: u64) -> Answer
                         ceiling: ceiling,
                     };
                 }
-                let trial = made(m, Ticks(h));
-                if any_objects_of(Ticks(h), trial) {
+                made_into(table, old, Ticks(h), new);
+                if any_objects_in(table, Ticks(h), new) {
                     break;
                 }
-                break 'ceilings Answer {
-                    model: trial,
+                break 'ceilings Verdict {
                     number: 0,
                     step: h,
                     rounds: rounds,

@@ -1,11 +1,9 @@
 -- What a model must be for its outputs to be filled, and for its parts to be settled, and what that says of the places in use. Assumes nothing.
-use Prim.Native.Nat.{ℕ, _*_, _≤_, _<_}
+use Prim.Native.Nat.{ℕ, _≤_, _<_}
 use native.Mathlib.Omega.{arith}
 use mathlib.Core.Path.{_≡_, sym, subst, _∙_}
 use mathlib.Core.List.{List, map}
 use lib.ListN.{length}
-use mir.Syntax.{w64}
-use mir.Val.{Fits}
 use Rattle.machine.specs.declared.time.Point.{Point}
 use Rattle.machine.specs.declared.part.Source.{Source}
 use Rattle.machine.specs.declared.part.Part.{Part}
@@ -18,7 +16,7 @@ use Rattle.laws.specs.Alls.{all-same-map, length-same-map}
 use Rattle.laws.specs.ListLaws.{all-at}
 use Rattle.laws.specs.Partway.{mapped-places}
 use Rattle.soundness.specs.RangesKept.{InRange}
-use Rattle.steps.specs.Reading.{SourceBelow, WiredBelow, source-index, index-below, part-trimmed, reading-trimmed}
+use Rattle.steps.specs.Reading.{SourceBelow, WiredBelow, part-trimmed, reading-trimmed}
 use Rattle.steps.specs.Trimmed.{Changed}
 
 -- every part in use is wired to parts in use alone
@@ -55,18 +53,14 @@ pub changed-wired :
     map (λ (p : Part). p .component) qs ≡ map (λ (p : Part). p .component) (trimmed m .parts) → Wired (trimmed m) → Wired (trimmed r)
 changed-wired m qs r c kept wired = subst Wired (sym (c .is)) (kept-wired (trimmed m) (m .point) qs kept wired)
 
--- where a part of 152 bytes stands in the array is a number of 64 bits
-pub place-fits : (i : ℕ) → i < most-parts → Fits w64 (i * 152)
-place-fits i below = omega arith
-
 -- what a wired model, once trimmed, says of the places in use of the model itself
 module _ (m : Model) (wired : Wired (trimmed m)) where
-  -- each is one of the array
+  -- each is one of at most 32
   pub place-in-use : (i : ℕ) → i < m .count → i < most-parts
   unfolding trimmed
   place-in-use i h = omega (arith, wired .few)
 
-  -- the array has them all
+  -- the model has them all
   pub wired-places : m .count ≤ length (m .parts)
   unfolding trimmed
   wired-places = mapped-places trimmed-part (m .count) (m .parts) (wired .counted)
@@ -83,16 +77,6 @@ module _ (m : Model) (wired : Wired (trimmed m)) where
       let q = all-at (λ (p : Part). WiredBelow (m .count) (p .component)) (trimmed m .parts) blank-part i (wired .sources) (rw (← wired .counted) h) in
       let r = rw (← part-in-use i h) at q in
       record { port0 = r .port0; port1 = r .port1 }
-
-  -- the place that a port is wired to is one of the array
-  port-place : (s : Source) → 0 < m .count → SourceBelow (m .count) s → source-index s < most-parts
-  port-place s some below = place-in-use (source-index s) (index-below (m .count) s some below)
-
-  pub source-place : (i : ℕ) → i < m .count → source-index (part-at (m .parts) i .component .port0) < most-parts
-  source-place i h = port-place (part-at (m .parts) i .component .port0) (omega arith) (wired-at i h .port0)
-
-  pub source-place1 : (i : ℕ) → i < m .count → source-index (part-at (m .parts) i .component .port1) < most-parts
-  source-place1 i h = port-place (part-at (m .parts) i .component .port1) (omega arith) (wired-at i h .port1)
 
   -- a port that is wired to a place in use reads what it reads in the trimmed model
   pub reading-in-use : (s : Source) → SourceBelow (m .count) s → reading (m .parts) s ≡ reading (trimmed m .parts) s

@@ -47,11 +47,6 @@ pub filled-next :
 unfolding filled
 filled-next old now order i ps h = rw (add-one, take-suc order i 0) (sym (filled-append old now (take i order) (getD order i 0 ∷ []) ps))
 
--- showing a part keeps its component
-pub shown-component : (old : List Part) (now : Point) (ps : List Part) (p : Part) → shown old now ps p .component ≡ p .component
-unfolding shown
-shown-component old now ps p = refl
-
 -- showing a part of the model `next`, trimmed, `old` standing at the point before
 pub shown-trimmed :
     (old next : Model) (now : Point) (p : Part) → Wired (trimmed next) → old .count ≡ next .count → old .count ≡ length (trimmed old .parts) →

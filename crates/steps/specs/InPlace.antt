@@ -9,13 +9,13 @@ use lib.Seq.{take-all}
 use Rattle.machine.specs.declared.signal.Signal.{Signal}
 use Rattle.machine.specs.declared.part.Part.{Part}
 use Rattle.machine.specs.declared.model.Model.{Model}
-use Rattle.machine.specs.Model.{most-parts, blank-part, part-at, with-parts, reading, reading0, trimmed, trimmed-part, trimmed-component}
+use Rattle.machine.specs.Model.{blank-part, part-at, with-parts, reading, reading0, trimmed, trimmed-part, trimmed-component}
 use Rattle.laws.specs.Alls.{same-at}
 use Rattle.laws.specs.Partway.{partway, partway-next, partway-same, partway-later, partway-kept}
 use Rattle.ordering.specs.Row.{reading-same}
 use Rattle.steps.specs.Reading.{source-index, heard, heard0}
 use Rattle.steps.specs.Trimmed.{Changed, changed-count, changed-more}
-use Rattle.steps.specs.Fillable.{Wired, changed-wired, place-in-use, part-in-use, wired-at, source-place, reading-in-use}
+use Rattle.steps.specs.Fillable.{Wired, changed-wired, part-in-use, wired-at, reading-in-use}
 
 -- what such a change g, given what port 0 reads, keeps of a part
 pub record InPlace (g : Signal → Part → Part) : Type 0 where
@@ -31,13 +31,8 @@ by-reading g ps p = g (reading0 ps p) p
 abbrev pub changed-to : (Signal → Part → Part) → Model → ℕ → List Part
 changed-to g m i = partway (by-reading g (trimmed m .parts)) i (trimmed m .parts)
 
--- a turn of a loop that changes the parts of m by g, at the place i of the model `next` that it holds: what it asks, and what it comes to
+-- a turn of a loop that changes the parts of m by g, at the place i of the model `next` that it holds: what it reads, and what it comes to
 pub record LoopTurn (g : Signal → Part → Part) (m next : Model) (i : ℕ) : Type 0 where
-  pub within : i < m .count
-  pub inside : i < length (trimmed m .parts)
-  -- the place, and the one that port 0 is wired to, are places of the array
-  pub place : i < most-parts
-  pub source : source-index (part-at (next .parts) i .component .port0) < most-parts
   -- the part there is as it is in m
   pub unchanged : trimmed-part (part-at (next .parts) i) ≡ part-at (trimmed m .parts) i
   -- what its port 0 is heard to read is its reading in m
@@ -98,10 +93,6 @@ module _
       let counted : i < m .count = rw (changed-count m (changed-to g m i) next half) at within in
       let inside : i < length ps = rw (← wired .counted) counted in
       record {
-        within = counted;
-        inside = inside;
-        place = place-in-use next half-wired i within;
-        source = source-place next half-wired i within;
         unchanged = next-part;
         reads = λ k x index hears. heard0 (next .parts) p k x index hears ∙ next-reading;
         changes = λ x v reads changes.
@@ -109,7 +100,7 @@ module _
             ap trimmed-part changes ∙ in-place .unread x p ∙ ap₂ g reads next-part in
             subst (λ (qs : List Part). Changed m qs (with-parts next (next .point) (set (next .parts) i v)))
             (ap (set (changed-to g m i) i) is ∙ partway-next f i ps blank-part inside)
-            (changed-more m (changed-to g m i) next i v half within (ap (λ (q : Part). q .component) changes ∙ in-place .component x p));
+            (changed-more m (changed-to g m i) next i v half within);
         passes = λ same. subst (λ (qs : List Part). Changed m qs next) (partway-same f i ps blank-part same inside) half;
       }
 

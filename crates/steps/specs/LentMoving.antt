@@ -15,7 +15,7 @@ use Rattle.machine.specs.declared.signal.Signal.{Signal}
 use Rattle.machine.specs.declared.part.State.{State}
 use Rattle.machine.specs.declared.part.Part.{Part}
 use Rattle.machine.specs.Time.{last-tick, tick}
-use Rattle.machine.specs.Model.{blank-part, part-at, with-state, with-parts, reading0, trimmed, trimmed-part, trimmed-component, spare-spans}
+use Rattle.machine.specs.Model.{blank-part, part-at, with-state, with-parts, reading0, trimmed, trimmed-part, trimmed-component}
 use Rattle.machine.specs.Step.{moved, all-moved, settled, all-settled}
 use Rattle.machine.specs.Sound.{sound}
 use Rattle.laws.specs.Bools.{either}
@@ -23,7 +23,7 @@ use Rattle.laws.specs.ListLaws.{getD-map-in}
 use Rattle.laws.specs.Partway.{mapped-length}
 use Rattle.store.specs.Held.{parts-lent, stored-component, stored-part, stored-point, stored-state, held}
 use Rattle.store.specs.Updated.{state-spelled, StatePut, SameBehind}
-use Rattle.store.specs.Frame.{held-many, held-part, held-put, held-unused, state-kept, spelled-kept, behind-put, behind-none, behind-through}
+use Rattle.store.specs.Frame.{held-many, held-part, held-put, state-kept, spelled-kept, behind-put, behind-none, behind-through}
 use Rattle.steps.specs.Reading.{SourceBelow, WiredBelow, source-index, heard, heard0, index-below, part-trimmed}
 use Rattle.steps.specs.Trimmed.{Changed, none-changed}
 use Rattle.steps.specs.Fillable.{Wired, part-in-use, wired-at, reading-in-use}
@@ -223,11 +223,7 @@ module _ (ts old : List ℕ) (t h : ℕ) (a : List ℕ) (i : ℕ) (b : List ℕ)
   pub moved-done :
       t ≡ tick (held ts old .point) →
       Changed (held ts old) (all-moved (tick (held ts old .point)) h (trimmed (held ts old) .parts)) (at-point (held ts b) (held ts old .point))
-  unfolding trimmed held spare-spans
+  unfolding trimmed held
   moved-done now =
-      let rest = held-unused ts old b in
       let moves : ℕ → List Part = λ u. all-moved u h (trimmed (held ts old) .parts) in
-      record {
-        is = ap (with-parts (trimmed (held ts old)) (held ts old .point)) (all-parts ∙ ap moves now);
-        unused = record { orders = rest .orders; parts = rest .parts; spans = rest .spans };
-      }
+      record { is = ap (with-parts (trimmed (held ts old)) (held ts old .point)) (all-parts ∙ ap moves now) }

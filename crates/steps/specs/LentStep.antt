@@ -1,5 +1,5 @@
 -- A step made of moving, filling and settling in words: where it leads, what each asks of the words that the one before it gives, and what they come to. The
--- idea: the new state's words, with the parts moved and the point written, mean the moved model at the new point, of which the laws of a step by value speak.
+-- idea: the new state's words, with the parts moved and the point written, mean the moved model at the new point, of which the laws of a step speak.
 -- Assumes nothing.
 use Prim.Native.Nat.{ℕ, _+_, _≤_, _<_}
 use mathlib.Core.Path.{_≡_, sym, ap, subst, _∙_}

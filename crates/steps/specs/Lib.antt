@@ -13,3 +13,4 @@ pub mod StepMade
 pub mod LentMoving
 pub mod LentStep
 pub mod Start
+pub mod LentStart

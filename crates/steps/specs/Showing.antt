@@ -25,8 +25,8 @@ use Rattle.soundness.specs.CoreKept.{filled-kept}
 use Rattle.point.specs.PartRanges as point
 use Rattle.steps.specs.Reading.{SourceBelow, source-index, heard, heard0, heard1}
 use Rattle.steps.specs.Trimmed.{Changed, changed-count, changed-more}
-use Rattle.steps.specs.Fillable.{Wired, Fillable, changed-wired, place-in-use, part-in-use, wired-at, source-place, source-place1, reading-in-use}
-use Rattle.steps.specs.FillingInOrder.{filled-next, shown-component, shown-trimmed}
+use Rattle.steps.specs.Fillable.{Wired, Fillable, changed-wired, place-in-use, part-in-use, wired-at, reading-in-use}
+use Rattle.steps.specs.FillingInOrder.{filled-next, shown-trimmed}
 
 -- the parts of `new`, trimmed, with the outputs of the first j numbers of its order filled; `old` stands at the point before
 abbrev pub partly : Model → Model → ℕ → List Part
@@ -35,9 +35,6 @@ partly old new j = filled (trimmed old .parts) (new .point) (take j (trimmed new
 -- what showing the part k asks, which is the i-th of the order, in the parts qs
 pub record Showable (qs : List Part) (i k : ℕ) : Type 0 where
   pub place : i < most-parts
-  pub number : k < most-parts
-  pub source0 : source-index (part-at qs k .component .port0) < most-parts
-  pub source1 : source-index (part-at qs k .component .port1) < most-parts
   pub ranges : point.PartFits (part-at qs k)
   pub signal0 : is-signal (reading0 qs (part-at qs k)) ≡ true
   pub signal1 : is-signal (reading1 qs (part-at qs k)) ≡ true
@@ -103,9 +100,6 @@ module _
       let most = rw (← part) at (all-at (λ (p : Part). period p ≤ last-tick) (trimmed next .parts) blank-part k half-periods there) in
       record {
         place = place-in-use next half-wired i within;
-        number = place-in-use next half-wired k number-below;
-        source0 = source-place next half-wired k number-below;
-        source1 = source-place1 next half-wired k number-below;
         ranges = record { a = range .a; held = range .held; speed = speed-value _ _ (range .speed); period = most };
         signal0 = port-signal (part-at (next .parts) k .component .port0) (wired .port0);
         signal1 = port-signal (part-at (next .parts) k .component .port1) (wired .port1);
@@ -129,8 +123,7 @@ module _
       (ap (set (partly old new i) k) is ∙
       ap (λ (x : Model). set (partly old new i) k (shown (trimmed old .parts) (new .point) (x .parts) (part-at (x .parts) k))) (half .is) ∙
       (rw number-next (filled-next (trimmed old .parts) (new .point) ks i (trimmed new .parts) inside)))
-      (changed-more new (partly old new i) next k v half number-below
-      (ap (λ (q : Part). q .component) shows ∙ shown-component (old .parts) (new .point) (next .parts) p))
+      (changed-more new (partly old new i) next k v half number-below)
 
 -- all of them filled is the trimmed model filled
 pub all-filled :

@@ -15,7 +15,7 @@ use Rattle.machine.specs.declared.model.Model.{Model}
 use Rattle.machine.specs.Lists.{All}
 use Rattle.machine.specs.Time.{in-time, last-microstep, last-tick, led-to, stepped, tick}
 use Rattle.machine.specs.Kind.{period}
-use Rattle.machine.specs.Model.{with-parts, reading0, trimmed, spare-spans, SameUnused}
+use Rattle.machine.specs.Model.{with-parts, reading0, trimmed}
 use Rattle.machine.specs.Table.{table-of, part-order}
 use Rattle.machine.specs.Step.{moved, all-moved, filled, all-settled, step-made}
 use Rattle.machine.specs.Sound.{sound}
@@ -25,7 +25,7 @@ use Rattle.soundness.specs.RangesKept.{all-moved-in-range}
 use Rattle.soundness.specs.CoreKept.{filled-kept}
 use Rattle.soundness.specs.Stepped.{in-range}
 use Rattle.ordering.specs.Order.{order-below, order-length}
-use Rattle.steps.specs.Trimmed.{Changed, changed-count, unused-through}
+use Rattle.steps.specs.Trimmed.{Changed}
 use Rattle.steps.specs.Fillable.{Wired, Fillable, kept-wired, changed-wired}
 use Rattle.steps.specs.WiredParts.{sound-wired, sound-periods, sound-many}
 
@@ -61,11 +61,7 @@ pub filled-settled :
     Changed b (all-settled (filled old (b .point) (trimmed b .order) (trimmed b .parts))) r
 unfolding trimmed
 filled-settled old b f r fills settles =
-    record {
-      is = settles .is ∙ ap (λ (x : Model). with-parts x (x .point) (all-settled (x .parts))) (fills .is);
-      unused =
-          unused-through b f r (changed-count b (filled old (b .point) (trimmed b .order) (trimmed b .parts)) f fills) (fills .unused) (settles .unused);
-    }
+    record { is = settles .is ∙ ap (λ (x : Model). with-parts x (x .point) (all-settled (x .parts))) (fills .is) }
 
 -- the model a at another point
 abbrev pub at-point : Model → Point → Model
@@ -76,12 +72,6 @@ moved-is :
     (m a : Model) (now : Point) (ps : List Part) → Changed m ps a → trimmed (at-point a now) ≡ with-parts (trimmed m) now ps
 unfolding trimmed
 moved-is m a now ps moves = ap (λ (x : Model). with-parts x now (x .parts)) (moves .is)
-
--- its places in no use are those of m
-moved-unused : (m a : Model) (now : Point) (ps : List Part) → Changed m ps a → SameUnused m (at-point a now)
-unfolding spare-spans
-moved-unused m a now ps moves =
-    record { orders = moves .unused .orders; parts = moves .unused .parts; spans = moves .unused .spans }
 
 -- a step within the time leads to a point of it
 leads-by : (b : Bool) (p : Point) (h : ℕ) → eqb h 0 ≡ b → tick p + h ≤ last-tick → (h ≡ 0 → p .n < last-microstep) → stepped p h ≡ To (led-to p h)
@@ -130,8 +120,3 @@ pub filled-settleable :
 filled-settleable old b f wired fills =
     changed-wired b (filled old (b .point) (trimmed b .order) (trimmed b .parts)) f fills
     (filled-kept (λ (p : Part). p .component) (λ p out. refl) old (b .point) (trimmed b .order) (trimmed b .parts)) wired
-
--- the places in no use stay as they were through the step
-pub made-unused : (m a r : Model) (now : Point) (ps qs : List Part) → Changed m ps a → Changed (at-point a now) qs r → SameUnused m r
-made-unused m a r now ps qs moves settles =
-    unused-through m (at-point a now) r (changed-count m ps a moves) (moved-unused m a now ps moves) (settles .unused)

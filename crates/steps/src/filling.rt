@@ -1,49 +1,53 @@
-// The outputs of a point, filled in part order.
+// The outputs of a point, filled in part order in the words of the new state.
 //
-// Its contract cites `machine`'s `specs/Step.antt`, and this crate's `specs/Trimmed.antt` and `specs/Fillable.antt`.
+// Its contract cites `machine`'s `specs/Step.antt`, `store`'s `specs/Held.antt` and `specs/Updated.antt`, and this crate's
+// `specs/Trimmed.antt` and `specs/Fillable.antt`.
 use crate::heard::heard_of;
 use crate::heard::source_index;
-use machine::model::Model;
 use point::change::with_output;
 use point::output::output_of;
+use store::lookup::number_at;
+use store::lookup::output_at;
+use store::lookup::part_at;
+use store::lookup::parts_of;
+use store::lookup::point_of;
+use store::update::put_state;
 ghost use Rattle.machine.specs.Model.{trimmed};
 ghost use Rattle.machine.specs.Step.{filled};
+ghost use Rattle.store.specs.Held.{Room, held, parts-lent};
+ghost use Rattle.store.specs.Updated.{SameBehind};
 ghost use Rattle.steps.specs.Trimmed.{Changed};
 ghost use Rattle.steps.specs.Fillable.{Fillable};
 
-// The outputs of `new` at its point, in its part order; `old` stands at the point before, which delays
-// read.
-pub(crate) fn filled_model(old: Model, new: Model) -> Model
-    requires { ⌜ Fillable (trimmed old) (trimmed new) ⌝ }
-    ensures { λ r. ⌜ Changed new (filled (trimmed old .parts) (new .point) (trimmed new .order) (trimmed new .parts)) r ⌝ }
+// The outputs of `new` at its point, in the table's part order; `old` stands at the point before, which delays read.
+pub(crate) fn filled_into(table: &[u64], old: &[u64], new: &mut [u64])
+    requires { ⌜ Room (now table) (now old) ⌝ }
+    requires { ⌜ Room (now table) (now new) ⌝ }
+    requires { ⌜ Fillable (trimmed (held (now table) (now old))) (trimmed (held (now table) (now new))) ⌝ }
+    ensures { λ r. ⌜ Changed (held (now (table .entry)) (now (new .entry))) (filled (trimmed (held (now (table .entry)) (now (old .entry))) .parts) (held (now (table .entry)) (now (new .entry)) .point) (trimmed (held (now (table .entry)) (now (new .entry))) .order) (trimmed (held (now (table .entry)) (now (new .entry))) .parts)) (held (now (table .entry)) (now (new .exit))) ⌝ }
+    ensures { λ r. ⌜ SameBehind (parts-lent (now (table .entry))) (now (new .entry)) (now (new .exit)) ⌝ }
 {
-    let now = new.point;
-    let mut next = new;
+    let count = parts_of(table);
+    let now = point_of(new);
     let mut i: usize = 0;
-    while i < next.count {
-        let k = next.order[i] as usize;
-        let p = next.parts[k];
+    while i < count {
+        let k = number_at(table, i);
+        let p = part_at(table, new, k);
         let c = p.component;
         let source0 = c.port0;
         let source1 = c.port1;
         let index0 = source_index(source0);
         let index1 = source_index(source1);
-        let part0 = next.parts[index0];
-        let part1 = next.parts[index1];
-        let earlier = old.parts[index0];
-        let state0 = part0.state;
-        let state1 = part1.state;
-        let earlier_state = earlier.state;
-        let out0 = state0.output;
-        let out1 = state1.output;
-        let earlier_out = earlier_state.output;
+        let out0 = output_at(new, index0);
+        let out1 = output_at(new, index1);
+        let earlier_out = output_at(old, index0);
         let x = heard_of(source0, out0);
         let y = heard_of(source1, out1);
         let before = heard_of(source0, earlier_out);
         let out = output_of(p, now, x, y, before);
         let shown = with_output(p, out);
-        next.parts[k] = shown;
+        let state = shown.state;
+        put_state(new, k, state);
         i += 1;
     }
-    next
 }

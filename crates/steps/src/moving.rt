@@ -1,43 +1,54 @@
-// Every part of a model moved by a step.
+// Every part moved by a step, from the words of the old state into those of the new.
 //
-// Its contract cites `machine`'s `specs/Step.antt`, and this crate's `specs/Trimmed.antt`.
+// Its contract cites `machine`'s `specs/Step.antt`, `store`'s `specs/Held.antt` and `specs/Updated.antt`, and this crate's
+// `specs/Trimmed.antt`.
 use crate::heard::heard_of;
 use crate::heard::source_index;
-use machine::model::Model;
 use machine::time::Ticks;
 use point::change::moved_part;
+use store::lookup::output_at;
+use store::lookup::part_at;
+use store::lookup::parts_of;
+use store::lookup::point_of;
+use store::update::put_state;
 ghost use mathlib.Core.Path.{_≡_};
 ghost use mathlib.Core.Bool.{true};
-ghost use Prim.Native.Nat.{_+_, _≤_};
+ghost use Prim.Native.Nat.{ℕ, _+_, _≤_, _<_};
 ghost use Rattle.machine.specs.Time.{last-tick, tick};
 ghost use Rattle.machine.specs.Model.{trimmed};
 ghost use Rattle.machine.specs.Sound.{sound};
 ghost use Rattle.machine.specs.Step.{all-moved};
+ghost use Rattle.store.specs.Held.{Room, held, parts-lent};
+ghost use Rattle.store.specs.Updated.{SameBehind, state-spelled};
 ghost use Rattle.steps.specs.Trimmed.{Changed};
+ghost use Rattle.steps.specs.StepMade.{at-point};
 
-// All parts moved by a step of `h`, one after the other in place: moving changes no stored output.
-pub(crate) fn all_moved(m: Model, h: Ticks) -> Model
-    requires { ⌜ sound (trimmed m) ≡ true ⌝ }
+// All parts moved by a step of `h`. Of `new` the records of the parts are written, each once; they are read from `old`
+// alone, and the point of `new` is kept.
+pub(crate) fn moved_into(table: &[u64], old: &[u64], h: Ticks, new: &mut [u64])
+    requires { ⌜ Room (now table) (now old) ⌝ }
+    requires { ⌜ Room (now table) (now new) ⌝ }
+    requires { ⌜ sound (trimmed (held (now table) (now old))) ≡ true ⌝ }
     requires { ⌜ h .0 ≤ 1_000_000_000 ⌝ }
-    requires { ⌜ tick (m .point) + h .0 ≤ last-tick ⌝ }
-    ensures { λ r. ⌜ Changed m (all-moved (tick (m .point)) (h .0) (trimmed m .parts)) r ⌝ }
+    requires { ⌜ tick (held (now table) (now old) .point) + h .0 ≤ last-tick ⌝ }
+    ensures { λ r. ⌜ Changed (held (now (table .entry)) (now (old .entry))) (all-moved (tick (held (now (table .entry)) (now (old .entry)) .point)) (h .0) (trimmed (held (now (table .entry)) (now (old .entry))) .parts)) (at-point (held (now (table .entry)) (now (new .exit))) (held (now (table .entry)) (now (old .entry)) .point)) ⌝ }
+    ensures { λ r. ⌜ ((j : ℕ) → j < parts-lent (now (table .entry)) → state-spelled (now (new .exit)) j ≡ true) ⌝ }
+    ensures { λ r. ⌜ SameBehind (parts-lent (now (table .entry))) (now (new .entry)) (now (new .exit)) ⌝ }
 {
-    let now = m.point;
+    let count = parts_of(table);
+    let now = point_of(old);
     let t = now.t;
-    let mut next = m;
     let mut i: usize = 0;
-    while i < next.count {
-        let p = next.parts[i];
+    while i < count {
+        let p = part_at(table, old, i);
         let c = p.component;
         let s = c.port0;
         let k = source_index(s);
-        let q = next.parts[k];
-        let from = q.state;
-        let out = from.output;
+        let out = output_at(old, k);
         let x = heard_of(s, out);
         let moved = moved_part(p, t, h, x);
-        next.parts[i] = moved;
+        let state = moved.state;
+        put_state(new, i, state);
         i += 1;
     }
-    next
 }

@@ -1,22 +1,26 @@
-// Every part of a model settled, once the outputs of the point are there.
+// Every part settled in the words of the new state, once the outputs of the point are there.
 //
-// Its contracts cite `machine`'s `specs/Step.antt`, and this crate's `specs/Trimmed.antt`, `specs/Fillable.antt` and
-// `specs/Settling.antt`.
-use crate::filling::filled_model;
+// Its contracts cite `machine`'s `specs/Step.antt`, `store`'s `specs/Held.antt` and `specs/Updated.antt`, and this crate's
+// `specs/Trimmed.antt`, `specs/Fillable.antt` and `specs/Settling.antt`.
 use crate::heard::heard_of;
 use crate::heard::source_index;
-use machine::model::Model;
 use machine::part::Kind;
 use point::change::settled_part;
+use store::lookup::output_at;
+use store::lookup::part_at;
+use store::lookup::parts_of;
+use store::update::put_state;
 ghost use mathlib.Core.Path.{_≡_};
 ghost use Rattle.machine.specs.Model.{trimmed};
-ghost use Rattle.machine.specs.Step.{all-settled, filled};
+ghost use Rattle.machine.specs.Step.{all-settled};
+ghost use Rattle.store.specs.Held.{Room, held, parts-lent};
+ghost use Rattle.store.specs.Updated.{SameBehind};
 ghost use Rattle.steps.specs.Trimmed.{Changed};
-ghost use Rattle.steps.specs.Fillable.{Fillable};
+ghost use Rattle.steps.specs.Fillable.{Wired};
 ghost use Rattle.steps.specs.Settling.{settles};
 
 // Whether settling changes a part of the kind.
-pub(crate) fn settles(k: Kind) -> bool
+fn settles(k: Kind) -> bool
     ensures { λ r. ⌜ r ≡ settles k ⌝ }
 {
     match k {
@@ -36,16 +40,18 @@ pub(crate) fn settles(k: Kind) -> bool
     }
 }
 
-// The outputs of `new` filled, `old` standing at the point before, and then all parts settled, one after the
-// other in place: settling changes no stored output. A part that settling does not change is passed over.
-pub(crate) fn settled_model(old: Model, new: Model) -> Model
-    requires { ⌜ Fillable (trimmed old) (trimmed new) ⌝ }
-    ensures { λ r. ⌜ Changed new (all-settled (filled (trimmed old .parts) (new .point) (trimmed new .order) (trimmed new .parts))) r ⌝ }
+// All parts settled, one after the other in place: settling changes no stored output. A part that settling does not
+// change is passed over.
+pub(crate) fn settled_into(table: &[u64], new: &mut [u64])
+    requires { ⌜ Room (now table) (now new) ⌝ }
+    requires { ⌜ Wired (trimmed (held (now table) (now new))) ⌝ }
+    ensures { λ r. ⌜ Changed (held (now (table .entry)) (now (new .entry))) (all-settled (trimmed (held (now (table .entry)) (now (new .entry))) .parts)) (held (now (table .entry)) (now (new .exit))) ⌝ }
+    ensures { λ r. ⌜ SameBehind (parts-lent (now (table .entry))) (now (new .entry)) (now (new .exit)) ⌝ }
 {
-    let mut next = filled_model(old, new);
+    let count = parts_of(table);
     let mut i: usize = 0;
-    while i < next.count {
-        let p = next.parts[i];
+    while i < count {
+        let p = part_at(table, new, i);
         let c = p.component;
         let kind = c.kind;
         if !settles(kind) {
@@ -54,13 +60,11 @@ pub(crate) fn settled_model(old: Model, new: Model) -> Model
         }
         let s = c.port0;
         let k = source_index(s);
-        let q = next.parts[k];
-        let from = q.state;
-        let out = from.output;
+        let out = output_at(new, k);
         let x = heard_of(s, out);
         let settled = settled_part(p, x);
-        next.parts[i] = settled;
+        let state = settled.state;
+        put_state(new, i, state);
         i += 1;
     }
-    next
 }

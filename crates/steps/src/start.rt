@@ -1,18 +1,32 @@
 // The start point of a model.
 //
 // Its contract cites `machine`'s `specs/Fresh.antt` and this crate's `specs/Start.antt`.
-use crate::settling::settled_model;
+use crate::filling::filled_into;
+use crate::settling::settled_into;
 use machine::model::Model;
+use store::intake::put_model;
+use store::lookup::STATE_ROOM;
+use store::lookup::TABLE_ROOM;
+use store::recall::recalled;
+use store::update::copy_words;
 ghost use mathlib.Core.Path.{_≡_};
 ghost use Rattle.machine.specs.Model.{trimmed};
 ghost use Rattle.machine.specs.Table.{Table};
 ghost use Rattle.machine.specs.Fresh.{fresh};
 ghost use Rattle.steps.specs.Start.{Unfilled, unfilled};
 
-// The model with its start point filled. No delay reads the point before, so `m` stands for it too.
+// The model with its start point filled, in words of its own. No delay reads the point before, so the state that is
+// filled stands for it too.
 pub fn started(m: Model) -> Model
     requires { ⌜ Unfilled m ⌝ }
     ensures { λ r. ⌜ ((t : Table) → trimmed m ≡ unfilled t → trimmed r ≡ fresh t) ⌝ }
 {
-    settled_model(m, m)
+    let mut table = [0u64; TABLE_ROOM];
+    let mut old = [0u64; STATE_ROOM];
+    let mut new = [0u64; STATE_ROOM];
+    put_model(m, &mut table, &mut old);
+    copy_words(&old, STATE_ROOM, &mut new);
+    filled_into(&table, &old, &mut new);
+    settled_into(&table, &mut new);
+    recalled(m, &new)
 }

@@ -4,7 +4,7 @@
 use Prim.Native.Nat.{ℕ, _+_, _*_, _≤_, _<_}
 use native.Mathlib.Omega.{arith}
 use mathlib.Core.Path.{_≡_, refl, sym, ap, ap₂, _∙_}
-use mathlib.Core.Bool.{Bool, true, false}
+use mathlib.Core.Bool.{true, false}
 use mathlib.Core.Logic.{_⊎_, inl, inr}
 use mathlib.Core.List.{List}
 use lib.Dec.{eqb, ltb}
@@ -14,12 +14,11 @@ use borrow.Author.Tests.{eqb-true, eqb-false, ltb-true, ltb-false}
 use Rattle.machine.specs.declared.time.Point.{Point}
 use Rattle.machine.specs.declared.part.State.{State}
 use Rattle.machine.specs.declared.part.Part.{Part}
-use Rattle.machine.specs.declared.model.Model.{Model}
 use Rattle.machine.specs.Model.{blank-part, part-at, with-state, with-parts, spare-spans, SameUnused}
 use Rattle.laws.specs.Bools.{either}
 use Rattle.codec.specs.Words.{table}
 use Rattle.codec.specs.Tables.{length-table, table-at, table-same}
-use Rattle.store.specs.Held.{lent, parts-lent, state-words-of, stored-component, stored-number, stored-ratio, stored-state, stored-part, stored-point, held, Room}
+use Rattle.store.specs.Held.{lent, parts-lent, state-words-of, stored-number, stored-state, stored-part, stored-point, held}
 use Rattle.store.specs.Form.{state-limits}
 use Rattle.store.specs.Written.{Outside}
 use Rattle.store.specs.Updated.{state-spelled, StatePut, PointPut, Copied, SameBehind, within-same}
@@ -132,6 +131,11 @@ held-copied ts l a b copy =
     (table-same (stored-part ts b) (stored-part ts l) (parts-lent ts)
     (λ j low. ap (with-state (stored-part ts l j)) (same-state l b j (λ x from to. copy .front x (omega arith)))))
 
+-- words copied whole are those that they were copied from
+pub copied-whole : (n : ℕ) (l a b : List ℕ) → Copied n l a b → length l ≡ n → length b ≡ n → b ≡ l
+copied-whole n l a b copy all same = ext-getD 0 b l (same ∙ sym all) (λ x inside. copy .front x (omega (arith, same)))
+
+-- states within their limits are so still once they are copied, and the words behind them are kept
 pub copied-spelled : (n : ℕ) (l a b : List ℕ) → Copied (state-words-of n) l a b → ((j : ℕ) → j < n → state-spelled l j ≡ true) →
     (j : ℕ) → j < n → state-spelled b j ≡ true
 copied-spelled n l a b copy spells j low =

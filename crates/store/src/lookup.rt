@@ -21,6 +21,11 @@ ghost use Prim.Native.Nat.{_+_, _*_, _%_, _≤_};
 ghost use lib.ListN.{length};
 ghost use Rattle.store.specs.Held.{lent, parts-lent, state-words-of, stored-component, stored-number, stored-part, stored-point, stored-spans, stored-state, table-words};
 
+// How many words the table of the most parts has, and a state of it: 18 and 9 for each part, and two.
+pub const TABLE_ROOM: usize = 578;
+
+pub const STATE_ROOM: usize = 290;
+
 // How many parts a table has.
 pub fn parts_of(table: &[u64]) -> usize
     requires { ⌜ 2 ≤ length (now table) ⌝ }

@@ -1,4 +1,4 @@
--- `is_sound_in` asks whether the words spell a model, and then makes the tests of that model one by one, as `is_sound` does: behind the tests that hold,
+-- `is_sound_in` asks whether the words spell a model, and then makes the tests of that model one by one: behind the tests that hold,
 -- the answer is the next one and those behind it, so that where one fails the answer is no whatever the others say.
 use Prim.Native.Nat.{ℕ, _≤_}
 use native.Mathlib.Omega.{arith}

@@ -1,55 +1,98 @@
--- `advance` is the machine's: where a number bars the call it is the barred answer, and where none does the model is sound and the step within the time,
--- which is what the search asks, and its answer is the machine's.
-use mathlib.Core.Path.{_≡_, sym, _∙_}
+-- `advance` is the machine's: a model of more parts than there are places is not sound, and any other is put into words, where `advance_into` ends as the
+-- machine does; the answer is then the model handed in, or the one that takes the new state.
+use Prim.Native.Nat.{ℕ}
+use native.Mathlib.Omega.{arith}
+use mathlib.Core.Path.{_≡_}
+use mathlib.Core.List.{List}
+use lib.ListN.{length, length-map}
 use borrow.Author.Needs.{needs}
-use Rattle.machine.specs.Model.{trimmed}
-use Rattle.machine.specs.Advance.{barred}
-use Rattle.stepsearch.specs.Outcomes.{not-barred}
-use Rattle.master.specs.Barring.{barred-trimmed, barred-answer, searched-advance}
+use Rattle.master.specs.ByValue.{committed-by-value, many-answer, refused-by-value}
 use Rattle.master.proofs.advance.Statement.{statement}
 use Rattle.master.proofs.advance.Tie as tie
 
-is-sound-requires : tie.Need-is-sound-requires
-is-sound-requires c κs = search needs
+-- a model has 32 places for parts
+full : (c : tie.Start) → length (c .args .m .parts) ≡ 32
+full c = omega (arith, simp length-map at (c .good .0))
 
-barred-number-requires : tie.Need-barred-number-requires
-barred-number-requires c κs = search needs
+-- the model put into words, seen from the call on them, and the start
+abbrev puts-of : tie.After-advance-into → tie.After-put-model
+puts-of advances = advances .before .before .before .before .before .before
 
--- the start, seen from the number that bars the call
-abbrev start-of : tie.After-barred-number → tie.Start
-start-of bars = bars .before .before .before
+abbrev start-of : tie.After-put-model → tie.Start
+start-of puts = puts .before .before .before .before .before
 
--- the number is the machine's
-bars-by : (bars : tie.After-barred-number) → bars .barred-number .result ≡ barred (trimmed (start-of bars .args .m)) (start-of bars .args .w)
-bars-by bars =
-    let s = start-of bars in
-    let sounds = bars .before in
-    barred-trimmed (s .args .m) (s .args .w) (bars .barred-number .result) (sounds .is-sound .result) (sounds .is-sound .ensures)
-    (bars .barred-number .ensures)
+-- the words of the table, of the old state and of the new one
+abbrev table-of : tie.After-put-model → List ℕ
+table-of puts = puts .put-model .last .1 .0
 
--- and where it is 0, nothing bars the call
-free : (c : tie.Else1) → barred (trimmed (start-of (c .before) .args .m)) (start-of (c .before) .args .w) ≡ 0
-free c = sym (bars-by (c .before)) ∙ c .if1 .left
+abbrev old-of : tie.After-put-model → List ℕ
+old-of puts = puts .put-model .last .1 .1 .0
+
+abbrev new-of : tie.After-advance-into → List ℕ
+new-of advances = advances .advance-into .last .1 .1 .1 .0
 
 returns : tie.Need-returns
 returns c =
-    let bars = c .before in
-    let s = start-of bars in
-    barred-answer (s .args .m) (s .args .w) (bars .barred-number .result) (bars-by bars) (c .if1 .taken)
+    let s = c .before .before in
+    many-answer (s .args .m) (s .args .w) (c .if1 .taken) (full s)
 
-searched-answer-requires : tie.Need-searched-answer-requires
-unfolding trimmed
-searched-answer-requires c κs =
-    let s = start-of (c .before) in
-    let met = not-barred (trimmed (s .args .m)) (s .args .w) (free c) in
-    (met .is-sound, (met .at-most, met .in-time))
+slice-aggregate-put-model : tie.Need-slice-aggregate-put-model
+slice-aggregate-put-model c = search needs
+
+slice-aggregate-put-model-2 : tie.Need-slice-aggregate-put-model-2
+slice-aggregate-put-model-2 c = search needs
+
+put-model-requires : tie.Need-put-model-requires
+put-model-requires c κs = search needs
+
+slice-aggregate-advance-into : tie.Need-slice-aggregate-advance-into
+slice-aggregate-advance-into c = search needs
+
+slice-aggregate-advance-into-2 : tie.Need-slice-aggregate-advance-into-2
+slice-aggregate-advance-into-2 c = search needs
+
+slice-aggregate-advance-into-3 : tie.Need-slice-aggregate-advance-into-3
+slice-aggregate-advance-into-3 c = search needs
+
+advance-into-requires : tie.Need-advance-into-requires
+advance-into-requires c κs = search needs
 
 returns-2 : tie.Need-returns-2
 returns-2 c =
-    let s = start-of (c .before .before) in
-    searched-advance (s .args .m) (s .args .w) (c .searched-answer .result) (free (c .before)) (c .searched-answer .ensures)
+    let advances = c .before .before .before in
+    let puts = puts-of advances in
+    let s = start-of puts in
+    refused-by-value (s .args .m) (s .args .w) 290 (table-of puts) (old-of puts) _ (new-of advances) (advances .advance-into .result)
+    (puts .put-model .ensures) (omega arith) (advances .advance-into .ensures) (c .if2 .taken)
+
+slice-aggregate-recalled : tie.Need-slice-aggregate-recalled
+slice-aggregate-recalled c = search needs
+
+recalled-requires : tie.Need-recalled-requires
+recalled-requires c κs = search needs
+
+returns-3 : tie.Need-returns-3
+returns-3 c =
+    let test = c .before .before in
+    let advances = test .before .before .before in
+    let puts = puts-of advances in
+    let s = start-of puts in
+    committed-by-value (s .args .m) (s .args .w) 290 (table-of puts) (old-of puts) _ (new-of advances) (advances .advance-into .result)
+    (puts .put-model .ensures) (omega arith) (advances .advance-into .ensures) (c .recalled .result) (c .recalled .ensures) (test .if2 .left)
 
 pub advance-spec : {M : Type 1} → statement M
 advance-spec =
     tie.close
-    (tie.spec is-sound-requires barred-number-requires returns searched-answer-requires returns-2)
+    (tie.spec
+    returns
+    slice-aggregate-put-model
+    slice-aggregate-put-model-2
+    put-model-requires
+    slice-aggregate-advance-into
+    slice-aggregate-advance-into-2
+    slice-aggregate-advance-into-3
+    advance-into-requires
+    returns-2
+    slice-aggregate-recalled
+    recalled-requires
+    returns-3)

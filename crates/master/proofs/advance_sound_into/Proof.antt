@@ -6,12 +6,11 @@ use mathlib.Core.Path.{_≡_, sym, subst, _∙_}
 use lib.ListN.{length}
 use borrow.Author.Needs.{needs}
 use Rattle.machine.specs.Model.{trimmed}
-use Rattle.machine.specs.Advance.{barred, barred-outcome}
+use Rattle.machine.specs.Advance.{barred}
 use Rattle.stepsearch.specs.Outcomes.{not-barred}
-use Rattle.store.specs.Held.{parts-lent, state-words-of, held, Room}
+use Rattle.store.specs.Held.{parts-lent, state-words-of, Room}
 use Rattle.store.specs.Spelling.{spelled-room, spelled-few}
 use Rattle.store.specs.Respelled.{states-spelled}
-use Rattle.master.specs.declared.verdict.Verdict.{Verdict}
 use Rattle.master.specs.Into.{lent-model, outcome-with, CalledInto}
 use Rattle.master.specs.IntoLaws.{bars-lent, barred-call, short-call, searched-call}
 use Rattle.master.proofs.advance_sound_into.Statement.{statement}

@@ -1,21 +1,157 @@
--- `started` is `fresh`: the outputs filled and the parts settled by the contract of `settled_model`, with the model itself as the one at the point
--- before, which no output reads at the start point.
-use Rattle.machine.specs.Model.{trimmed}
-use Rattle.steps.specs.Fillable.{Fillable}
-use Rattle.steps.specs.Start.{Unfilled, unfilled-fillable, started-is}
-use Rattle.machine.specs.declared.model.Model.{Model}
+-- `started` is `fresh`: the model put into words, its state copied, the outputs filled and the parts settled by the contracts of their functions, and the
+-- state taken back. The words that are filled stand for those at the point before too, which no output reads at the start point.
+use Prim.Native.Nat.{ℕ}
+use native.Mathlib.Omega.{arith}
+use mathlib.Core.Path.{_≡_}
+use mathlib.Core.List.{List}
+use lib.ListN.{length}
+use borrow.Author.Needs.{needs}
+use Rattle.store.specs.Held.{parts-lent}
+use Rattle.store.specs.Frame.{copied-whole}
+use Rattle.store.specs.Spelling.{spelled-room}
+use Rattle.steps.specs.LentFilling.{room-kept}
+use Rattle.steps.specs.LentStart.{start-fillable, start-is, start-room, start-settleable, unfilled-few}
 use Rattle.steps.proofs.start.started.Statement.{statement}
 use Rattle.steps.proofs.start.started.Tie as tie
 
--- what filling asks
-fillable : (m : Model) → Unfilled m → Fillable (trimmed m) (trimmed m)
-fillable m u = rw (u .is) (unfilled-fillable (u .table) (u .fits))
+-- the calls before, seen from later ones, and the start
+abbrev start-of : tie.After-put-model → tie.Start
+start-of puts = puts .before .before .before
 
-settled-model-requires : tie.Need-settled-model-requires
-settled-model-requires c κs = fillable (c .args .m) (c .pre)
+abbrev puts-of : tie.After-copy-words → tie.After-put-model
+puts-of copies = copies .before .before .before .before .before
+
+abbrev copies-of : tie.After-filled-into → tie.After-copy-words
+copies-of fills = fills .before .before .before .before .before
+
+abbrev fills-of : tie.After-settled-into → tie.After-filled-into
+fills-of settles = settles .before .before .before .before
+
+-- the words of the table and of the old state, and those of the new one after each call
+abbrev table-of : tie.After-put-model → List ℕ
+table-of puts = puts .put-model .last .1 .0
+
+abbrev old-of : tie.After-put-model → List ℕ
+old-of puts = puts .put-model .last .1 .1 .0
+
+abbrev copy-of : tie.After-copy-words → List ℕ
+copy-of copies = copies .copy-words .last .1 .1 .0
+
+abbrev filled-of : tie.After-filled-into → List ℕ
+filled-of fills = fills .filled-into .last .1 .1 .0
+
+-- the words of a state are as many as are copied
+old-size : (puts : tie.After-put-model) → length (old-of puts) ≡ 290
+old-size puts = search needs
+
+copy-size : (copies : tie.After-copy-words) → length (copy-of copies) ≡ 290
+copy-size copies = search needs
+
+settled-size : (settles : tie.After-settled-into) → length (settles .settled-into .last .1 .0) ≡ 290
+settled-size settles = search needs
+
+-- so the copy is the whole of them
+copied : (copies : tie.After-copy-words) → copy-of copies ≡ old-of (puts-of copies)
+copied copies = copied-whole 290 (old-of (puts-of copies)) _ (copy-of copies) (copies .copy-words .ensures) (old-size (puts-of copies)) (copy-size copies)
+
+slice-aggregate-put-model : tie.Need-slice-aggregate-put-model
+slice-aggregate-put-model c = search needs
+
+slice-aggregate-put-model-2 : tie.Need-slice-aggregate-put-model-2
+slice-aggregate-put-model-2 c = search needs
+
+put-model-requires : tie.Need-put-model-requires
+put-model-requires c κs =
+    let s = c .before .before in
+    let few = unfilled-few (s .args .m) (s .pre) in
+    (few, (omega (arith, few), omega (arith, few)))
+
+slice-aggregate-copy-words : tie.Need-slice-aggregate-copy-words
+slice-aggregate-copy-words c = search needs
+
+slice-aggregate-copy-words-2 : tie.Need-slice-aggregate-copy-words-2
+slice-aggregate-copy-words-2 c = search needs
+
+copy-words-requires : tie.Need-copy-words-requires
+copy-words-requires c κs = search needs
+
+slice-aggregate-filled-into : tie.Need-slice-aggregate-filled-into
+slice-aggregate-filled-into c = search needs
+
+slice-aggregate-filled-into-2 : tie.Need-slice-aggregate-filled-into-2
+slice-aggregate-filled-into-2 c = search needs
+
+slice-aggregate-filled-into-3 : tie.Need-slice-aggregate-filled-into-3
+slice-aggregate-filled-into-3 c = search needs
+
+filled-into-requires : tie.Need-filled-into-requires
+filled-into-requires c κs =
+    let copies = c .before .before .before .before in
+    let puts = puts-of copies in
+    let s = start-of puts in
+    let put = puts .put-model .ensures in (
+      spelled-room (table-of puts) (old-of puts) (put .form),
+      (
+        start-room (s .args .m) (s .pre) (table-of puts) (old-of puts) (copy-of copies) put (copied copies),
+        start-fillable (s .args .m) (s .pre) (table-of puts) (old-of puts) (copy-of copies) put (copied copies),
+      ),
+    )
+
+slice-aggregate-settled-into : tie.Need-slice-aggregate-settled-into
+slice-aggregate-settled-into c = search needs
+
+slice-aggregate-settled-into-2 : tie.Need-slice-aggregate-settled-into-2
+slice-aggregate-settled-into-2 c = search needs
+
+settled-into-requires : tie.Need-settled-into-requires
+settled-into-requires c κs =
+    let fills = c .before .before .before in
+    let copies = copies-of fills in
+    let puts = puts-of copies in
+    let s = start-of puts in
+    let put = puts .put-model .ensures in (
+      room-kept (table-of puts) (copy-of copies) (filled-of fills) (parts-lent (table-of puts)) (fills .filled-into .ensures .1)
+          (start-room (s .args .m) (s .pre) (table-of puts) (old-of puts) (copy-of copies) put (copied copies)),
+      start-settleable (s .args .m) (s .pre) (table-of puts) (old-of puts) (copy-of copies) put (copied copies) (filled-of fills)
+          (fills .filled-into .ensures .0),
+    )
+
+slice-aggregate-recalled : tie.Need-slice-aggregate-recalled
+slice-aggregate-recalled c = search needs
+
+recalled-requires : tie.Need-recalled-requires
+recalled-requires c κs =
+    let s = start-of (puts-of (copies-of (fills-of (c .before .before)))) in
+    let few = unfilled-few (s .args .m) (s .pre) in
+    (few, omega (arith, few, settled-size (c .before .before)))
 
 returns : tie.Need-returns
-returns c = started-is (c .before .args .m) (c .settled-model .result) (c .settled-model .ensures)
+returns c =
+    let settles = c .before .before .before in
+    let fills = fills-of settles in
+    let copies = copies-of fills in
+    let puts = puts-of copies in
+    let s = start-of puts in
+    start-is (s .args .m) (s .pre) (table-of puts) (old-of puts) (copy-of copies) (puts .put-model .ensures) (copied copies) (filled-of fills)
+    (fills .filled-into .ensures .0) (settles .settled-into .last .1 .0) (c .recalled .result) (settles .settled-into .ensures .0) (c .recalled .ensures)
 
 pub started-spec : {M : Type 1} → statement M
-started-spec = tie.close (tie.spec settled-model-requires returns)
+started-spec =
+    tie.close
+    (tie.spec
+    slice-aggregate-put-model
+    slice-aggregate-put-model-2
+    put-model-requires
+    slice-aggregate-copy-words
+    slice-aggregate-copy-words-2
+    copy-words-requires
+    slice-aggregate-filled-into
+    slice-aggregate-filled-into-2
+    slice-aggregate-filled-into-3
+    filled-into-requires
+    slice-aggregate-settled-into
+    slice-aggregate-settled-into-2
+    settled-into-requires
+    slice-aggregate-recalled
+    recalled-requires
+    returns)

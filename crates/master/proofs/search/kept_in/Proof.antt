@@ -1,0 +1,42 @@
+-- `kept_in` copies all words of the state of a table.
+use Prim.Native.Nat.{ℕ}
+use mathlib.Core.Path.{subst}
+use Rattle.store.specs.Held.{state-words-of}
+use Rattle.store.specs.Updated.{Copied}
+use borrow.Author.Needs.{needs}
+use Rattle.master.proofs.search.kept_in.Statement.{statement}
+use Rattle.master.proofs.search.kept_in.Tie as tie
+
+parts-of-requires : tie.Need-parts-of-requires
+parts-of-requires c κs = search needs
+
+mul-copy-words : tie.Need-mul-copy-words
+mul-copy-words c = search needs
+
+add-copy-words : tie.Need-add-copy-words
+add-copy-words c = search needs
+
+copy-words-requires : tie.Need-copy-words-requires
+copy-words-requires c κs = search needs
+
+same-length : tie.Need-same-length
+same-length c = search needs
+
+returns : tie.Need-returns
+returns c =
+    let copies = c .before .before in
+    let counts = copies .before .before in
+    let s = counts .before .before .before .before in
+    subst (λ (n : ℕ). Copied (state-words-of n) (s .args .old .now) (s .args .new .now) (copies .copy-words .last .1 .1 .0)) (counts .parts-of .ensures)
+    (copies .copy-words .ensures)
+
+pub kept-in-spec : {M : Type 1} → statement M
+kept-in-spec =
+    tie.close
+    (tie.spec
+    parts-of-requires
+    mul-copy-words
+    add-copy-words
+    copy-words-requires
+    same-length
+    returns)

@@ -1,0 +1,251 @@
+-- `filled_into` is `filled`, over the models that the words mean. The invariant: the outputs of the first i numbers of the part order are filled, nothing else of
+-- the model is changed, and the words behind it are kept. The measure is what is left of the count. A turn reads a part and the outputs that its ports are
+-- wired to, and writes the part's state; one law of `specs/LentFilling.antt` says what it asks and what it comes to.
+use Prim.Native.Nat.{ℕ, _-_, _≤_, _<_}
+use native.Mathlib.Omega.{arith}
+use mathlib.Core.List.{List}
+use Rattle.machine.specs.Step.{filled}
+use Rattle.store.specs.Held.{Room, held, parts-lent}
+use Rattle.store.specs.Updated.{SameBehind}
+use Rattle.store.specs.Frame.{behind-none, behind-put, behind-through}
+use Rattle.steps.specs.Trimmed.{Changed, none-changed}
+use Rattle.steps.specs.Showing.{partly}
+use Rattle.steps.specs.LentFilling.{LentTurn, lent-number, lent-turn, lent-filled, room-kept, table-room, state-room}
+use Rattle.steps.proofs.filling.filled_into.Statement.{statement}
+use Rattle.steps.proofs.filling.filled_into.Tie as tie
+
+abbrev Inv-loop : tie.InvT-loop
+Inv-loop table old new₀ count now i₀ new i =
+    (i ≤ parts-lent table) ×
+    Changed (held table new₀) (partly (held table old) (held table new₀) i) (held table new) ×
+    SameBehind (parts-lent table) new₀ new
+
+abbrev μ-loop : tie.MeasureT-loop
+μ-loop table old new₀ count now i₀ new i = parts-lent table - i
+
+-- the loop's test, and the calls that read the part and find its sources, seen from later ones
+abbrev test-of : tie.After-part-at Inv-loop μ-loop → tie.In-loop Inv-loop μ-loop
+test-of reads = reads .before .before .before
+
+abbrev reads-of : tie.After-source-index Inv-loop μ-loop → tie.After-part-at Inv-loop μ-loop
+reads-of first = first .before .before
+
+abbrev second-of : tie.After-output-at3 Inv-loop μ-loop → tie.After-source-index2 Inv-loop μ-loop
+second-of outs = outs .before .before .before .before .before
+
+abbrev outs-of : tie.After-output-of Inv-loop μ-loop → tie.After-output-at3 Inv-loop μ-loop
+outs-of c = c .before .before .before .before
+
+abbrev reads-of-put : tie.After-put-state Inv-loop μ-loop → tie.After-part-at Inv-loop μ-loop
+reads-of-put put = reads-of (second-of (outs-of (put .before .before .before .before)) .before)
+
+abbrev start-of : tie.In-loop Inv-loop μ-loop → tie.Start Inv-loop μ-loop
+start-of test = test .before .before .before .before .before .before .before .before
+
+-- the words of the table, of the old state, of the new one before the first turn, and of the new one that the loop holds
+abbrev table-of : tie.In-loop Inv-loop μ-loop → List ℕ
+table-of test = start-of test .args .table .now
+
+abbrev old-of : tie.In-loop Inv-loop μ-loop → List ℕ
+old-of test = start-of test .args .old .now
+
+abbrev first-of : tie.In-loop Inv-loop μ-loop → List ℕ
+first-of test = start-of test .args .new .now
+
+abbrev new-of : tie.In-loop Inv-loop μ-loop → List ℕ
+new-of test = test .before .loop .new
+
+-- the place of the turn is below the count
+within : (test : tie.In-loop Inv-loop μ-loop) → test .before .loop .i < parts-lent (table-of test)
+within test = rw (test .before .before .before .before .parts-of .ensures) at (test .loop-test .taken)
+
+-- the words of the new state are all there
+room-of : (test : tie.In-loop Inv-loop μ-loop) → Room (table-of test) (new-of test)
+room-of test =
+    let s = start-of test in
+    room-kept (table-of test) (first-of test) (new-of test) (parts-lent (table-of test)) (test .before .loop .inv .2) (s .pre .1 .0)
+
+-- what a turn asks, and what it comes to
+turn-at :
+    (reads : tie.After-part-at Inv-loop μ-loop) →
+    let test = test-of reads in
+    LentTurn (table-of test) (old-of test) (first-of test) (new-of test) (test .before .loop .i) (reads .before .before .number-at .result)
+    (reads .part-at .result)
+turn-at reads =
+    let test = test-of reads in
+    let s = start-of test in
+    lent-turn (table-of test) (old-of test) (first-of test) (new-of test) (s .pre .1 .1) (test .before .loop .i) (test .before .loop .inv .1)
+    (within test) (reads .before .before .number-at .result) (reads .part-at .result) (reads .before .before .number-at .ensures)
+    (reads .part-at .ensures)
+
+parts-of-requires : tie.Need-parts-of-requires Inv-loop μ-loop
+parts-of-requires c κs =
+    let room = c .before .before .before .pre .0 in
+    omega (arith, room .table)
+
+point-of-requires : tie.Need-point-of-requires Inv-loop μ-loop
+point-of-requires c κs =
+    let room = c .before .before .before .before .before .pre .1 .0 in
+    omega (arith, room .state)
+
+loop-holds : tie.Need-loop-holds Inv-loop μ-loop
+unfolding filled
+loop-holds c =
+    let s = c .before .before .before .before .before .before in
+    (omega arith, none-changed (held (s .args .table .now) (s .args .new .now)), behind-none (parts-lent (s .args .table .now)) (s .args .new .now))
+
+number-at-requires : tie.Need-number-at-requires Inv-loop μ-loop
+number-at-requires c κs = table-room (table-of c) (new-of c) (room-of c) (c .before .loop .i) (within c)
+
+part-at-requires : tie.Need-part-at-requires Inv-loop μ-loop
+part-at-requires c κs =
+    let numbered = c .before in
+    let test = numbered .before in
+    let s = start-of test in
+    let k = numbered .number-at .result in
+    let below : k < parts-lent (table-of test) =
+    lent-number (table-of test) (old-of test) (first-of test) (new-of test) (s .pre .1 .1) (test .before .loop .i) (test .before .loop .inv .1) (within test) k
+    (numbered .number-at .ensures) in
+    (table-room (table-of test) (new-of test) (room-of test) k below, state-room (table-of test) (new-of test) (room-of test) k below)
+
+source-index-requires : tie.Need-source-index-requires Inv-loop μ-loop
+source-index-requires c κs = tt
+
+source-index-requires-2 : tie.Need-source-index-requires-2 Inv-loop μ-loop
+source-index-requires-2 c κs = tt
+
+output-at-requires : tie.Need-output-at-requires Inv-loop μ-loop
+output-at-requires c κs =
+    let first = c .before .before in
+    let reads = reads-of first in
+    let test = test-of reads in
+    rw (first .source-index .ensures) (state-room (table-of test) (new-of test) (room-of test) _ (turn-at reads .source0))
+
+output-at-requires-2 : tie.Need-output-at-requires-2 Inv-loop μ-loop
+output-at-requires-2 c κs =
+    let second = c .before .before .before in
+    let reads = reads-of (second .before) in
+    let test = test-of reads in
+    rw (second .source-index2 .ensures) (state-room (table-of test) (new-of test) (room-of test) _ (turn-at reads .source1))
+
+output-at-requires-3 : tie.Need-output-at-requires-3 Inv-loop μ-loop
+output-at-requires-3 c κs =
+    let first = c .before .before .before .before .before in
+    let reads = reads-of first in
+    let test = test-of reads in
+    let s = start-of test in
+    rw (first .source-index .ensures) (state-room (table-of test) (old-of test) (s .pre .0) _ (turn-at reads .source0))
+
+heard-of-requires : tie.Need-heard-of-requires Inv-loop μ-loop
+heard-of-requires c κs = tt
+
+heard-of-requires-2 : tie.Need-heard-of-requires-2 Inv-loop μ-loop
+heard-of-requires-2 c κs = tt
+
+heard-of-requires-3 : tie.Need-heard-of-requires-3 Inv-loop μ-loop
+heard-of-requires-3 c κs = tt
+
+output-of-requires : tie.Need-output-of-requires Inv-loop μ-loop
+output-of-requires c κs =
+    let outs = c .before .before .before in
+    let second = second-of outs in
+    let first = second .before in
+    let at = turn-at (reads-of first) in
+    let out0 = outs .before .before .before in
+    let out1 = outs .before in (
+      at .ranges,
+      (
+        at .signal0 (first .source-index .result) (out0 .output-at .result) (c .before .before .heard-of .result) (first .source-index .ensures)
+            (out0 .output-at .ensures) (c .before .before .heard-of .ensures),
+        at .signal1 (second .source-index2 .result) (out1 .output-at2 .result) (c .before .heard-of2 .result) (second .source-index2 .ensures)
+            (out1 .output-at2 .ensures) (c .before .heard-of2 .ensures),
+      ),
+    )
+
+with-output-requires : tie.Need-with-output-requires Inv-loop μ-loop
+with-output-requires c κs = tt
+
+put-state-requires : tie.Need-put-state-requires Inv-loop μ-loop
+put-state-requires c κs =
+    let outs = outs-of (c .before .before .before) in
+    let reads = reads-of (second-of outs .before) in
+    let test = test-of reads in
+    state-room (table-of test) (new-of test) (room-of test) _ (turn-at reads .number)
+
+add-i : tie.Need-add-i Inv-loop μ-loop
+add-i c =
+    let at = turn-at (reads-of-put (c .before .before)) in
+    omega (arith, at .place)
+
+loop-less : tie.Need-loop-less Inv-loop μ-loop
+loop-less c =
+    let below = within (test-of (reads-of-put (c .before .before))) in
+    omega (arith, below)
+
+loop-again : tie.Need-loop-again Inv-loop μ-loop
+loop-again c =
+    let put = c .before .before in
+    let shows = put .before .before .before in
+    let outputs = shows .before in
+    let heard = outputs .before in
+    let outs = outs-of outputs in
+    let second = second-of outs in
+    let first = second .before in
+    let reads = reads-of first in
+    let test = test-of reads in
+    let loop = test .before .loop in
+    let k = reads .before .before .number-at .result in
+    let at = turn-at reads in
+    let below = within test in
+    let then = put .put-state .last .0 in (
+      omega (arith, below),
+      at .fills (test .before .before .point-of .result) (first .source-index .result) (second .source-index2 .result)
+          (outs .before .before .before .output-at .result) (outs .before .output-at2 .result) (outs .output-at3 .result)
+          (heard .before .before .heard-of .result) (heard .before .heard-of2 .result) (heard .heard-of3 .result) (outputs .output-of .result)
+          (shows .with-output .result) then (test .before .before .point-of .ensures) (first .source-index .ensures) (second .source-index2 .ensures)
+          (outs .before .before .before .output-at .ensures) (outs .before .output-at2 .ensures) (outs .output-at3 .ensures)
+          (heard .before .before .heard-of .ensures) (heard .before .heard-of2 .ensures) (heard .heard-of3 .ensures) (outputs .output-of .ensures)
+          (shows .with-output .ensures) (put .put-state .ensures),
+      behind-through (parts-lent (table-of test)) (first-of test) (new-of test) then (loop .inv .2)
+          (behind-put (parts-lent (table-of test)) k (shows .with-output .result .state) (new-of test) then (put .put-state .ensures) (at .number)),
+    )
+
+same-length : tie.Need-same-length Inv-loop μ-loop
+same-length c = c .before .loop .inv .2 .size
+
+returns : tie.Need-returns Inv-loop μ-loop
+returns c =
+    let s = c .before .before .before .before .before .before .before .before in
+    let loop = c .before .loop in
+    let past = rw (c .before .before .before .before .parts-of .ensures) at (c .loop-test .left) in (
+      lent-filled (s .args .table .now) (s .args .old .now) (s .args .new .now) (loop .new) (s .pre .1 .1) (loop .i) (loop .inv .1) past,
+      loop .inv .2,
+    )
+
+pub filled-into-spec : {M : Type 1} → statement M
+filled-into-spec =
+    tie.close
+    (tie.spec
+    Inv-loop
+    μ-loop
+    parts-of-requires
+    point-of-requires
+    loop-holds
+    number-at-requires
+    part-at-requires
+    source-index-requires
+    source-index-requires-2
+    output-at-requires
+    output-at-requires-2
+    output-at-requires-3
+    heard-of-requires
+    heard-of-requires-2
+    heard-of-requires-3
+    output-of-requires
+    with-output-requires
+    put-state-requires
+    add-i
+    loop-less
+    loop-again
+    same-length
+    returns)

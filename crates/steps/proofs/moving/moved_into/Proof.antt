@@ -1,0 +1,173 @@
+-- `moved_into` is `all-moved`, of the old words. The invariant: in the new words stand the states of the first i parts, each moved by its reading in the
+-- old words, and no word behind the model is changed. The measure is what is left of the count.
+use Prim.Native.Nat.{_-_, _≤_, _<_}
+use native.Mathlib.Omega.{arith}
+use mathlib.Core.Path.{_≡_}
+use Rattle.machine.specs.declared.model.Model.{Model}
+use Rattle.machine.specs.Time.{tick}
+use Rattle.machine.specs.Model.{reading0, trimmed}
+use Rattle.store.specs.Held.{parts-lent, held}
+use Rattle.steps.specs.WiredParts.{sound-wired}
+use Rattle.steps.specs.Fillable.{Wired}
+use Rattle.steps.specs.Moving.{movable-reading}
+use Rattle.steps.specs.LentMoving.{LentMoved, none-moved, lent-source, lent-tick, lent-movable, lent-reading, moved-more, moved-done}
+use Rattle.steps.proofs.moving.moved_into.Statement.{statement}
+use Rattle.steps.proofs.moving.moved_into.Tie as tie
+
+abbrev Inv-loop : tie.InvT-loop
+Inv-loop table old h new₀ count t i₀ new i = LentMoved table old (t .0) (h .0) new₀ i new
+
+abbrev μ-loop : tie.MeasureT-loop
+μ-loop table old h new₀ count t i₀ new i = parts-lent table - i
+
+-- the function's start, the reading of the point, the loop's test, the call that finds the source and the one that hears it, each seen from a later one
+abbrev start-of : tie.After-point-of Inv-loop μ-loop → tie.Start Inv-loop μ-loop
+start-of point = point .before .before .before .before .before
+
+abbrev point-read : tie.In-loop Inv-loop μ-loop → tie.After-point-of Inv-loop μ-loop
+point-read test = test .before .before .before
+
+abbrev test-of : tie.After-source-index Inv-loop μ-loop → tie.In-loop Inv-loop μ-loop
+test-of source = source .before .before .before
+
+abbrev source-of : tie.After-heard-of Inv-loop μ-loop → tie.After-source-index Inv-loop μ-loop
+source-of hears = hears .before .before
+
+abbrev hears-of : tie.After-put-state Inv-loop μ-loop → tie.After-heard-of Inv-loop μ-loop
+hears-of put = put .before .before .before .before
+
+-- the model that the old words mean, and what soundness says of its wires
+abbrev old-of : tie.Start Inv-loop μ-loop → Model
+old-of s = held (s .args .table .now) (s .args .old .now)
+
+wired : (s : tie.Start Inv-loop μ-loop) → Wired (trimmed (old-of s))
+wired s = sound-wired (trimmed (old-of s)) (s .pre .1 .1 .0)
+
+-- the tick is its own
+ticks : (point : tie.After-point-of Inv-loop μ-loop) → point .point-of .result .t .0 ≡ tick (old-of (start-of point) .point)
+ticks point = lent-tick (start-of point .args .table .now) (start-of point .args .old .now) (point .point-of .result) (point .point-of .ensures)
+
+-- the part's number is below the count of the table
+within : (test : tie.In-loop Inv-loop μ-loop) → test .before .loop .i < parts-lent (start-of (point-read test) .args .table .now)
+within test = omega (arith, test .loop-test .taken, point-read test .before .parts-of .ensures)
+
+-- what the part is heard to read is its reading in the old words
+reads :
+    (hears : tie.After-heard-of Inv-loop μ-loop) →
+    hears .heard-of .result ≡
+    reading0 (trimmed (old-of (start-of (point-read (test-of (source-of hears))))) .parts) (source-of hears .before .before .part-at .result)
+reads hears =
+    let source = source-of hears in
+    let part = source .before .before in
+    let test = test-of source in
+    let s = start-of (point-read test) in
+    lent-reading (s .args .table .now) (s .args .old .now) (s .pre .1 .1 .0) (test .before .loop .i) (within test) (part .part-at .result)
+    (part .part-at .ensures) (source .source-index .result) (hears .before .output-at .result) (hears .heard-of .result)
+    (source .source-index .ensures) (hears .before .output-at .ensures) (hears .heard-of .ensures)
+
+parts-of-requires : tie.Need-parts-of-requires Inv-loop μ-loop
+parts-of-requires c κs = omega (arith, c .before .before .before .pre .0 .table)
+
+point-of-requires : tie.Need-point-of-requires Inv-loop μ-loop
+point-of-requires c κs = omega (arith, c .before .before .before .before .pre .0 .state)
+
+loop-holds : tie.Need-loop-holds Inv-loop μ-loop
+loop-holds c = none-moved _ _ _ _ _
+
+part-at-requires : tie.Need-part-at-requires Inv-loop μ-loop
+part-at-requires c κs =
+    let room = start-of (point-read c) .pre .0 in
+    let low = within c in
+    (omega (arith, room .table, low), omega (arith, room .state, low))
+
+source-index-requires : tie.Need-source-index-requires Inv-loop μ-loop
+source-index-requires c κs = tt
+
+output-at-requires : tie.Need-output-at-requires Inv-loop μ-loop
+output-at-requires c κs =
+    let part = c .before .before in
+    let test = test-of c in
+    let s = start-of (point-read test) in
+    let below =
+    lent-source (s .args .table .now) (s .args .old .now) (wired s) (test .before .loop .i) (within test) (s .args .old .now)
+    (part .part-at .result) (c .source-index .result) (part .part-at .ensures) (c .source-index .ensures) in
+    omega (arith, s .pre .0 .state, below)
+
+heard-of-requires : tie.Need-heard-of-requires Inv-loop μ-loop
+heard-of-requires c κs = tt
+
+moved-part-requires : tie.Need-moved-part-requires Inv-loop μ-loop
+moved-part-requires c κs =
+    let part = source-of c .before .before in
+    let test = test-of (source-of c) in
+    let point = point-read test in
+    let s = start-of point in
+    let can =
+    lent-movable (s .args .table .now) (s .args .old .now) (s .pre .1 .1 .0) (test .before .loop .i) (within test) (part .part-at .result)
+    (part .part-at .ensures) (point .point-of .result .t .0) (s .args .h .0) (ticks point) (s .pre .1 .1 .1 .0) (s .pre .1 .1 .1 .1) in
+    (can .ranges, (can .fits, (can .gain, rw (reads c) (movable-reading (trimmed (old-of s)) (s .pre .1 .1 .0) (part .part-at .result)))))
+
+put-state-requires : tie.Need-put-state-requires Inv-loop μ-loop
+put-state-requires c κs =
+    let test = test-of (source-of (c .before .before .before)) in
+    omega (arith, start-of (point-read test) .pre .1 .0 .state, within test, test .before .loop .inv .behind .size)
+
+add-i : tie.Need-add-i Inv-loop μ-loop
+add-i c =
+    let test = test-of (source-of (hears-of (c .before .before))) in
+    omega (arith, within test, point-read test .before .parts-of .ok)
+
+loop-less : tie.Need-loop-less Inv-loop μ-loop
+loop-less c =
+    let low = within (test-of (source-of (hears-of (c .before .before)))) in
+    omega (arith, low)
+
+loop-again : tie.Need-loop-again Inv-loop μ-loop
+loop-again c =
+    let put = c .before .before in
+    let moves = put .before .before .before in
+    let hears = hears-of put in
+    let source = source-of hears in
+    let part = source .before .before in
+    let test = test-of source in
+    let point = point-read test in
+    let s = start-of point in
+    let loop = test .before .loop in
+    moved-more (s .args .table .now) (s .args .old .now) (s .pre .1 .1 .0) (loop .i) (within test) (part .part-at .result) (part .part-at .ensures)
+    (point .point-of .result .t .0) (s .args .h .0) (s .args .new .now) (loop .new) (put .put-state .last .0) (hears .heard-of .result)
+    (moves .moved-part .result) (loop .inv) (reads hears) (moves .moved-part .ensures) (put .put-state .ensures)
+
+same-length : tie.Need-same-length Inv-loop μ-loop
+same-length c = c .before .loop .inv .behind .size
+
+returns : tie.Need-returns Inv-loop μ-loop
+returns c =
+    let loop = c .before .loop in
+    let point = c .before .before .before in
+    let s = start-of point in
+    let past : parts-lent (s .args .table .now) ≤ loop .i = omega (arith, c .loop-test .left, point .before .parts-of .ensures) in (
+      moved-done (s .args .table .now) (s .args .old .now) (point .point-of .result .t .0) (s .args .h .0) (s .args .new .now) (loop .i) (loop .new)
+          (loop .inv) past (ticks point),
+      ((λ j low. loop .inv .form j (omega (arith, past))), loop .inv .behind),
+    )
+
+pub moved-into-spec : {M : Type 1} → statement M
+moved-into-spec =
+    tie.close
+    (tie.spec
+    Inv-loop
+    μ-loop
+    parts-of-requires
+    point-of-requires
+    loop-holds
+    part-at-requires
+    source-index-requires
+    output-at-requires
+    heard-of-requires
+    moved-part-requires
+    put-state-requires
+    add-i
+    loop-less
+    loop-again
+    same-length
+    returns)

@@ -1,0 +1,56 @@
+-- The start point in words: what filling and settling ask of the words of a model before its start point is filled, and what the model comes to that takes
+-- their state. The idea: the new state's words are those of the old one, copied whole, so that the model in words stands for the one at the point before
+-- too. Assumes nothing.
+use Prim.Native.Nat.{ℕ, _≤_}
+use mathlib.Core.Path.{_≡_, sym, ap, subst, _∙_}
+use mathlib.Core.List.{List}
+use Rattle.machine.specs.declared.model.Model.{Model}
+use Rattle.machine.specs.Model.{most-parts, trimmed}
+use Rattle.machine.specs.Table.{Table}
+use Rattle.machine.specs.Step.{filled, all-settled}
+use Rattle.machine.specs.Fresh.{fresh}
+use Rattle.store.specs.Held.{Room, held}
+use Rattle.store.specs.Spelling.{spelled-room}
+use Rattle.store.specs.ModelPut.{ModelPut}
+use Rattle.store.specs.Recalled.{Recalled}
+use Rattle.steps.specs.Trimmed.{Changed}
+use Rattle.steps.specs.Fillable.{Wired, Fillable}
+use Rattle.steps.specs.StepMade.{filled-settled, filled-settleable}
+use Rattle.steps.specs.Start.{Unfilled, unfilled, unfilled-fillable, started-is}
+
+-- a model before its start point is filled has no more parts than a model may have
+pub unfilled-few : (m : Model) → Unfilled m → m .count ≤ most-parts
+unfolding trimmed
+unfilled-few m u = rw (← ap (λ (x : Model). x .count) (u .is)) at (unfilled-fillable (u .table) (u .fits) .wired .few)
+
+-- such a model in words, and the words ns of its state, copied
+module _ (m : Model) (u : Unfilled m) (ts os ns : List ℕ) (put : ModelPut m ts os) (copied : ns ≡ os) where
+  -- all of the words are there
+  pub start-room : Room ts ns
+  start-room = subst (Room ts) (sym copied) (spelled-room ts os (put .form))
+
+  -- what filling asks
+  pub start-fillable : Fillable (trimmed (held ts os)) (trimmed (held ts ns))
+  start-fillable = rw (copied, put .is, u .is) (unfilled-fillable (u .table) (u .fits))
+
+  -- the words fs, the outputs filled
+  module _
+      (fs : List ℕ)
+      (fills :
+      Changed (held ts ns) (filled (trimmed (held ts os) .parts) (held ts ns .point) (trimmed (held ts ns) .order) (trimmed (held ts ns) .parts)) (held ts fs)) where
+    -- what settling asks
+    pub start-settleable : Wired (trimmed (held ts fs))
+    start-settleable = filled-settleable (trimmed (held ts os) .parts) (held ts ns) (held ts fs) (start-fillable .wired) fills
+
+    -- the words ss, the parts settled: the model that takes their state is the fresh one
+    pub start-is :
+        (ss : List ℕ) (r : Model) → Changed (held ts fs) (all-settled (trimmed (held ts fs) .parts)) (held ts ss) → Recalled m ss r →
+        (t : Table) → trimmed m ≡ unfilled t → trimmed r ≡ fresh t
+    start-is ss r settles back t e =
+        let old = trimmed (held ts os) .parts in
+        back .is ts os (put .is) ∙
+        started-is (held ts os) (held ts ss)
+        (subst
+        (λ (ws : List ℕ). Changed (held ts ws) (all-settled (filled old (held ts ws .point) (trimmed (held ts ws) .order) (trimmed (held ts ws) .parts))) (held ts ss))
+        copied (filled-settled old (held ts ns) (held ts fs) (held ts ss) fills settles))
+        t (put .is ∙ e)
