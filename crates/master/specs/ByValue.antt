@@ -1,21 +1,19 @@
 -- From what a call on lent words promises to what the call by value does: the model put into words is the one handed in, but for the places in no use, and its
 -- state, taken back, is the answer's. The idea: words that spell a model, with room for the new state, are asked of the machine as they are, so that the
--- call on words ends as the machine does; and a step that is committed was found by a round, so that the new state's words are written. Assumes nothing.
-use Prim.Native.Nat.{ℕ, zero, suc, _+_, _≤_, _<_}
+-- call on words ends as the machine does. Assumes nothing.
+use Prim.Native.Nat.{ℕ, _≤_, _<_}
 use native.Mathlib.Omega.{arith}
-use mathlib.Core.Path.{_≡_, refl, sym, ap, ap₂, subst, _∙_}
-use mathlib.Core.Bool.{Bool, true, false, not, _&&_}
+use mathlib.Core.Path.{_≡_, refl, sym, ap, ap₂, _∙_}
 use mathlib.Core.List.{List}
 use lib.Dec.{eqb}
 use lib.ListN.{length}
-use borrow.Author.Tests.{ne-eqb, le-leb}
+use borrow.Author.Tests.{ne-eqb}
 use Rattle.machine.specs.declared.model.Model.{Model}
 use Rattle.machine.specs.Model.{trimmed, trimmed-answer}
 use Rattle.machine.specs.Step.{step-made}
-use Rattle.machine.specs.Advance.{Turn, Lower, Halve, Commit, Refuse, Outcome, followed, search-from, turn, searched, barred, outcome, answer-with, advance}
+use Rattle.machine.specs.Advance.{Outcome, barred, outcome, answer-with, advance}
 use Rattle.machine.specs.Calls.{Advanced}
 use Rattle.laws.specs.Bools.{cond-false}
-use Rattle.stepsearch.specs.Outcomes.{outcome-barred, outcome-searched}
 use Rattle.store.specs.Held.{parts-lent, state-words-of}
 use Rattle.store.specs.Spelling.{spelled-few}
 use Rattle.store.specs.ModelPut.{ModelPut}
@@ -24,38 +22,13 @@ use Rattle.inspection.specs.Whole.{unsound-many}
 use Rattle.master.specs.declared.verdict.Verdict.{Verdict}
 use Rattle.master.specs.Searching.{answer-of}
 use Rattle.master.specs.Barring.{barred-answer}
-use Rattle.master.specs.Into.{verdict-of, lent-model, unless-short, outcome-with, outcome-into, CalledInto}
+use Rattle.master.specs.Into.{verdict-of, outcome-into, CalledInto}
+use Rattle.master.specs.IntoLaws.{into-machine}
 
 -- a model that says it has more parts than there are places is barred with 24
 pub many-answer : (m : Model) (w : ℕ) → 32 < m .count → length (m .parts) ≡ 32 → Advanced m w (answer-of m 24 0 0 0 0)
 unfolding barred
 many-answer m w many full = barred-answer m w 24 (rw (unsound-many m many full) refl) (λ z. omega arith)
-
--- a search that commits a step makes a round for it
-followed-asked : (t : Turn) (on : ℕ → ℕ → ℕ → ℕ → Outcome) (c h n v : ℕ) →
-    ((c h n v : ℕ) → on c h n v .number ≡ 0 → n < on c h n v .rounds) → followed t on c h n v .number ≡ 0 → n < followed t on c h n v .rounds
-followed-asked (Lower l) on c h n v more e = omega (arith, more c l (n + 1) v e)
-followed-asked Halve on c h n v more e = omega (arith, more _ _ (n + 1) (v + 1) e)
-followed-asked Commit on c h n v more e = omega arith
-followed-asked (Refuse k) on c h n v more e = omega arith
-
-search-asked : (t : ℕ → Turn) (f c h n v : ℕ) → search-from t f c h n v .number ≡ 0 → n < search-from t f c h n v .rounds
-unfolding search-from
-search-asked t zero c h n v e = absurd (omega arith)
-search-asked t (suc f) c h n v e = followed-asked (t h) (search-from t f) c h n v (search-asked t f) e
-
--- so does a call
-committed-asked : (m : Model) (w : ℕ) → outcome m w .number ≡ 0 → 0 < outcome m w .rounds
-unfolding searched
-committed-asked m w e =
-    let none : barred m w ≡ 0 = free (barred m w) refl in
-    rw (outcome-searched m w none) (search-asked (turn m) (suc w) w w 0 0 (rw (outcome-searched m w none) at e))
-  where
-    free : (k : ℕ) → barred m w ≡ k → barred m w ≡ 0
-    free zero same = same
-    free (suc k) same =
-        let other : barred m w ≡ 0 → ⊥ = λ z. omega (arith, same, z) in
-        ap (λ (o : Outcome). o .number) (sym (outcome-barred m w other)) ∙ e
 
 -- an answer by how the call ends and the model of the machine's answer
 answered : (x z : Model) (o : Outcome) (v : Verdict) → z ≡ answer-with x o .model → v ≡ verdict-of o →
@@ -69,11 +42,6 @@ refused-model : (x : Model) (o : Outcome) → (o .number ≡ 0 → ⊥) → x �
 unfolding answer-with
 refused-model x o other = sym (cond-false (eqb (o .number) 0) (step-made x (o .step)) x (ne-eqb (o .number) 0 other))
 
--- words that are enough bar nothing
-not-short : (b : Bool) → b && not true ≡ false
-not-short true = refl
-not-short false = refl
-
 -- a call on the words ts and os, which hold the model m, with room for the new state; it left the words ns, and ended with v
 module _
     (m : Model)
@@ -85,10 +53,9 @@ module _
     (called : CalledInto (outcome-into ts os w room) ts os ns₀ ns v) where
   -- it ended as the machine does
   machine-ends : outcome-into ts os w room ≡ outcome (trimmed m) w
-  unfolding outcome-into outcome-with unless-short
   machine-ends =
       let fits : state-words-of (parts-lent ts) ≤ room = omega (arith, spelled-few ts os (put .form), enough) in
-      rw (put .form, le-leb (state-words-of (parts-lent ts)) room fits, not-short (eqb (barred (lent-model ts os) w) 0), put .is) refl
+      into-machine ts os w room (put .form) fits ∙ ap (λ (x : Model). outcome x w) (put .is)
 
   ends : v ≡ verdict-of (outcome (trimmed m) w)
   ends = called .ends ∙ ap verdict-of machine-ends
@@ -110,12 +77,10 @@ module _
   unfolding advance trimmed-answer
   committed-by-value r back none =
       let o = outcome (trimmed m) w in
-      let commits : o .number ≡ 0 = sym (ap (λ (u : Verdict). u .number) ends) ∙ none in
-      let asked : 0 < v .rounds = subst (λ (u : Verdict). 0 < u .rounds) (sym ends) (committed-asked (trimmed m) w commits) in
       record {
         machine =
             answered (trimmed m) (trimmed r) o v
-            (back .is ts os (put .is) ∙ called .next asked ∙ ap₂ (λ (x : Model) (u : Outcome). answer-with x u .model) (put .is) machine-ends)
+            (back .is ts os (put .is) ∙ called .next (called .asked none) ∙ ap₂ (λ (x : Model) (u : Outcome). answer-with x u .model) (put .is) machine-ends)
             ends;
         unchanged = λ other. absurd (other none);
         unused = back .unused;

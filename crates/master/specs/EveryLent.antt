@@ -4,18 +4,18 @@
 -- promises is the same (`spelled-call`). Assumes nothing.
 use Prim.Native.Nat.{ℕ, _≤_}
 use mathlib.Core.Path.{_≡_, refl, sym, ap, ap₂, _∙_}
-use mathlib.Core.Bool.{Bool, true, false, cond, _&&_, not}
+use mathlib.Core.Bool.{true, false, cond}
 use mathlib.Core.List.{List, [], _∷_}
 use mathlib.Core.Logic.{_⊎_, inl, inr}
 use lib.Dec.{eqb}
 use lib.ListN.{length}
-use borrow.Author.Tests.{eqb-true, ne-eqb, le-leb}
+use borrow.Author.Tests.{eqb-true, ne-eqb}
 use Rattle.machine.specs.declared.model.Model.{Model}
 use Rattle.machine.specs.declared.model.Loaded.{Loaded}
 use Rattle.machine.specs.Model.{trimmed-answer, trimmed-loaded}
 use Rattle.machine.specs.Load.{load}
 use Rattle.machine.specs.Step.{step-made}
-use Rattle.machine.specs.Advance.{Outcome, barred, outcome, answer-with, advance}
+use Rattle.machine.specs.Advance.{Outcome, outcome, answer-with, advance}
 use Rattle.machine.specs.Calls.{Advanced, Call, Chain}
 use Rattle.machine.specs.WholeList.{WholeList}
 use Rattle.laws.specs.Bools.{either, cond-true, cond-false}
@@ -24,7 +24,8 @@ use Rattle.store.specs.Held.{parts-lent, state-words-of, held}
 use Rattle.store.specs.Form.{spelled}
 use Rattle.store.specs.Frame.{held-unused}
 use Rattle.master.specs.declared.verdict.Verdict.{Verdict}
-use Rattle.master.specs.Into.{verdict-of, lent-model, unless-short, outcome-with, outcome-into, CalledInto}
+use Rattle.master.specs.Into.{verdict-of, lent-model, outcome-into, CalledInto}
+use Rattle.master.specs.IntoLaws.{into-machine}
 
 -- a call: the state that it was given, the wanted step, the words lent for the new state before it and after it, and the verdict
 pub record LentCall : Type 0 where
@@ -66,17 +67,6 @@ machine-call ts c =
 unfoldable pub machine-calls-of : List ℕ → List LentCall → List Call
 machine-calls-of ts [] = []
 machine-calls-of ts (c ∷ cs) = machine-call ts c ∷ machine-calls-of ts cs
-
--- where the words spell a model and enough are lent, a call ends as the machine's
-and-not-true : (b : Bool) → b && not true ≡ false
-and-not-true true = refl
-and-not-true false = refl
-
-pub into-machine : (ts os : List ℕ) (w room : ℕ) → spelled ts os ≡ true → state-words-of (parts-lent ts) ≤ room →
-    outcome-into ts os w room ≡ outcome (lent-model ts os) w
-unfolding outcome-into outcome-with unless-short
-into-machine ts os w room spells enough =
-    rw (spells, le-leb (state-words-of (parts-lent ts)) room enough, and-not-true (eqb (barred (lent-model ts os) w) 0)) refl
 
 -- one call, by whether it committed a step
 module _

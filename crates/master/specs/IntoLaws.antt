@@ -3,9 +3,10 @@
 use Prim.Native.Nat.{ℕ, _≤_, _<_}
 use native.Mathlib.Omega.{arith}
 use mathlib.Core.Path.{_≡_, refl, sym, ap, _∙_}
-use mathlib.Core.Bool.{true, false, _&&_}
+use mathlib.Core.Bool.{Bool, true, false, not, _&&_}
 use mathlib.Core.Logic.{_⊎_, inl, inr}
 use mathlib.Core.List.{List}
+use lib.Dec.{eqb}
 use lib.ListN.{length}
 use borrow.Author.Tests.{eq-eqb, ne-eqb, le-leb, lt-leb}
 use Rattle.machine.specs.declared.time.Point.{Point}
@@ -13,7 +14,7 @@ use Rattle.machine.specs.declared.model.Answer.{Answer}
 use Rattle.machine.specs.Time.{tick}
 use Rattle.machine.specs.Model.{trimmed, trimmed-answer}
 use Rattle.machine.specs.Sound.{sound}
-use Rattle.machine.specs.Advance.{Outcome, searched, barred, barred-outcome, answer-with}
+use Rattle.machine.specs.Advance.{Outcome, searched, barred, barred-outcome, outcome, answer-with}
 use Rattle.laws.specs.Bools.{and-false-cases, either}
 use Rattle.stepsearch.specs.Outcomes.{outcome-barred, outcome-searched}
 use Rattle.store.specs.Held.{parts-lent, state-words-of, stored-point, held}
@@ -128,3 +129,14 @@ pub bars-lent : (ts os : List ℕ) (now : Point) (w k : ℕ) → sound (lent-mod
 unfolding held
 bars-lent ts os now w k is-sound at e =
     barred-trimmed (held ts os) w k true (sym is-sound) (e ∙ ap (λ (p : Point). barred-by true (tick p) w) at)
+
+-- where the words spell a model and enough are lent, a call ends as the machine's
+and-not-true : (b : Bool) → b && not true ≡ false
+and-not-true true = refl
+and-not-true false = refl
+
+pub into-machine : (ts os : List ℕ) (w room : ℕ) → spelled ts os ≡ true → state-words-of (parts-lent ts) ≤ room →
+    outcome-into ts os w room ≡ outcome (lent-model ts os) w
+unfolding outcome-into outcome-with unless-short
+into-machine ts os w room spells enough =
+    rw (spells, le-leb (state-words-of (parts-lent ts)) room enough, and-not-true (eqb (barred (lent-model ts os) w) 0)) refl

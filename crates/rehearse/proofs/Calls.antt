@@ -19,8 +19,7 @@ use Rattle.store.specs.Held.{parts-lent, Room}
 use Rattle.store.specs.Spelling.{spelled-room, spelled-few}
 use Rattle.master.specs.declared.verdict.Verdict.{Verdict}
 use Rattle.master.specs.Into.{verdict-of, lent-model, outcome-with, CalledInto}
-use Rattle.master.specs.IntoLaws.{spelled-call}
-use Rattle.master.specs.EveryLent.{into-machine}
+use Rattle.master.specs.IntoLaws.{spelled-call, into-machine}
 use Rattle.writing.specs.Put.{Put}
 use Rattle.rehearse.specs.Playing.{state-room, Playable, PlayedWanted}
 
