@@ -4,6 +4,8 @@ pub mod Asked
 pub mod Searching
 pub mod Barring
 pub mod LentAsked
+pub mod Trials
+pub mod LentTrial
 pub mod Into
 pub mod IntoLaws
 pub mod ByValue

@@ -2,12 +2,15 @@
 // objects to a trial.
 //
 // Its contracts cite `machine`'s `specs/Advance.antt` and `store`'s `specs/Held.antt`.
+use machine::part::Kind;
 use machine::time::Ticks;
+use point::change::settled_part;
 use replies::due::due_of;
 use replies::longest::longest_of;
 use replies::objection::objects_of;
 use steps::heard::heard_of;
 use steps::heard::source_index;
+use store::lookup::kind_in;
 use store::lookup::output_at;
 use store::lookup::part_at;
 use store::lookup::parts_of;
@@ -18,8 +21,10 @@ ghost use Prim.Native.Nat.{_+_, _≤_, min};
 ghost use Rattle.machine.specs.Time.{last-tick, tick};
 ghost use Rattle.machine.specs.Model.{trimmed};
 ghost use Rattle.machine.specs.Sound.{sound};
-ghost use Rattle.machine.specs.Advance.{any-due, any-objects, round};
+ghost use Rattle.machine.specs.Advance.{any-due, round};
+ghost use Rattle.steps.specs.StepShown.{Settleable};
 ghost use Rattle.store.specs.Held.{Room, held};
+ghost use Rattle.master.specs.Trials.{any-objects-settled, detects};
 
 // The smaller of two steps.
 fn smaller(a: Ticks, b: Ticks) -> Ticks
@@ -80,17 +85,50 @@ pub(crate) fn any_due_in(table: &[u64], state: &[u64]) -> bool
     false
 }
 
-// Whether some part of the trial objects to the step of `h` that led there.
+// Whether a part of the kind can object to a trial.
+fn detects(k: Kind) -> bool
+    ensures { λ r. ⌜ r ≡ detects k ⌝ }
+{
+    match k {
+        Kind::Constant => false,
+        Kind::Gain => false,
+        Kind::Adder => false,
+        Kind::Square => false,
+        Kind::Pulse => false,
+        Kind::Delay => false,
+        Kind::Integrator => false,
+        Kind::ResetIntegrator => false,
+        Kind::Detector => true,
+        Kind::Hold => false,
+        Kind::Sampler => false,
+        Kind::Drive => false,
+        Kind::Clapper => false,
+    }
+}
+
+// Whether some part of the trial, once it is settled, objects to the step of `h` that led there. Each part that can is settled by
+// itself and asked.
 pub(crate) fn any_objects_in(table: &[u64], h: Ticks, trial: &[u64]) -> bool
     requires { ⌜ Room (now table) (now trial) ⌝ }
-    requires { ⌜ sound (trimmed (held (now table) (now trial))) ≡ true ⌝ }
-    ensures { λ r. ⌜ r ≡ any-objects (h .0) (trimmed (held (now (table .entry)) (now (trial .entry)))) ⌝ }
+    requires { ⌜ Settleable (trimmed (held (now table) (now trial))) ⌝ }
+    ensures { λ r. ⌜ r ≡ any-objects-settled (h .0) (trimmed (held (now (table .entry)) (now (trial .entry)))) ⌝ }
 {
     let count = parts_of(table);
     let mut i: usize = 0;
     while i < count {
+        let kind = kind_in(table, i);
+        if !detects(kind) {
+            i += 1;
+            continue;
+        }
         let p = part_at(table, trial, i);
-        if objects_of(p, h) {
+        let c = p.component;
+        let s = c.port0;
+        let k = source_index(s);
+        let out = output_at(trial, k);
+        let x = heard_of(s, out);
+        let settled = settled_part(p, x);
+        if objects_of(settled, h) {
             return true;
         }
         i += 1;

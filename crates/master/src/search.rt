@@ -7,7 +7,8 @@ use crate::asking::round_in;
 use crate::past::leads_past;
 use crate::verdict::Verdict;
 use machine::time::Ticks;
-use steps::step::made_into;
+use steps::settling::settled_into;
+use steps::step::shown_into;
 use store::lookup::parts_of;
 use store::lookup::point_of;
 use store::update::copy_words;
@@ -60,8 +61,8 @@ fn kept_in(table: &[u64], old: &[u64], new: &mut [u64])
 }
 
 // How a call ends that nothing bars, its state left in `new`: rounds lower h under a ceiling until one changes nothing; the
-// step is then refused, or made on trial in `new`, and an objection to the trial halves the ceiling. A trial that is dropped
-// is written over. Within the search, h and the ceiling are plain numbers; h counts ticks where parts are asked and a step is made.
+// step is then refused, or made on trial in `new`, and an objection to the trial halves the ceiling. A trial is settled where it is
+// taken up, and written over where it is dropped. Within the search, h and the ceiling are plain numbers; h counts ticks where parts are asked and a step is made.
 pub(crate) fn searched_into(table: &[u64], old: &[u64], w: u64, new: &mut [u64]) -> Verdict
     requires { ⌜ Room (now table) (now old) ⌝ }
     requires { ⌜ Room (now table) (now new) ⌝ }
@@ -91,10 +92,11 @@ pub(crate) fn searched_into(table: &[u64], old: &[u64], w: u64, new: &mut [u64])
                         ceiling: ceiling,
                     };
                 }
-                made_into(table, old, Ticks(h), new);
+                shown_into(table, old, Ticks(h), new);
                 if any_objects_in(table, Ticks(h), new) {
                     break;
                 }
+                settled_into(table, new);
                 break 'ceilings Verdict {
                     number: 0,
                     step: h,

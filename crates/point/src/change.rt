@@ -21,7 +21,7 @@ ghost use Prim.Native.Nat.{_-_, _≤_};
 ghost use Rattle.machine.specs.Signal.{integral, is-signal, is-value};
 ghost use Rattle.machine.specs.Kind.{mark-between, side-after};
 ghost use Rattle.machine.specs.Model.{with-state};
-ghost use Rattle.machine.specs.Step.{gain-of, moved, settled, settled-as, with-output};
+ghost use Rattle.machine.specs.Step.{gain-of, moved, settled, settled-as};
 ghost use Rattle.point.specs.States.{with-held, with-mark, with-signal};
 ghost use Rattle.point.specs.PartRanges.{PartFits, StepFits};
 
@@ -111,27 +111,6 @@ fn with_state(mut p: Part, s: State) -> Part
 {
     p.state = s;
     p
-}
-
-// The part with another stored output.
-pub fn with_output(p: Part, out: Signal) -> Part
-    ensures { λ r. ⌜ r ≡ with-output p out ⌝ }
-{
-    let old = p.state;
-    let local = old.local;
-    let signal = old.signal;
-    let side = old.side;
-    let mark = old.mark;
-    let next = State {
-        local,
-        held: old.held,
-        speed: old.speed,
-        signal,
-        output: out,
-        side,
-        mark,
-    };
-    with_state(p, next)
 }
 
 // The local ticks d that a step adds, by the local count `end` that it leads to.

@@ -1,9 +1,9 @@
 -- What a turn of filling outputs in the words of a state asks, and what it comes to: the laws of showing the next part, over the models that the words mean.
--- The idea: the parts, the numbers and the outputs that are read from the words are those of these models, and the state that is written changes one of
+-- The idea: the parts, the numbers and the outputs that are read from the words are those of these models, and the output that is written changes one of
 -- their parts. Assumes nothing.
 use Prim.Native.Nat.{ℕ, _+_, _≤_, _<_}
 use native.Mathlib.Omega.{arith}
-use mathlib.Core.Path.{_≡_, refl, sym, ap, subst, _∙_}
+use mathlib.Core.Path.{_≡_, sym, ap, subst, _∙_}
 use mathlib.Core.Bool.{true}
 use mathlib.Core.List.{List}
 use lib.ListN.{length, getD, set}
@@ -13,12 +13,13 @@ use Rattle.machine.specs.declared.part.Source.{Source}
 use Rattle.machine.specs.declared.part.Part.{Part}
 use Rattle.machine.specs.Signal.{is-signal}
 use Rattle.machine.specs.Kind.{output}
-use Rattle.machine.specs.Model.{most-parts, part-at, with-parts, with-state, reading0, reading1, trimmed}
+use Rattle.machine.specs.Model.{most-parts, part-at, with-parts, reading0, reading1, trimmed}
 use Rattle.machine.specs.Step.{with-output, shown, filled}
 use Rattle.point.specs.PartRanges as point
 use Rattle.store.specs.Held.{Room, table-words, state-words-of, parts-lent, stored-number, stored-part, stored-point, stored-state, held}
-use Rattle.store.specs.Updated.{SameBehind, StatePut}
-use Rattle.store.specs.Frame.{held-number, held-part, held-put}
+use Rattle.store.specs.Updated.{SameBehind}
+use Rattle.store.specs.Frame.{held-number, held-part}
+use Rattle.store.specs.Shown.{OutputPut, held-shown}
 use Rattle.steps.specs.Reading.{WiredBelow, source-index, index-below, heard, heard0, heard1}
 use Rattle.steps.specs.Trimmed.{Changed}
 use Rattle.steps.specs.Fillable.{Fillable, wired-at}
@@ -48,16 +49,12 @@ pub record LentTurn (ts os ns₀ ns : List ℕ) (i k : ℕ) (p : Part) : Type 0 
   pub signal1 : (k1 : ℕ) (out1 y : Signal) → k1 ≡ source-index (p .component .port1) → out1 ≡ stored-state ns k1 .output →
       y ≡ heard (p .component .port1) out1 → is-signal y ≡ true
   -- what was heard, shown and written fills one output more
-  pub fills : (now : Point) (k0 k1 : ℕ) (out0 out1 earlier x y before out : Signal) (v : Part) (then : List ℕ) → now ≡ stored-point ns₀ →
+  pub fills : (now : Point) (k0 k1 : ℕ) (out0 out1 earlier x y before out : Signal) (then : List ℕ) → now ≡ stored-point ns₀ →
       k0 ≡ source-index (p .component .port0) → k1 ≡ source-index (p .component .port1) →
       out0 ≡ stored-state ns k0 .output → out1 ≡ stored-state ns k1 .output → earlier ≡ stored-state os k0 .output →
       x ≡ heard (p .component .port0) out0 → y ≡ heard (p .component .port1) out1 → before ≡ heard (p .component .port0) earlier →
-      out ≡ output p now x y before → v ≡ with-output p out → StatePut k (v .state) ns then →
+      out ≡ output p now x y before → OutputPut k out ns then →
       Changed (held ts ns₀) (partly (held ts os) (held ts ns₀) (i + 1)) (held ts then)
-
--- a part with its output is the part with the state of that
-output-state : (p v : Part) (out : Signal) → v ≡ with-output p out → with-state p (v .state) ≡ v
-output-state p v out e = rw e refl
 
 -- the output of a part in the words is that of the part in the model
 output-held : (ts ss : List ℕ) (s : Source) (k : ℕ) (out x : Signal) → k < parts-lent ts → out ≡ stored-state ss k .output → x ≡ heard s out →
@@ -96,21 +93,23 @@ module _
       subst (λ (q : Part). WiredBelow (parts-lent ts) (q .component)) next-part
       (wired-at (held ts ns) (half-wired (held ts os) (held ts ns₀) fit (held ts ns) i half within) (stored-number ts i) number-low)
 
-  -- the part shown, and its state written, fills one output more
+  -- the part shown, and its output written, fills one output more
   next-filled :
-      (v : Part) (then : List ℕ) →
-      v ≡ shown (held ts os .parts) (held ts ns₀ .point) (held ts ns .parts) (stored-part ts ns (stored-number ts i)) →
-      with-state (stored-part ts ns (stored-number ts i)) (v .state) ≡ v → StatePut (stored-number ts i) (v .state) ns then →
+      (out : Signal) (then : List ℕ) →
+      with-output (stored-part ts ns (stored-number ts i)) out ≡
+      shown (held ts os .parts) (held ts ns₀ .point) (held ts ns .parts) (stored-part ts ns (stored-number ts i)) →
+      OutputPut (stored-number ts i) out ns then →
       Changed (held ts ns₀) (partly (held ts os) (held ts ns₀) (i + 1)) (held ts then)
-  next-filled v then shows same put =
+  unfolding stored-part
+  next-filled out then shows put =
       let old = held ts os in
       let new = held ts ns₀ in
       let next = held ts ns in
       let k = stored-number ts i in
       let p = stored-part ts ns k in
+      let v = with-output p out in
       let part : p ≡ part-at (next .parts) (getD (next .order) i 0) = sym (ap (part-at (next .parts)) next-number ∙ next-part) in
-      let is : held ts then ≡ with-parts next (next .point) (set (next .parts) k v) =
-      held-put ts ns then k (v .state) put number-low ∙ ap (λ (q : Part). with-parts next (next .point) (set (next .parts) k q)) same in
+      let is : held ts then ≡ with-parts next (next .point) (set (next .parts) k v) = held-shown ts ns then k out put number-low in
       subst (Changed new (partly old new (i + 1))) (sym is)
       (subst (λ (j : ℕ). Changed new (partly old new (i + 1)) (with-parts next (next .point) (set (next .parts) j v))) next-number
       (shown-next old new fit next i half within v (shows ∙ ap (shown (old .parts) (new .point) (next .parts)) part)))
@@ -138,14 +137,14 @@ module _
             rw (heard0 qs p k0 x e0 (output-held ts ns (p .component .port0) k0 out0 x (rw e0 below0) eo ex)) signals0;
         signal1 = λ k1 out1 y e1 eo ey.
             rw (heard1 qs p k1 y e1 (output-held ts ns (p .component .port1) k1 out1 y (rw e1 below1) eo ey)) signals1;
-        fills = λ now k0 k1 out0 out1 earlier x y before out v then en e0 e1 eo0 eo1 eoe ex ey eb eo ev put.
-            next-filled v then
-            (heard-shown (held ts os .parts) qs (held ts ns₀ .point) p v k0 k1 x y before out e0 e1
+        fills = λ now k0 k1 out0 out1 earlier x y before out then en e0 e1 eo0 eo1 eoe ex ey eb eo put.
+            next-filled out then
+            (heard-shown (held ts os .parts) qs (held ts ns₀ .point) p k0 k1 x y before out e0 e1
             (output-held ts ns (p .component .port0) k0 out0 x (rw e0 below0) eo0 ex)
             (output-held ts ns (p .component .port1) k1 out1 y (rw e1 below1) eo1 ey)
             (output-held ts os (p .component .port0) k0 earlier before (rw e0 below0) eoe eb)
-            (eo ∙ ap (λ (q : Point). output p q x y before) en) ev)
-            (output-state p v out ev) put;
+            (eo ∙ ap (λ (q : Point). output p q x y before) en))
+            put;
       }
 
   -- the number that was read is a part's

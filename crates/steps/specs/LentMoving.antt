@@ -12,6 +12,7 @@ use lib.Dec.{ltb}
 use borrow.Author.Tests.{ltb-true, ltb-false}
 use Rattle.machine.specs.declared.time.Point.{Point}
 use Rattle.machine.specs.declared.signal.Signal.{Signal}
+use Rattle.machine.specs.declared.part.Kind.{Kind}
 use Rattle.machine.specs.declared.part.State.{State}
 use Rattle.machine.specs.declared.part.Part.{Part}
 use Rattle.machine.specs.Time.{last-tick, tick}
@@ -34,18 +35,18 @@ use Rattle.steps.specs.Settling.{settles, settling, settled-same}
 use Rattle.steps.specs.StepMade.{at-point}
 
 -- the parts that words mean, trimmed: as many as the table says, each that of its words
-lent-many : (ts ss : List ℕ) → length (trimmed (held ts ss) .parts) ≡ parts-lent ts
+pub lent-many : (ts ss : List ℕ) → length (trimmed (held ts ss) .parts) ≡ parts-lent ts
 unfolding trimmed held
 lent-many ts ss = mapped-length trimmed-part (parts-lent ts) (held ts ss .parts) (rw (held-many ts ss) (omega arith))
 
-lent-part : (ts ss : List ℕ) (i : ℕ) → i < parts-lent ts → part-at (trimmed (held ts ss) .parts) i ≡ trimmed-part (stored-part ts ss i)
+pub lent-part : (ts ss : List ℕ) (i : ℕ) → i < parts-lent ts → part-at (trimmed (held ts ss) .parts) i ≡ trimmed-part (stored-part ts ss i)
 unfolding trimmed held
 lent-part ts ss i low =
     part-trimmed (parts-lent ts) (held ts ss .parts) i low (rw (held-many ts ss) (omega arith)) ∙ ap trimmed-part (held-part ts ss i low)
 
 -- where the model that words mean is wired to its own parts
 module _ (ts ss : List ℕ) (wired : Wired (trimmed (held ts ss))) (i : ℕ) (low : i < parts-lent ts) where
-  port-below : SourceBelow (parts-lent ts) (stored-component ts i .port0)
+  pub port-below : SourceBelow (parts-lent ts) (stored-component ts i .port0)
   unfolding held stored-part
   port-below = (subst (λ (p : Part). WiredBelow (parts-lent ts) (p .component)) (held-part ts ss i low) (wired-at (held ts ss) wired i low)) .port0
 
@@ -56,7 +57,7 @@ module _ (ts ss : List ℕ) (wired : Wired (trimmed (held ts ss))) (i : ℕ) (lo
       rw (index, is) (index-below (parts-lent ts) (stored-component ts i .port0) (omega arith) port-below)
 
 -- what a port is heard to read, of the words of its source, is heard of the model's part
-lent-heard :
+pub lent-heard :
     (ts ss : List ℕ) (p : Part) (k : ℕ) (out x : Signal) → k < parts-lent ts → out ≡ stored-state ss k .output → x ≡ heard (p .component .port0) out →
     x ≡ heard (p .component .port0) (part-at (held ts ss .parts) k .state .output)
 unfolding stored-part
@@ -72,40 +73,37 @@ pub record LentSettled (ts a : List ℕ) (i : ℕ) (b : List ℕ) : Type 0 where
 pub none-settled : (ts a : List ℕ) → LentSettled ts a 0 a
 none-settled ts a = record { changed = none-changed (held ts a); behind = behind-none (parts-lent ts) a }
 
--- the part i of b, read from words
+-- the part i of b
 module _
     (ts a : List ℕ)
     (wired : Wired (trimmed (held ts a)))
     (i : ℕ)
     (b : List ℕ)
     (so-far : LentSettled ts a i b)
-    (low : i < parts-lent ts)
-    (p : Part)
-    (is : p ≡ stored-part ts b i) where
-  -- the turn of the loop over the models that the words mean, and its part
+    (low : i < parts-lent ts) where
+  -- the turn of the loop over the models that the words mean
   at : LoopTurn settled (held ts a) (held ts b) i
   unfolding held
   at = turn settled settling (held ts a) wired (held ts b) i (so-far .changed) low
 
-  same : p ≡ part-at (held ts b .parts) i
-  same = is ∙ sym (held-part ts b i low)
-
-  -- it is passed over, where settling keeps it
-  pub settled-passes : settles (p .component .kind) ≡ false → LentSettled ts a (i + 1) b
-  unfolding trimmed-part trimmed-component
-  settled-passes none =
+  -- it is passed over, where settling keeps parts of its kind
+  pub settled-passes : (kind : Kind) → kind ≡ stored-component ts i .kind → settles kind ≡ false → LentSettled ts a (i + 1) b
+  unfolding stored-part trimmed-part trimmed-component
+  settled-passes kind of none =
       let ps = trimmed (held ts a) .parts in
       let q = part-at ps i in
       let kept : settles (q .component .kind) ≡ false =
-      ap (λ (r : Part). settles (r .component .kind)) (sym (at .unchanged)) ∙ ap (λ (r : Part). settles (r .component .kind)) (sym same) ∙ none in
+      ap (λ (r : Part). settles (r .component .kind)) (sym (at .unchanged)) ∙ ap (λ (r : Part). settles (r .component .kind)) (held-part ts b i low) ∙
+      ap settles (sym of) ∙ none in
       record { changed = at .passes (settled-same (reading0 ps q) q kept); behind = so-far .behind }
 
-  -- or settled, and its state is written
+  -- or read, settled, and its state is written
   pub settled-more :
-      (k : ℕ) (out x : Signal) (q : Part) (c : List ℕ) → k ≡ source-index (p .component .port0) → out ≡ stored-state b k .output →
+      (p : Part) → p ≡ stored-part ts b i → (k : ℕ) (out x : Signal) (q : Part) (c : List ℕ) → k ≡ source-index (p .component .port0) → out ≡ stored-state b k .output →
       x ≡ heard (p .component .port0) out → q ≡ settled x p → StatePut i (q .state) b c → LentSettled ts a (i + 1) c
   unfolding settled
-  settled-more k out x q c index from hears settles put =
+  settled-more p is k out x q c index from hears settles put =
+      let same : p ≡ part-at (held ts b .parts) i = is ∙ sym (held-part ts b i low) in
       let there = lent-source ts a wired i low b p k is index in
       let next = held ts b in
       let reads =

@@ -9,15 +9,16 @@ use Rattle.machine.specs.declared.time.Point.{Point}
 use Rattle.machine.specs.declared.time.Stepped.the-variants.{To, Past}
 use Rattle.machine.specs.declared.model.Model.{Model}
 use Rattle.machine.specs.Time.{last-microstep, last-tick, led-to, stepped, tick}
-use Rattle.machine.specs.Model.{trimmed}
+use Rattle.machine.specs.Model.{trimmed, with-parts}
 use Rattle.machine.specs.Sound.{sound}
-use Rattle.machine.specs.Step.{all-moved, filled, all-settled, step-made}
+use Rattle.machine.specs.Step.{all-moved, filled}
 use Rattle.store.specs.Held.{stored-point, held}
 use Rattle.store.specs.Updated.{PointPut, SameBehind}
 use Rattle.store.specs.Frame.{held-pointed, behind-pointed, behind-through}
 use Rattle.steps.specs.Trimmed.{Changed}
-use Rattle.steps.specs.Fillable.{Wired, Fillable}
-use Rattle.steps.specs.StepMade.{at-point, never-past, leads-to, made-is, made-fillable, filled-settled, filled-settleable}
+use Rattle.steps.specs.Fillable.{Fillable}
+use Rattle.steps.specs.StepMade.{at-point, never-past, leads-to, moved-is, made-fillable}
+use Rattle.steps.specs.StepShown.{step-shown}
 
 -- the point that was read is the model's, so that a step within the time never leads past it, and where it leads is the definition's point
 module _
@@ -60,22 +61,19 @@ module _
       (f : List ℕ)
       (fills :
       Changed (held ts b) (filled (trimmed (held ts os) .parts) (held ts b .point) (trimmed (held ts b) .order) (trimmed (held ts b) .parts)) (held ts f)) where
-    -- what settling asks
-    pub lent-settleable : sound (trimmed (held ts os)) ≡ true → Wired (trimmed (held ts f))
-    lent-settleable s = filled-settleable (trimmed (held ts os) .parts) (held ts b) (held ts f) (lent-fillable s .wired) fills
-
-    -- the words r, the parts settled: the step made
-    pub lent-made :
-        (r : List ℕ) → Changed (held ts f) (all-settled (trimmed (held ts f) .parts)) (held ts r) → to ≡ led-to (held ts os .point) h →
-        trimmed (held ts r) ≡ step-made (trimmed (held ts os)) h
-    lent-made r settles leads =
+    -- the outputs shown
+    pub lent-shown : to ≡ led-to (held ts os .point) h → trimmed (held ts f) ≡ step-shown (trimmed (held ts os)) h
+    unfolding step-shown trimmed
+    lent-shown leads =
         let old = trimmed (held ts os) .parts in
-        made-is (held ts os) moved-model (held ts r) to h leads moves
-        (subst (λ (x : Model). Changed x (all-settled (filled old (x .point) (trimmed x .order) (trimmed x .parts))) (held ts r)) pointed
-        (filled-settled old (held ts b) (held ts f) (held ts r) fills settles))
+        let moves-all = all-moved (tick (held ts os .point)) h old in
+        fills .is ∙
+        ap (λ (x : Model). with-parts (trimmed x) (x .point) (filled old (x .point) (trimmed x .order) (trimmed x .parts))) pointed ∙
+        ap (λ (y : Model). with-parts y to (filled old to (y .order) (y .parts))) (moved-is (held ts os) moved-model to moves-all moves) ∙
+        ap (λ (p : Point). with-parts (trimmed (held ts os)) p (filled old p (trimmed (held ts os) .order) moves-all)) leads
 
 -- the words behind the model's are kept through it all
 pub lent-behind :
-    (n : ℕ) (new a b f r : List ℕ) (to : Point) → SameBehind n new a → PointPut to a b → SameBehind n b f → SameBehind n f r → SameBehind n new r
-lent-behind n new a b f r to moves put fills settles =
-    behind-through n new a r moves (behind-through n a b r (behind-pointed n to a b put) (behind-through n b f r fills settles))
+    (n : ℕ) (new a b f : List ℕ) (to : Point) → SameBehind n new a → PointPut to a b → SameBehind n b f → SameBehind n new f
+lent-behind n new a b f to moves put fills =
+    behind-through n new a f moves (behind-through n a b f (behind-pointed n to a b put) fills)

@@ -10,6 +10,7 @@ pub mod FillingInOrder
 pub mod Showing
 pub mod LentFilling
 pub mod StepMade
+pub mod StepShown
 pub mod LentMoving
 pub mod LentStep
 pub mod Start

@@ -137,12 +137,12 @@ all-filled old new fit r i half past =
 
 -- what is heard from the places that the ports of a part are wired to gives the part shown
 pub heard-shown :
-    (old qs : List Part) (now : Point) (p v : Part) (k0 k1 : ℕ) (x y before out : Signal) →
+    (old qs : List Part) (now : Point) (p : Part) (k0 k1 : ℕ) (x y before out : Signal) →
     k0 ≡ source-index (p .component .port0) → k1 ≡ source-index (p .component .port1) →
     x ≡ heard (p .component .port0) (part-at qs k0 .state .output) →
     y ≡ heard (p .component .port1) (part-at qs k1 .state .output) →
     before ≡ heard (p .component .port0) (part-at old k0 .state .output) →
-    out ≡ output p now x y before → v ≡ with-output p out → v ≡ shown old now qs p
+    out ≡ output p now x y before → with-output p out ≡ shown old now qs p
 unfolding shown
-heard-shown old qs now p v k0 k1 x y before out e0 e1 ex ey eb eo ev =
-    rw (ev, eo, heard0 qs p k0 x e0 ex, heard1 qs p k1 y e1 ey, heard0 old p k0 before e0 eb)
+heard-shown old qs now p k0 k1 x y before out e0 e1 ex ey eb eo =
+    rw (eo, heard0 qs p k0 x e0 ex, heard1 qs p k1 y e1 ey, heard0 old p k0 before e0 eb) refl

@@ -34,7 +34,7 @@ pub order-numbers : (cs : List Component) → All (λ (k : ℕ). k < length cs) 
 order-numbers cs = members-all (λ (k : ℕ). k < length cs) (part-order cs) (order-below cs)
 
 -- once a sound model's parts are moved, its outputs can be filled
-moved-fillable :
+pub moved-fillable :
     (m : Model) (now : Point) (h : ℕ) → sound m ≡ true → Fillable m (with-parts m now (all-moved (tick (m .point)) h (m .parts)))
 unfolding all-moved moved table-of
 moved-fillable m now h s =
@@ -68,7 +68,7 @@ abbrev pub at-point : Model → Point → Model
 at-point a now = with-parts a now (a .parts)
 
 -- the model m with its parts moved, at the new point
-moved-is :
+pub moved-is :
     (m a : Model) (now : Point) (ps : List Part) → Changed m ps a → trimmed (at-point a now) ≡ with-parts (trimmed m) now ps
 unfolding trimmed
 moved-is m a now ps moves = ap (λ (x : Model). with-parts x now (x .parts)) (moves .is)

@@ -4,14 +4,13 @@
 // `specs/Trimmed.antt` and `specs/Fillable.antt`.
 use crate::heard::heard_of;
 use crate::heard::source_index;
-use point::change::with_output;
 use point::output::output_of;
 use store::lookup::number_at;
 use store::lookup::output_at;
 use store::lookup::part_at;
 use store::lookup::parts_of;
 use store::lookup::point_of;
-use store::update::put_state;
+use store::update::put_output;
 ghost use Rattle.machine.specs.Model.{trimmed};
 ghost use Rattle.machine.specs.Step.{filled};
 ghost use Rattle.store.specs.Held.{Room, held, parts-lent};
@@ -45,9 +44,7 @@ pub(crate) fn filled_into(table: &[u64], old: &[u64], new: &mut [u64])
         let y = heard_of(source1, out1);
         let before = heard_of(source0, earlier_out);
         let out = output_of(p, now, x, y, before);
-        let shown = with_output(p, out);
-        let state = shown.state;
-        put_state(new, k, state);
+        put_output(new, k, out);
         i += 1;
     }
 }

@@ -4,6 +4,6 @@
 mod filling;
 pub mod heard;
 mod moving;
-mod settling;
+pub mod settling;
 pub mod start;
 pub mod step;

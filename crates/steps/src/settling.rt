@@ -6,6 +6,7 @@ use crate::heard::heard_of;
 use crate::heard::source_index;
 use machine::part::Kind;
 use point::change::settled_part;
+use store::lookup::kind_in;
 use store::lookup::output_at;
 use store::lookup::part_at;
 use store::lookup::parts_of;
@@ -41,8 +42,8 @@ fn settles(k: Kind) -> bool
 }
 
 // All parts settled, one after the other in place: settling changes no stored output. A part that settling does not
-// change is passed over.
-pub(crate) fn settled_into(table: &[u64], new: &mut [u64])
+// change is passed over, by its kind alone.
+pub fn settled_into(table: &[u64], new: &mut [u64])
     requires { ⌜ Room (now table) (now new) ⌝ }
     requires { ⌜ Wired (trimmed (held (now table) (now new))) ⌝ }
     ensures { λ r. ⌜ Changed (held (now (table .entry)) (now (new .entry))) (all-settled (trimmed (held (now (table .entry)) (now (new .entry))) .parts)) (held (now (table .entry)) (now (new .exit))) ⌝ }
@@ -51,13 +52,13 @@ pub(crate) fn settled_into(table: &[u64], new: &mut [u64])
     let count = parts_of(table);
     let mut i: usize = 0;
     while i < count {
-        let p = part_at(table, new, i);
-        let c = p.component;
-        let kind = c.kind;
+        let kind = kind_in(table, i);
         if !settles(kind) {
             i += 1;
             continue;
         }
+        let p = part_at(table, new, i);
+        let c = p.component;
         let s = c.port0;
         let k = source_index(s);
         let out = output_at(new, k);

@@ -1,9 +1,8 @@
-// The step made, from the words of the old state into those of the new.
+// The step made up to its settling, from the words of the old state into those of the new.
 //
 // Its contracts cite `machine`'s `specs/Time.antt` and `specs/Step.antt`, and `store`'s `specs/Held.antt` and `specs/Updated.antt`.
 use crate::filling::filled_into;
 use crate::moving::moved_into;
-use crate::settling::settled_into;
 use machine::time::Stepped;
 use machine::time::Ticks;
 use store::lookup::point_of;
@@ -14,20 +13,21 @@ ghost use Prim.Native.Nat.{ℕ, _+_, _≤_, _<_};
 ghost use Rattle.machine.specs.Time.{last-microstep, last-tick, tick};
 ghost use Rattle.machine.specs.Model.{trimmed};
 ghost use Rattle.machine.specs.Sound.{sound};
-ghost use Rattle.machine.specs.Step.{step-made};
+ghost use Rattle.steps.specs.StepShown.{step-shown};
 ghost use Rattle.store.specs.Held.{Room, held, parts-lent};
 ghost use Rattle.store.specs.Updated.{SameBehind, state-spelled};
 
-// The model of `old` after a step of `h`, in `new`; the words behind the model's are kept. No model is copied: each part is
-// read from `old` and written into `new`. What is required rules out a step past the time.
-pub fn made_into(table: &[u64], old: &[u64], h: Ticks, new: &mut [u64])
+// The model of `old` after a step of `h`, in `new`, before it is settled: a trial is settled only where it is taken up. The
+// words behind the model's are kept. No model is copied: each part is read from `old` and written into `new`. What is
+// required rules out a step past the time.
+pub fn shown_into(table: &[u64], old: &[u64], h: Ticks, new: &mut [u64])
     requires { ⌜ Room (now table) (now old) ⌝ }
     requires { ⌜ Room (now table) (now new) ⌝ }
     requires { ⌜ sound (trimmed (held (now table) (now old))) ≡ true ⌝ }
     requires { ⌜ h .0 ≤ 1_000_000_000 ⌝ }
     requires { ⌜ tick (held (now table) (now old) .point) + h .0 ≤ last-tick ⌝ }
     requires { ⌜ (h .0 ≡ 0 → held (now table) (now old) .point .n < last-microstep) ⌝ }
-    ensures { λ r. ⌜ trimmed (held (now (table .entry)) (now (new .exit))) ≡ step-made (trimmed (held (now (table .entry)) (now (old .entry)))) (h .0) ⌝ }
+    ensures { λ r. ⌜ trimmed (held (now (table .entry)) (now (new .exit))) ≡ step-shown (trimmed (held (now (table .entry)) (now (old .entry)))) (h .0) ⌝ }
     ensures { λ r. ⌜ ((j : ℕ) → j < parts-lent (now (table .entry)) → state-spelled (now (new .exit)) j ≡ true) ⌝ }
     ensures { λ r. ⌜ SameBehind (parts-lent (now (table .entry))) (now (new .entry)) (now (new .exit)) ⌝ }
 {
@@ -38,5 +38,4 @@ pub fn made_into(table: &[u64], old: &[u64], h: Ticks, new: &mut [u64])
     moved_into(table, old, h, new);
     put_point(new, to);
     filled_into(table, old, new);
-    settled_into(table, new);
 }

@@ -89,30 +89,49 @@ apart i j x other from to (inr e) =
     more (inl same) = absurd (other (eqb-true j i same))
     more (inr differ) = omega (arith, ltb-false j i e, eqb-false j i differ)
 
+-- every word outside part i's record is kept
+abbrev pub KeptOutside : ℕ → List ℕ → List ℕ → Type 0
+KeptOutside i a b = (x : ℕ) → Outside (state-words-of i) (state-words-of (i + 1)) x → lent b x ≡ lent a x
+
+-- then so are the states of the other parts, whether their words are within their limits, and the point
+module _ (a b : List ℕ) (i : ℕ) (kept : KeptOutside i a b) where
+  state-outside : (j : ℕ) → (j ≡ i → ⊥) → stored-state b j ≡ stored-state a j
+  state-outside j other = same-state a b j (λ x from to. kept x (apart i j x other from to (either (ltb j i))))
+
+  pub spelled-outside : (j : ℕ) → (j ≡ i → ⊥) → state-spelled b j ≡ state-spelled a j
+  spelled-outside j other =
+      within-same a b (state-words-of j) state-limits (λ x from to. kept x (apart i j x other from (omega arith) (either (ltb j i))))
+
+  point-outside : stored-point b ≡ stored-point a
+  unfolding stored-point
+  point-outside = rw (kept 0 (inl (omega arith)), kept 1 (inl (omega arith))) refl
+
+  -- and the model is the one before with part i's state set to the one that stands there
+  pub held-outside : (ts : List ℕ) (s : State) → stored-state b i ≡ s → i < parts-lent ts →
+      held ts b ≡ with-parts (held ts a) (held ts a .point) (set (held ts a .parts) i (with-state (stored-part ts a i) s))
+  unfolding held stored-part
+  held-outside ts s is low =
+      ap₂ (λ (now : Point) (ps : List Part). with-parts (held ts a) now ps) point-outside
+      (table-set (stored-part ts a) (stored-part ts b) (parts-lent ts) i (with-state (stored-part ts a i) s) low
+      (λ j other. ap (with-state (stored-part ts a j)) (state-outside j other))
+      (ap (with-state (stored-part ts a i)) is))
+
 -- so a write of part i's state keeps the others'
 pub state-kept : (a b : List ℕ) (i j : ℕ) (s : State) → StatePut i s a b → (j ≡ i → ⊥) → stored-state b j ≡ stored-state a j
-state-kept a b i j s put other =
-    same-state a b j (λ x from to. put .others x (apart i j x other from to (either (ltb j i))))
+state-kept a b i j s put other = state-outside a b i (put .others) j other
 
 -- and whether their words are within their limits
 pub spelled-kept : (a b : List ℕ) (i j : ℕ) (s : State) → StatePut i s a b → (j ≡ i → ⊥) → state-spelled b j ≡ state-spelled a j
-spelled-kept a b i j s put other =
-    within-same a b (state-words-of j) state-limits (λ x from to. put .others x (apart i j x other from (omega arith) (either (ltb j i))))
+spelled-kept a b i j s put other = spelled-outside a b i (put .others) j other
 
 -- and the point
 pub point-kept : (a b : List ℕ) (i : ℕ) (s : State) → StatePut i s a b → stored-point b ≡ stored-point a
-unfolding stored-point
-point-kept a b i s put = rw (put .others 0 (inl (omega arith)), put .others 1 (inl (omega arith))) refl
+point-kept a b i s put = point-outside a b i (put .others)
 
 -- the model after a write of part i's state is the model before with that part's state set
 pub held-put : (ts a b : List ℕ) (i : ℕ) (s : State) → StatePut i s a b → i < parts-lent ts →
     held ts b ≡ with-parts (held ts a) (held ts a .point) (set (held ts a .parts) i (with-state (stored-part ts a i) s))
-unfolding held stored-part
-held-put ts a b i s put low =
-    ap₂ (λ (now : Point) (ps : List Part). with-parts (held ts a) now ps) (point-kept a b i s put)
-    (table-set (stored-part ts a) (stored-part ts b) (parts-lent ts) i (with-state (stored-part ts a i) s) low
-    (λ j other. ap (with-state (stored-part ts a j)) (state-kept a b i j s put other))
-    (ap (with-state (stored-part ts a i)) (put .is)))
+held-put ts a b i s put low = held-outside a b i (put .others) ts s (put .is) low
 
 -- and after a write of the point the model before at that point
 pub held-pointed : (ts a b : List ℕ) (now : Point) → PointPut now a b → held ts b ≡ with-parts (held ts a) now (held ts a .parts)

@@ -4,6 +4,7 @@ pub mod Form
 pub mod Written
 pub mod Updated
 pub mod Frame
+pub mod Shown
 pub mod Spelling
 pub mod Respelled
 pub mod TableRuns

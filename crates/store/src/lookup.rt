@@ -9,6 +9,7 @@ use codec::fields::signal_coded;
 use codec::fields::source_coded;
 use codec::word::word_signed;
 use machine::part::Component;
+use machine::part::Kind;
 use machine::part::Part;
 use machine::part::SPANS;
 use machine::part::State;
@@ -100,6 +101,15 @@ pub fn component_at(table: &[u64], i: usize) -> Component
         port0: port0,
         port1: port1,
     }
+}
+
+// The kind of part `i`, alone.
+pub fn kind_in(table: &[u64], i: usize) -> Kind
+    requires { ⌜ table-words (i + 1) ≤ length (now table) ⌝ }
+    ensures { λ r. ⌜ r ≡ stored-component (now (table .entry)) i .kind ⌝ }
+{
+    let k = 18 * i;
+    kind_coded(table[k + 2])
 }
 
 // The state of part `i`.

@@ -1,6 +1,6 @@
-// The state of a part, and the point, written into the words of a state.
+// The state of a part, its output alone, and the point, written into the words of a state.
 //
-// The contracts cite `specs/Updated.antt`: what was written is read back, and every other word is kept.
+// The contracts cite `specs/Updated.antt` and `specs/Shown.antt`: what was written is read back, and every other word is kept.
 use codec::fields::mark_code;
 use codec::fields::side_code;
 use codec::word::signed_word;
@@ -15,6 +15,7 @@ ghost use Rattle.codec.specs.Encoded.{signal-code};
 ghost use Rattle.codec.specs.Decoded.{signal-of};
 ghost use Rattle.store.specs.Held.{state-words-of};
 ghost use Rattle.store.specs.Updated.{Copied, PointPut, StatePut};
+ghost use Rattle.store.specs.Shown.{OutputPut};
 
 // The word of a signed number, which is read back as the number.
 pub(crate) fn word_of(v: i64) -> u64
@@ -62,6 +63,16 @@ pub fn put_state(state: &mut [u64], i: usize, s: State)
     state[k + 8] = signal_word(output);
     state[k + 9] = side_code(side);
     state[k + 10] = mark_code(mark);
+}
+
+// The stored output of part `i`, written anew.
+pub fn put_output(state: &mut [u64], i: usize, out: Signal)
+    requires { ⌜ state-words-of (i + 1) ≤ length (now state) ⌝ }
+    ensures { λ r. ⌜ OutputPut i out (now (state .entry)) (now (state .exit)) ⌝ }
+{
+    let k = 9 * i;
+    state[k + 7] = signal_code(out);
+    state[k + 8] = signal_word(out);
 }
 
 // The point, written anew.

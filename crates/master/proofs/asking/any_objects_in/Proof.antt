@@ -1,21 +1,28 @@
--- `any_objects_in` is `any-objects` of the model that the words mean. The invariant: that a part objects, from here on, is that some part does. The
+-- `any_objects_in` is `any-objects-settled` of the trial that the words mean. The invariant: that a part objects, from here on, is that some part does. The
 -- measure is what is left of the count.
 use Prim.Native.Nat.{_-_, _≤_, _<_}
 use native.Mathlib.Omega.{arith}
-use mathlib.Core.Path.{_≡_, refl, sym, _∙_}
+use mathlib.Core.Path.{_≡_, refl, sym, ap, _∙_}
+use mathlib.Core.Bool.{false}
+use mathlib.Core.List.{List}
 use lib.ListN.{drop}
+use borrow.Author.Tests.{not-true}
+use Rattle.machine.specs.declared.part.Kind.{Kind}
 use Rattle.machine.specs.Lists.{any}
-use Rattle.machine.specs.Model.{part-at, trimmed, trimmed-part}
-use Rattle.machine.specs.Advance.{any-objects, objects}
+use Rattle.machine.specs.Model.{part-at, trimmed}
+use Rattle.machine.specs.Advance.{objects}
 use Rattle.store.specs.Held.{parts-lent, held}
-use Rattle.master.specs.Asked.{any-hit, any-miss, any-end}
-use Rattle.master.specs.LentAsked.{period-lent, objects-lent}
+use Rattle.master.specs.LentAsked.{Asks}
+use Rattle.master.specs.Trials.{objects-settled, any-objects-settled, detects, passes-trial}
+use Rattle.master.specs.LentTrial.{trial-hit, trial-miss, trial-end, trial-source, trial-period, trial-objects, trial-kind}
 use Rattle.master.proofs.asking.any_objects_in.Statement.{statement}
 use Rattle.master.proofs.asking.any_objects_in.Tie as tie
 
 abbrev Inv-loop : tie.InvT-loop
 Inv-loop table h trial count i₀ i =
-    (i ≤ count) × (any (objects (h .0)) (drop i (trimmed (held table trial) .parts)) ≡ any-objects (h .0) (trimmed (held table trial)))
+    (i ≤ count) ×
+    (any (objects-settled (h .0) (trimmed (held table trial) .parts)) (drop i (trimmed (held table trial) .parts)) ≡
+    any-objects-settled (h .0) (trimmed (held table trial)))
 
 abbrev μ-loop : tie.MeasureT-loop
 μ-loop table h trial count i₀ i = count - i
@@ -27,69 +34,163 @@ counted test = test .before .before
 abbrev start-of : tie.In-loop Inv-loop μ-loop → tie.Start Inv-loop μ-loop
 start-of test = counted test .before .before .before
 
+abbrev test-of-kind : tie.After-detects Inv-loop μ-loop → tie.In-loop Inv-loop μ-loop
+test-of-kind kinds = kinds .before .before
+
+abbrev read-of : tie.After-source-index Inv-loop μ-loop → tie.After-part-at Inv-loop μ-loop
+read-of source = source .before .before
+
+abbrev source-of : tie.After-heard-of Inv-loop μ-loop → tie.After-source-index Inv-loop μ-loop
+source-of hears = hears .before .before
+
+abbrev test-of : tie.After-part-at Inv-loop μ-loop → tie.In-loop Inv-loop μ-loop
+test-of read = test-of-kind (read .before .before)
+
+abbrev test-of-heard : tie.After-heard-of Inv-loop μ-loop → tie.In-loop Inv-loop μ-loop
+test-of-heard hears = test-of (read-of (source-of hears))
+
 -- the part asked is one of the table's
 low : (test : tie.In-loop Inv-loop μ-loop) → test .before .loop .i < parts-lent (start-of test .args .table .now)
 low test = omega (arith, test .loop-test .taken, counted test .parts-of .ensures)
+
+-- what is read of it
+asks :
+    (hears : tie.After-heard-of Inv-loop μ-loop) →
+    let source = source-of hears in
+    let s = start-of (test-of-heard hears) in
+    Asks (s .args .table .now) (s .args .trial .now) (test-of-heard hears .before .loop .i) (read-of source .part-at .result) (source .source-index .result)
+    (hears .before .output-at .result) (hears .heard-of .result)
+asks hears =
+    let source = source-of hears in
+    record {
+      part = read-of source .part-at .ensures;
+      source = source .source-index .ensures;
+      shows = hears .before .output-at .ensures;
+      hears = hears .heard-of .ensures;
+    }
 
 parts-of-requires : tie.Need-parts-of-requires Inv-loop μ-loop
 parts-of-requires c κs = omega (arith, c .before .before .pre .0 .table)
 
 loop-holds : tie.Need-loop-holds Inv-loop μ-loop
-unfolding any-objects
+unfolding any-objects-settled
 loop-holds c = (omega arith, refl)
 
-part-at-requires : tie.Need-part-at-requires Inv-loop μ-loop
-part-at-requires c κs =
-    let room = start-of c .pre .0 in
+kind-in-requires : tie.Need-kind-in-requires Inv-loop μ-loop
+kind-in-requires c κs =
     let below = low c in
-    (omega (arith, below, room .table), omega (arith, below, room .state))
+    omega (arith, below, start-of c .pre .0 .table)
 
-objects-of-requires : tie.Need-objects-of-requires Inv-loop μ-loop
-objects-of-requires c κs =
-    let test = c .before in
-    let s = start-of test in
-    period-lent (s .args .table .now) (s .args .trial .now) (s .pre .1) (test .before .loop .i) (c .part-at .result) (low test) (c .part-at .ensures)
-
--- what the part answers is the definition's test of it
-answers :
-    (asked : tie.After-objects-of Inv-loop μ-loop) →
-    let test = asked .before .before in
-    let s = start-of test in
-    let m = held (s .args .table .now) (s .args .trial .now) in
-    objects (s .args .h .0) (trimmed-part (part-at (m .parts) (test .before .loop .i))) ≡ asked .objects-of .result
-answers asked =
-    let read = asked .before in
-    let test = read .before in
-    let s = start-of test in
-    objects-lent (s .args .table .now) (s .args .trial .now) (s .pre .1) (test .before .loop .i) (read .part-at .result) (s .args .h .0) (low test)
-    (read .part-at .ensures) ∙
-    sym (asked .objects-of .ensures)
-
-returns : tie.Need-returns Inv-loop μ-loop
-unfolding held
-returns c =
-    let test = c .before .before .before in
-    let s = start-of test in
-    let m = held (s .args .table .now) (s .args .trial .now) in
-    sym (any-hit m (s .pre .1) (objects (s .args .h .0)) (test .before .loop .i) (low test) (answers (c .before) ∙ c .if1 .taken)) ∙
-    test .before .loop .inv .1
+detects-requires : tie.Need-detects-requires Inv-loop μ-loop
+detects-requires c κs = tt
 
 add-i : tie.Need-add-i Inv-loop μ-loop
 add-i c =
-    let test = c .before .before .before in
+    let test = test-of-kind (c .before) in
     omega (arith, low test, start-of test .pre .0 .table)
 
 loop-less : tie.Need-loop-less Inv-loop μ-loop
-loop-less c = omega (arith, c .before .before .before .loop-test .taken)
+loop-less c = omega (arith, test-of-kind (c .before) .loop-test .taken)
 
 loop-again : tie.Need-loop-again Inv-loop μ-loop
-unfolding held
 loop-again c =
-    let test = c .before .before .before in
+    let kinds = c .before in
+    let test = test-of-kind kinds in
     let s = start-of test in
-    let m = held (s .args .table .now) (s .args .trial .now) in (
+    let ts = s .args .table .now in
+    let ss = s .args .trial .now in
+    let ps = trimmed (held ts ss) .parts in
+    let i = test .before .loop .i in
+    let other : detects (part-at ps i .component .kind) ≡ false =
+    ap detects (trial-kind ts ss (s .pre .1) i (low test) ∙ sym (kinds .before .kind-in .ensures)) ∙ sym (kinds .detects .ensures) ∙
+    not-true (kinds .detects .result) (c .if1 .taken) in (
       omega (arith, test .loop-test .taken),
-      sym (any-miss m (s .pre .1) (objects (s .args .h .0)) (test .before .loop .i) (low test) (answers (c .before) ∙ c .if1 .left)) ∙
+      sym (trial-miss ts ss (s .pre .1) (objects-settled (s .args .h .0) ps) i (low test) (passes-trial (s .args .h .0) ps (part-at ps i) other)) ∙
+          test .before .loop .inv .1,
+    )
+
+part-at-requires : tie.Need-part-at-requires Inv-loop μ-loop
+part-at-requires c κs =
+    let test = test-of-kind (c .before) in
+    let room = start-of test .pre .0 in
+    let below = low test in
+    (omega (arith, below, room .table), omega (arith, below, room .state))
+
+source-index-requires : tie.Need-source-index-requires Inv-loop μ-loop
+source-index-requires c κs = tt
+
+output-at-requires : tie.Need-output-at-requires Inv-loop μ-loop
+output-at-requires c κs =
+    let read = read-of c in
+    let test = test-of read in
+    let s = start-of test in
+    let there =
+    trial-source (s .args .table .now) (s .args .trial .now) (s .pre .1) (test .before .loop .i) (read .part-at .result) (c .source-index .result) (low test)
+    (read .part-at .ensures) (c .source-index .ensures) in
+    omega (arith, there, s .pre .0 .state)
+
+heard-of-requires : tie.Need-heard-of-requires Inv-loop μ-loop
+heard-of-requires c κs = tt
+
+settled-part-requires : tie.Need-settled-part-requires Inv-loop μ-loop
+settled-part-requires c κs = tt
+
+objects-of-requires : tie.Need-objects-of-requires Inv-loop μ-loop
+objects-of-requires c κs =
+    let hears = c .before in
+    let read = read-of (source-of hears) in
+    let test = test-of read in
+    let s = start-of test in
+    trial-period (s .args .table .now) (s .args .trial .now) (s .pre .1) (test .before .loop .i) (read .part-at .result) (c .settled-part .result)
+    (hears .heard-of .result) (low test) (read .part-at .ensures) (c .settled-part .ensures)
+
+-- what the settled part answers is the definition's test of it
+answers :
+    (asked : tie.After-objects-of Inv-loop μ-loop) →
+    let test = test-of-heard (asked .before .before) in
+    let s = start-of test in
+    let ps = trimmed (held (s .args .table .now) (s .args .trial .now)) .parts in
+    objects-settled (s .args .h .0) ps (part-at ps (test .before .loop .i)) ≡ asked .objects-of .result
+answers asked =
+    let settles = asked .before in
+    let hears = settles .before in
+    let source = source-of hears in
+    let test = test-of-heard hears in
+    let s = start-of test in
+    trial-objects (s .args .table .now) (s .args .trial .now) (s .pre .1) (test .before .loop .i) (read-of source .part-at .result)
+    (source .source-index .result) (hears .before .output-at .result) (hears .heard-of .result) (settles .settled-part .result) (s .args .h .0) (low test)
+    (asks hears) (settles .settled-part .ensures) ∙
+    sym (asked .objects-of .ensures)
+
+returns : tie.Need-returns Inv-loop μ-loop
+returns c =
+    let asked = c .before in
+    let test = test-of-heard (asked .before .before) in
+    let s = start-of test in
+    let ts = s .args .table .now in
+    let ss = s .args .trial .now in
+    sym (trial-hit ts ss (s .pre .1) (objects-settled (s .args .h .0) (trimmed (held ts ss) .parts)) (test .before .loop .i) (low test)
+    (answers asked ∙ c .if2 .taken)) ∙
+    test .before .loop .inv .1
+
+add-i-2 : tie.Need-add-i-2 Inv-loop μ-loop
+add-i-2 c =
+    let test = test-of-heard (c .before .before .before) in
+    omega (arith, low test, start-of test .pre .0 .table)
+
+loop-less-2 : tie.Need-loop-less-2 Inv-loop μ-loop
+loop-less-2 c = omega (arith, test-of-heard (c .before .before .before) .loop-test .taken)
+
+loop-again-2 : tie.Need-loop-again-2 Inv-loop μ-loop
+loop-again-2 c =
+    let asked = c .before in
+    let test = test-of-heard (asked .before .before) in
+    let s = start-of test in
+    let ts = s .args .table .now in
+    let ss = s .args .trial .now in (
+      omega (arith, test .loop-test .taken),
+      sym (trial-miss ts ss (s .pre .1) (objects-settled (s .args .h .0) (trimmed (held ts ss) .parts)) (test .before .loop .i) (low test)
+          (answers asked ∙ c .if2 .left)) ∙
           test .before .loop .inv .1,
     )
 
@@ -99,8 +200,10 @@ returns-2 c =
     let head = c .before in
     let counts = head .before in
     let s = counts .before .before .before in
-    let m = held (s .args .table .now) (s .args .trial .now) in
-    sym (any-end m (s .pre .1) (objects (s .args .h .0)) (head .loop .i) (omega (arith, c .loop-test .left, counts .parts-of .ensures))) ∙
+    let ts = s .args .table .now in
+    let ss = s .args .trial .now in
+    sym (trial-end ts ss (s .pre .1) (objects-settled (s .args .h .0) (trimmed (held ts ss) .parts)) (head .loop .i)
+    (omega (arith, c .loop-test .left, counts .parts-of .ensures))) ∙
     head .loop .inv .1
 
 pub any-objects-in-spec : {M : Type 1} → statement M
@@ -111,10 +214,19 @@ any-objects-in-spec =
     μ-loop
     parts-of-requires
     loop-holds
-    part-at-requires
-    objects-of-requires
-    returns
+    kind-in-requires
+    detects-requires
     add-i
     loop-less
     loop-again
+    part-at-requires
+    source-index-requires
+    output-at-requires
+    heard-of-requires
+    settled-part-requires
+    objects-of-requires
+    returns
+    add-i-2
+    loop-less-2
+    loop-again-2
     returns-2)

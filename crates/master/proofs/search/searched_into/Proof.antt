@@ -1,158 +1,22 @@
 -- `searched_into` is the search on words. Both loops keep that the search from here comes to the outcome of the whole, that neither the rounds nor the
 -- revisions, with h, are above w, and that the words behind the new state's are kept; the inner one also that h is at most what it began with. The measure
 -- of both is h.
-use Prim.Native.Nat.{ℕ, _+_, _≤_, _<_}
+use Prim.Native.Nat.{ℕ, _+_}
 use native.Mathlib.Omega.{arith}
 use mathlib.Core.Path.{_≡_, refl, sym, ap, subst, _∙_}
-use mathlib.Core.Bool.{true}
-use mathlib.Core.List.{List}
-use borrow.Author.Tests.{eqb-true, eqb-false}
-use Rattle.machine.specs.declared.model.Model.{Model}
-use Rattle.machine.specs.Time.{tick, last-tick}
 use Rattle.machine.specs.Model.{trimmed}
-use Rattle.machine.specs.Sound.{sound}
-use Rattle.machine.specs.Step.{step-made}
-use Rattle.machine.specs.Advance.{round, any-objects}
-use Rattle.soundness.specs.Stepped.{step-sound}
-use Rattle.store.specs.Held.{parts-lent, held, Room}
+use Rattle.machine.specs.Advance.{any-objects}
+use Rattle.steps.specs.StepShown.{settled-made}
+use Rattle.store.specs.Held.{parts-lent, held}
 use Rattle.store.specs.Updated.{SameBehind}
 use Rattle.store.specs.Frame.{behind-none, behind-through, behind-copied, copied-spelled, held-copied}
-use Rattle.master.specs.Searching.{refusal, Left, left-start, lowered, lower-below, halved, halve-above, refused-answer, committed-answer, may-step}
+use Rattle.master.specs.Searching.{refusal, Left, left-start, lowered, halved, refused-answer, committed-answer, may-step}
 use Rattle.master.specs.Into.{lent-model}
 use Rattle.master.specs.IntoLaws.{searched-words}
 use Rattle.master.proofs.search.searched_into.Statement.{statement}
 use Rattle.master.proofs.search.searched_into.Tie as tie
-
-abbrev Inv-loop : tie.InvT-loop
-Inv-loop table old w new₀ ceiling h₀ rounds₀ revisions new h rounds =
-    Left (lent-model table old) w ceiling h rounds revisions × (rounds + h ≤ w) × (revisions + h ≤ w) × (h ≤ h₀) ×
-    SameBehind (parts-lent table) new₀ new
-
-abbrev μ-loop : tie.MeasureT-loop
-μ-loop table old w new₀ ceiling h₀ rounds₀ revisions new h rounds = h
-
-abbrev Inv-ceilings : tie.InvT-ceilings
-Inv-ceilings table old w new₀ ceiling₀ h₀ rounds₀ revisions₀ new ceiling h rounds revisions =
-    Left (lent-model table old) w ceiling h rounds revisions × (rounds + h ≤ w) × (revisions + h ≤ w) × SameBehind (parts-lent table) new₀ new
-
-abbrev μ-ceilings : tie.MeasureT-ceilings
-μ-ceilings table old w new₀ ceiling₀ h₀ rounds₀ revisions₀ new ceiling h rounds revisions = h
-
--- a trial of a step that is not refused is sound
-trial-sound : (ts os b : List ℕ) → sound (lent-model ts os) ≡ true → (w h n : ℕ) → n + h ≤ w → tick (held ts os .point) + w ≤ last-tick →
-    refusal (lent-model ts os) h ≡ 0 → lent-model ts b ≡ step-made (lent-model ts os) h → sound (lent-model ts b) ≡ true
-unfolding trimmed
-trial-sound ts os b is-sound w h n within far none is =
-    ap sound is ∙ step-sound (lent-model ts os) h is-sound (omega arith) (may-step (held ts os) is-sound h none)
-
--- the start, the head of the inner loop, and the trial, seen from later places
-abbrev start-of : tie.At-loop Inv-loop μ-loop Inv-ceilings μ-ceilings → tie.Start Inv-loop μ-loop Inv-ceilings μ-ceilings
-start-of at = at .before .before .before .before .before
-
-abbrev loop-of : tie.After-refusal-in Inv-loop μ-loop Inv-ceilings μ-ceilings → tie.At-loop Inv-loop μ-loop Inv-ceilings μ-ceilings
-loop-of refuses = refuses .before .before .before .before
-
-abbrev refusal-of-trial : tie.After-made-into Inv-loop μ-loop Inv-ceilings μ-ceilings → tie.After-refusal-in Inv-loop μ-loop Inv-ceilings μ-ceilings
-refusal-of-trial tries = tries .before .before .before
-
-abbrev loop-of-trial : tie.After-made-into Inv-loop μ-loop Inv-ceilings μ-ceilings → tie.At-loop Inv-loop μ-loop Inv-ceilings μ-ceilings
-loop-of-trial tries = loop-of (refusal-of-trial tries)
-
-abbrev trial-of : tie.After-any-objects-in Inv-loop μ-loop Inv-ceilings μ-ceilings → tie.After-made-into Inv-loop μ-loop Inv-ceilings μ-ceilings
-trial-of objects = objects .before .before .before .before
-
--- the model handed in, and the words of the trial
-abbrev model-of : tie.At-loop Inv-loop μ-loop Inv-ceilings μ-ceilings → Model
-model-of at = lent-model (start-of at .args .table .now) (start-of at .args .old .now)
-
-abbrev words-of : tie.After-made-into Inv-loop μ-loop Inv-ceilings μ-ceilings → List ℕ
-words-of tries = tries .made-into .last .1 .1 .1 .0
-
--- what the caller promises
-abbrev is-sound-at : (s : tie.Start Inv-loop μ-loop Inv-ceilings μ-ceilings) → sound (lent-model (s .args .table .now) (s .args .old .now)) ≡ true
-is-sound-at s = s .pre .1 .1 .0
-
-abbrev small : (s : tie.Start Inv-loop μ-loop Inv-ceilings μ-ceilings) → s .args .w ≤ 1000000000
-small s = s .pre .1 .1 .1 .0
-
-abbrev far : (s : tie.Start Inv-loop μ-loop Inv-ceilings μ-ceilings) → tick (held (s .args .table .now) (s .args .old .now) .point) + s .args .w ≤ last-tick
-far s = s .pre .1 .1 .1 .1 .0
-
--- the words behind the new state's are those at the start
-behind-at : (at : tie.At-loop Inv-loop μ-loop Inv-ceilings μ-ceilings) → SameBehind (parts-lent (start-of at .args .table .now)) (start-of at .args .new .now) (at .loop .new)
-behind-at at =
-    let s = start-of at in
-    let ceilings = at .before .ceilings in
-    behind-through (parts-lent (s .args .table .now)) (s .args .new .now) (ceilings .new) (at .loop .new) (ceilings .inv .3) (at .loop .inv .4)
-
--- so there is room for the new state
-room-at : (at : tie.At-loop Inv-loop μ-loop Inv-ceilings μ-ceilings) → Room (start-of at .args .table .now) (at .loop .new)
-room-at at =
-    let room = start-of at .pre .1 .0 in
-    record { table = room .table; state = omega (arith, room .state, behind-at at .size) }
-
--- a round that changed h
-changed :
-    (c : tie.Else1 Inv-loop μ-loop Inv-ceilings μ-ceilings) →
-    let at = c .before .before .before in
-    round (model-of at) (at .loop .h) ≡ at .loop .h → ⊥
-changed c same =
-    let rounds = c .before .before in
-    eqb-false (rounds .round-in .result .0) (rounds .before .loop .h) (sym (c .before .changed-nothing .ensures) ∙ c .if1 .left)
-    (rounds .round-in .ensures ∙ same)
-
--- lowered it
-lowers :
-    (c : tie.Else1 Inv-loop μ-loop Inv-ceilings μ-ceilings) →
-    let rounds = c .before .before in
-    rounds .round-in .result .0 < rounds .before .loop .h
-lowers c =
-    let rounds = c .before .before in
-    let at = rounds .before in
-    rw (rounds .round-in .ensures) (lower-below (model-of at) (is-sound-at (start-of at)) (at .loop .h) (changed c))
-
--- one that changed nothing
-kept :
-    (refuses : tie.After-refusal-in Inv-loop μ-loop Inv-ceilings μ-ceilings) →
-    let at = loop-of refuses in
-    round (model-of at) (at .loop .h) ≡ at .loop .h
-kept refuses =
-    let tests = refuses .before .before in
-    let rounds = tests .before in
-    sym (rounds .round-in .ensures) ∙
-    eqb-true (rounds .round-in .result .0) (rounds .before .loop .h) (sym (tests .changed-nothing .ensures) ∙ refuses .before .if1 .taken)
-
--- the step is not refused
-not-refused :
-    (c : tie.Else2 Inv-loop μ-loop Inv-ceilings μ-ceilings) →
-    let at = loop-of (c .before) in
-    refusal (model-of at) (at .loop .h) ≡ 0
-not-refused c = sym (c .before .refusal-in .ensures) ∙ c .if2 .left
-
--- a part objects to it
-objected :
-    (c : tie.Then3 Inv-loop μ-loop Inv-ceilings μ-ceilings) →
-    let at = loop-of-trial (trial-of (c .before)) in
-    any-objects (at .loop .h) (step-made (model-of at) (at .loop .h)) ≡ true
-objected c =
-    let tries = trial-of (c .before) in
-    ap (any-objects (loop-of-trial tries .loop .h)) (sym (tries .made-into .ensures .0)) ∙ sym (c .before .any-objects-in .ensures) ∙ c .if3 .taken
-
--- so it is one of at least 2
-halves : (c : tie.Then3 Inv-loop μ-loop Inv-ceilings μ-ceilings) → 2 ≤ loop-of-trial (trial-of (c .before)) .loop .h
-halves c =
-    let tries = trial-of (c .before) in
-    let at = loop-of-trial tries in
-    halve-above (model-of at) (is-sound-at (start-of at)) (at .loop .h) (kept (refusal-of-trial tries)) (not-refused (tries .before .before)) (objected c)
-
--- the words behind the trial's are kept
-behind-trial :
-    (tries : tie.After-made-into Inv-loop μ-loop Inv-ceilings μ-ceilings) →
-    SameBehind (parts-lent (start-of (loop-of-trial tries) .args .table .now)) (start-of (loop-of-trial tries) .args .new .now) (words-of tries)
-behind-trial tries =
-    let at = loop-of-trial tries in
-    let s = start-of at in
-    behind-through (parts-lent (s .args .table .now)) (s .args .new .now) (at .loop .new) (words-of tries) (behind-at at) (tries .made-into .ensures .1 .1)
+use Rattle.master.proofs.search.searched_into.Proof.Places.{Inv-ceilings, Inv-loop, behind-at, behind-trial, changed, far, halves, is-sound-at, kept, loop-of, loop-of-trial, lowers, model-of, not-refused, objected, objects-tried, refusal-of-trial, room-at, room-of-trial, settleable, small, start-of, trial-of, words-of, μ-ceilings, μ-loop}
+mod Places
 
 ceilings-holds : tie.Need-ceilings-holds Inv-loop μ-loop Inv-ceilings μ-ceilings
 ceilings-holds c =
@@ -187,8 +51,8 @@ kept-in-requires c κs =
     let at = loop-of (c .before .before) in
     (start-of at .pre .0, room-at at)
 
-made-into-requires : tie.Need-made-into-requires Inv-loop μ-loop Inv-ceilings μ-ceilings
-made-into-requires c κs =
+shown-into-requires : tie.Need-shown-into-requires Inv-loop μ-loop Inv-ceilings μ-ceilings
+shown-into-requires c κs =
     let at = loop-of (c .before .before) in
     let s = start-of at in
     let within = at .loop .inv .1 in
@@ -198,15 +62,7 @@ made-into-requires c κs =
 any-objects-in-requires : tie.Need-any-objects-in-requires Inv-loop μ-loop Inv-ceilings μ-ceilings
 any-objects-in-requires c κs =
     let tries = c .before .before .before in
-    let at = loop-of-trial tries in
-    let s = start-of at in
-    let room = s .pre .1 .0 in
-    let spare : Room (s .args .table .now) (words-of tries) =
-    record { table = room .table; state = omega (arith, room .state, behind-trial tries .size) } in (
-      spare,
-      trial-sound (s .args .table .now) (s .args .old .now) (words-of tries) (is-sound-at s) (s .args .w) (at .loop .h) (at .loop .rounds)
-          (at .loop .inv .1) (far s) (not-refused (tries .before .before)) (tries .made-into .ensures .0),
-    )
+    (room-of-trial tries, settleable tries)
 
 loop-less : tie.Need-loop-less Inv-loop μ-loop Inv-ceilings μ-ceilings
 loop-less c = lowers c
@@ -286,23 +142,44 @@ returns c =
     (omega arith) (sym same)
     (λ j low. copied-spelled (parts-lent ts) os (at .loop .new) b (keeps .kept-in .ensures) (s .pre .1 .1 .1 .1 .1) j low) (behind-kept keeps)
 
+settled-into-requires : tie.Need-settled-into-requires Inv-loop μ-loop Inv-ceilings μ-ceilings
+settled-into-requires c κs =
+    let tries = trial-of (c .before .before) in
+    (room-of-trial tries, settleable tries .wired)
+
+-- the words behind the model's, once the trial is settled
+behind-settled :
+    (settles : tie.After-settled-into Inv-loop μ-loop Inv-ceilings μ-ceilings) →
+    let s = start-of (loop-of-trial (trial-of (settles .before .before .before))) in
+    SameBehind (parts-lent (s .args .table .now)) (s .args .new .now) (settles .settled-into .last .1 .0)
+behind-settled settles =
+    let tries = trial-of (settles .before .before .before) in
+    let s = start-of (loop-of-trial tries) in
+    behind-through (parts-lent (s .args .table .now)) (s .args .new .now) (words-of tries) (settles .settled-into .last .1 .0) (behind-trial tries)
+    (settles .settled-into .ensures .1)
+
 same-length-2 : tie.Need-same-length-2 Inv-loop μ-loop Inv-ceilings μ-ceilings
-same-length-2 c = behind-trial (trial-of (c .before)) .size
+same-length-2 c = behind-settled (c .before .before) .size
 
 returns-2 : tie.Need-returns-2 Inv-loop μ-loop Inv-ceilings μ-ceilings
 returns-2 c =
-    let tries = trial-of (c .before) in
+    let settles = c .before .before in
+    let free = settles .before .before in
+    let asked = free .before in
+    let tries = trial-of asked in
     let at = loop-of-trial tries in
     let s = start-of at in
     let ceilings = at .before .ceilings in
+    let h = at .loop .h in
     let ts = s .args .table .now in
     let os = s .args .old .now in
-    let b = words-of tries in
+    let b = settles .settled-into .last .1 .0 in
+    let made = settled-made (lent-model ts os) (held ts (words-of tries)) (held ts b) h (tries .shown-into .ensures .0) (settles .settled-into .ensures .0) in
     searched-words ts os (s .args .new .now) b (s .args .w) _
-    (committed-answer (held ts os) (is-sound-at s) (held ts b) (s .args .w) (ceilings .ceiling) (at .loop .h) (at .loop .rounds) (ceilings .revisions)
-    (at .loop .inv .0) (kept (refusal-of-trial tries)) (not-refused (tries .before .before)) (sym (c .before .any-objects-in .ensures) ∙ c .if3 .left)
-    (tries .made-into .ensures .0))
-    (omega arith) refl (tries .made-into .ensures .1 .0) (behind-trial tries)
+    (committed-answer (held ts os) (is-sound-at s) (held ts b) (s .args .w) (ceilings .ceiling) h (at .loop .rounds) (ceilings .revisions)
+    (at .loop .inv .0) (kept (refusal-of-trial tries)) (not-refused (tries .before .before)) (ap (any-objects h) made ∙ objects-tried asked ∙ free .if3 .left)
+    made)
+    (omega arith) refl (λ j low. settles .settled-into .ensures .1 .form j (tries .shown-into .ensures .1 .0 j low)) (behind-settled settles)
 
 pub searched-into-spec : {M : Type 1} → statement M
 searched-into-spec =
@@ -319,8 +196,9 @@ searched-into-spec =
     changed-nothing-requires
     refusal-in-requires
     kept-in-requires
-    made-into-requires
+    shown-into-requires
     any-objects-in-requires
+    settled-into-requires
     loop-less
     loop-again
     add-revisions

@@ -1,13 +1,14 @@
 -- `filled_into` is `filled`, over the models that the words mean. The invariant: the outputs of the first i numbers of the part order are filled, nothing else of
 -- the model is changed, and the words behind it are kept. The measure is what is left of the count. A turn reads a part and the outputs that its ports are
--- wired to, and writes the part's state; one law of `specs/LentFilling.antt` says what it asks and what it comes to.
+-- wired to, and writes the part's output; one law of `specs/LentFilling.antt` says what it asks and what it comes to.
 use Prim.Native.Nat.{ℕ, _-_, _≤_, _<_}
 use native.Mathlib.Omega.{arith}
 use mathlib.Core.List.{List}
 use Rattle.machine.specs.Step.{filled}
 use Rattle.store.specs.Held.{Room, held, parts-lent}
 use Rattle.store.specs.Updated.{SameBehind}
-use Rattle.store.specs.Frame.{behind-none, behind-put, behind-through}
+use Rattle.store.specs.Frame.{behind-none, behind-through}
+use Rattle.store.specs.Shown.{behind-shown}
 use Rattle.steps.specs.Trimmed.{Changed, none-changed}
 use Rattle.steps.specs.Showing.{partly}
 use Rattle.steps.specs.LentFilling.{LentTurn, lent-number, lent-turn, lent-filled, room-kept, table-room, state-room}
@@ -36,8 +37,8 @@ second-of outs = outs .before .before .before .before .before
 abbrev outs-of : tie.After-output-of Inv-loop μ-loop → tie.After-output-at3 Inv-loop μ-loop
 outs-of c = c .before .before .before .before
 
-abbrev reads-of-put : tie.After-put-state Inv-loop μ-loop → tie.After-part-at Inv-loop μ-loop
-reads-of-put put = reads-of (second-of (outs-of (put .before .before .before .before)) .before)
+abbrev reads-of-put : tie.After-put-output Inv-loop μ-loop → tie.After-part-at Inv-loop μ-loop
+reads-of-put put = reads-of (second-of (outs-of (put .before .before)) .before)
 
 abbrev start-of : tie.In-loop Inv-loop μ-loop → tie.Start Inv-loop μ-loop
 start-of test = test .before .before .before .before .before .before .before .before
@@ -162,12 +163,9 @@ output-of-requires c κs =
       ),
     )
 
-with-output-requires : tie.Need-with-output-requires Inv-loop μ-loop
-with-output-requires c κs = tt
-
-put-state-requires : tie.Need-put-state-requires Inv-loop μ-loop
-put-state-requires c κs =
-    let outs = outs-of (c .before .before .before) in
+put-output-requires : tie.Need-put-output-requires Inv-loop μ-loop
+put-output-requires c κs =
+    let outs = outs-of (c .before) in
     let reads = reads-of (second-of outs .before) in
     let test = test-of reads in
     state-room (table-of test) (new-of test) (room-of test) _ (turn-at reads .number)
@@ -185,8 +183,7 @@ loop-less c =
 loop-again : tie.Need-loop-again Inv-loop μ-loop
 loop-again c =
     let put = c .before .before in
-    let shows = put .before .before .before in
-    let outputs = shows .before in
+    let outputs = put .before .before in
     let heard = outputs .before in
     let outs = outs-of outputs in
     let second = second-of outs in
@@ -197,17 +194,17 @@ loop-again c =
     let k = reads .before .before .number-at .result in
     let at = turn-at reads in
     let below = within test in
-    let then = put .put-state .last .0 in (
+    let then = put .put-output .last .0 in (
       omega (arith, below),
       at .fills (test .before .before .point-of .result) (first .source-index .result) (second .source-index2 .result)
           (outs .before .before .before .output-at .result) (outs .before .output-at2 .result) (outs .output-at3 .result)
           (heard .before .before .heard-of .result) (heard .before .heard-of2 .result) (heard .heard-of3 .result) (outputs .output-of .result)
-          (shows .with-output .result) then (test .before .before .point-of .ensures) (first .source-index .ensures) (second .source-index2 .ensures)
+          then (test .before .before .point-of .ensures) (first .source-index .ensures) (second .source-index2 .ensures)
           (outs .before .before .before .output-at .ensures) (outs .before .output-at2 .ensures) (outs .output-at3 .ensures)
           (heard .before .before .heard-of .ensures) (heard .before .heard-of2 .ensures) (heard .heard-of3 .ensures) (outputs .output-of .ensures)
-          (shows .with-output .ensures) (put .put-state .ensures),
+          (put .put-output .ensures),
       behind-through (parts-lent (table-of test)) (first-of test) (new-of test) then (loop .inv .2)
-          (behind-put (parts-lent (table-of test)) k (shows .with-output .result .state) (new-of test) then (put .put-state .ensures) (at .number)),
+          (behind-shown (parts-lent (table-of test)) k (outputs .output-of .result) (new-of test) then (put .put-output .ensures) (at .number)),
     )
 
 same-length : tie.Need-same-length Inv-loop μ-loop
@@ -242,8 +239,7 @@ filled-into-spec =
     heard-of-requires-2
     heard-of-requires-3
     output-of-requires
-    with-output-requires
-    put-state-requires
+    put-output-requires
     add-i
     loop-less
     loop-again

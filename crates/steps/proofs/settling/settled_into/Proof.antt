@@ -15,19 +15,19 @@ Inv-loop table new₀ count i₀ new i = LentSettled table new₀ i new
 abbrev μ-loop : tie.MeasureT-loop
 μ-loop table new₀ count i₀ new i = parts-lent table - i
 
--- the function's start, the loop's test, the part read (from a part that is passed over, and from the call that finds the source) and that call, each
--- seen from a later one
+-- the function's start, the loop's test, the kind read of a part that is passed over, the part read and the call that finds its source, each seen from a
+-- later one
 abbrev start-of : tie.In-loop Inv-loop μ-loop → tie.Start Inv-loop μ-loop
 start-of test = test .before .before .before .before .before
 
 abbrev test-of : tie.After-part-at Inv-loop μ-loop → tie.In-loop Inv-loop μ-loop
-test-of part = part .before .before
+test-of part = part .before .before .before .before .before
 
-abbrev part-of-passed : tie.Then1 Inv-loop μ-loop → tie.After-part-at Inv-loop μ-loop
-part-of-passed c = c .before .before .before
+abbrev kind-of-passed : tie.Then1 Inv-loop μ-loop → tie.After-kind-in Inv-loop μ-loop
+kind-of-passed c = c .before .before
 
 abbrev part-of : tie.After-source-index Inv-loop μ-loop → tie.After-part-at Inv-loop μ-loop
-part-of source = source .before .before .before .before
+part-of source = source .before .before
 
 abbrev source-of : tie.After-put-state Inv-loop μ-loop → tie.After-source-index Inv-loop μ-loop
 source-of put = put .before .before .before .before .before .before .before
@@ -42,34 +42,37 @@ parts-of-requires c κs = omega (arith, c .before .before .pre .0 .table)
 loop-holds : tie.Need-loop-holds Inv-loop μ-loop
 loop-holds c = none-settled _ _
 
-part-at-requires : tie.Need-part-at-requires Inv-loop μ-loop
-part-at-requires c κs =
-    let test = c .before in
-    let room = start-of test .pre .0 in
-    let low = within test in
-    (omega (arith, room .table, low), omega (arith, room .state, low, test .before .loop .inv .behind .size))
+kind-in-requires : tie.Need-kind-in-requires Inv-loop μ-loop
+kind-in-requires c κs = omega (arith, start-of c .pre .0 .table, within c)
 
 settles-requires : tie.Need-settles-requires Inv-loop μ-loop
 settles-requires c κs = tt
 
 add-i : tie.Need-add-i Inv-loop μ-loop
 add-i c =
-    let test = test-of (part-of-passed c) in
+    let test = kind-of-passed c .before in
     omega (arith, within test, test .before .before .parts-of .ok)
 
 loop-less : tie.Need-loop-less Inv-loop μ-loop
 loop-less c =
-    let low = within (test-of (part-of-passed c)) in
+    let low = within (kind-of-passed c .before) in
     omega (arith, low)
 
 loop-again : tie.Need-loop-again Inv-loop μ-loop
 loop-again c =
-    let part = part-of-passed c in
-    let test = test-of part in
+    let kind = kind-of-passed c in
+    let test = kind .before in
     let s = start-of test in
     let loop = test .before .loop in
-    settled-passes (s .args .table .now) (s .args .new .now) (s .pre .1) (loop .i) (loop .new) (loop .inv) (within test) (part .part-at .result)
-    (part .part-at .ensures) (sym (c .before .settles .ensures) ∙ not-true (c .before .settles .result) (c .if1 .taken))
+    settled-passes (s .args .table .now) (s .args .new .now) (s .pre .1) (loop .i) (loop .new) (loop .inv) (within test) (kind .kind-in .result)
+    (kind .kind-in .ensures) (sym (c .before .settles .ensures) ∙ not-true (c .before .settles .result) (c .if1 .taken))
+
+part-at-requires : tie.Need-part-at-requires Inv-loop μ-loop
+part-at-requires c κs =
+    let test = c .before .before .before .before in
+    let room = start-of test .pre .0 in
+    let low = within test in
+    (omega (arith, room .table, low), omega (arith, room .state, low, test .before .loop .inv .behind .size))
 
 source-index-requires : tie.Need-source-index-requires Inv-loop μ-loop
 source-index-requires c κs = tt
@@ -141,11 +144,12 @@ settled-into-spec =
     μ-loop
     parts-of-requires
     loop-holds
-    part-at-requires
+    kind-in-requires
     settles-requires
     add-i
     loop-less
     loop-again
+    part-at-requires
     source-index-requires
     output-at-requires
     heard-of-requires

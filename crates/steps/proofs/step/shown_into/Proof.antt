@@ -1,5 +1,5 @@
--- `made_into` is `step-made` over the models that the words mean: the parts moved, the point written, the outputs filled and the parts settled, each by the
--- contract of its function, joined by the laws of `specs/LentStep.antt`. The step is one within the time, so that it never leads past it.
+-- `shown_into` is `step-shown` over the models that the words mean: the parts moved, the point written and the outputs filled, each by the contract of its function,
+-- joined by the laws of `specs/LentStep.antt`. The step is one within the time, so that it never leads past it.
 use Prim.Native.Nat.{ℕ}
 use mathlib.Core.Path.{sym, _∙_}
 use mathlib.Core.List.{List}
@@ -9,9 +9,9 @@ use Rattle.store.specs.Held.{Room, parts-lent}
 use Rattle.store.specs.Updated.{SameBehind}
 use Rattle.store.specs.Frame.{behind-pointed, behind-through}
 use Rattle.steps.specs.LentFilling.{room-kept}
-use Rattle.steps.specs.LentStep.{lent-behind, lent-fillable, lent-leads-to, lent-made, lent-never-past, lent-settleable}
-use Rattle.steps.proofs.step.made_into.Statement.{statement}
-use Rattle.steps.proofs.step.made_into.Tie as tie
+use Rattle.steps.specs.LentStep.{lent-behind, lent-fillable, lent-leads-to, lent-shown, lent-never-past}
+use Rattle.steps.proofs.step.shown_into.Statement.{statement}
+use Rattle.steps.proofs.step.shown_into.Tie as tie
 
 -- the calls before, seen from later ones
 abbrev moves-of : tie.After-put-point → tie.After-moved-into
@@ -19,9 +19,6 @@ moves-of points = points .before .before .before .before
 
 abbrev points-of : tie.After-filled-into → tie.After-put-point
 points-of fills = fills .before .before .before .before
-
-abbrev fills-of : tie.After-settled-into → tie.After-filled-into
-fills-of settles = settles .before .before .before .before
 
 -- the start, and the point that the step leads to
 abbrev start-of : tie.After-moved-into → tie.Start
@@ -107,48 +104,34 @@ filled-into-requires c κs =
       ),
     )
 
-settled-into-requires : tie.Need-settled-into-requires
-settled-into-requires c κs =
-    let fills = c .before .before .before in
-    let points = points-of fills in
-    let moves = moves-of points in
-    let s = start-of moves in (
-      room-kept (table-of moves) (pointed-of points) (filled-of fills) (parts-lent (table-of moves)) (fills .filled-into .ensures .1) (room-point points),
-      lent-settleable (table-of moves) (old-of moves) (moved-of moves) (pointed-of points) (to-of moves) (s .args .h .0)
-          (moves .moved-into .ensures .0) (points .put-point .ensures) (filled-of fills) (fills .filled-into .ensures .0) (s .pre .1 .1 .0),
-    )
-
 same-length : tie.Need-same-length
 same-length c = search needs
 
 returns-2 : tie.Need-returns-2
 returns-2 c =
-    let settles = c .before .before in
-    let fills = fills-of settles in
+    let fills = c .before .before in
     let points = points-of fills in
     let moves = moves-of points in
     let leads = moves .before .before .before .before .before in
     let s = leads .before .before .before .before .before in
     let asks = s .pre .1 .1 .1 .1 in
     let to = to-of moves in
-    let r = settles .settled-into .last .1 .0 in
     let led =
     lent-leads-to (table-of moves) (old-of moves) (leads .before .point-of .result) (s .args .h .0) (leads .before .point-of .ensures) (asks .0) (asks .1) to
     (sym (leads .step .ensures) ∙ moves .before .before .before .to .given .1) in (
-      lent-made (table-of moves) (old-of moves) (moved-of moves) (pointed-of points) to (s .args .h .0) (moves .moved-into .ensures .0)
-          (points .put-point .ensures) (filled-of fills) (fills .filled-into .ensures .0) r (settles .settled-into .ensures .0) led,
+      lent-shown (table-of moves) (old-of moves) (moved-of moves) (pointed-of points) to (s .args .h .0) (moves .moved-into .ensures .0)
+          (points .put-point .ensures) (filled-of fills) (fills .filled-into .ensures .0) led,
       (
-        (λ j low. settles .settled-into .ensures .1 .form j
-            (fills .filled-into .ensures .1 .form j
+        (λ j low. fills .filled-into .ensures .1 .form j
             (behind-pointed (parts-lent (table-of moves)) to (moved-of moves) (pointed-of points) (points .put-point .ensures) .form j
-            (moves .moved-into .ensures .1 .0 j low)))),
-        lent-behind (parts-lent (table-of moves)) (new-of moves) (moved-of moves) (pointed-of points) (filled-of fills) r to (moves .moved-into .ensures .1 .1)
-            (points .put-point .ensures) (fills .filled-into .ensures .1) (settles .settled-into .ensures .1),
+            (moves .moved-into .ensures .1 .0 j low))),
+        lent-behind (parts-lent (table-of moves)) (new-of moves) (moved-of moves) (pointed-of points) (filled-of fills) to (moves .moved-into .ensures .1 .1)
+            (points .put-point .ensures) (fills .filled-into .ensures .1),
       ),
     )
 
-pub made-into-spec : {M : Type 1} → statement M
-made-into-spec =
+pub shown-into-spec : {M : Type 1} → statement M
+shown-into-spec =
     tie.close
     (tie.spec
     point-of-requires
@@ -159,6 +142,5 @@ made-into-spec =
     moved-into-requires
     put-point-requires
     filled-into-requires
-    settled-into-requires
     same-length
     returns-2)

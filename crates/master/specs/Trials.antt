@@ -1,0 +1,73 @@
+-- A trial asked for objections before it is settled: what the parts would object to once they are settled is asked of each part, settled by its reading, one by
+-- one; and which kinds can object. Assumes nothing.
+use Prim.Native.Nat.{ℕ}
+use mathlib.Core.Path.{_≡_, refl, ap, _∙_}
+use mathlib.Core.Bool.{Bool, true, false, true≢false, _||_}
+use mathlib.Core.List.{List, [], _∷_, map}
+use Rattle.machine.specs.declared.signal.Signal.{Signal}
+use Rattle.machine.specs.declared.part.Kind.{Kind}
+use Rattle.machine.specs.declared.part.Kind.the-variants.{Constant, Gain, Adder, Square, Pulse, Delay, Integrator, ResetIntegrator, Detector, Hold, Sampler, Drive, Clapper}
+use Rattle.machine.specs.declared.part.Part.{Part}
+use Rattle.machine.specs.declared.model.Model.{Model}
+use Rattle.machine.specs.Lists.{any}
+use Rattle.machine.specs.Model.{reading0, trimmed-part, trimmed-component}
+use Rattle.machine.specs.Step.{settled, all-settled, step-made}
+use Rattle.machine.specs.Accept.{class}
+use Rattle.machine.specs.Advance.{objects, objects-as, any-objects}
+use Rattle.steps.specs.StepShown.{step-shown}
+
+-- a part objects once it is settled
+abbrev pub objects-settled : ℕ → List Part → Part → Bool
+objects-settled h ps p = objects h (settled (reading0 ps p) p)
+
+-- some part of the model does
+unfoldable pub any-objects-settled : ℕ → Model → Bool
+any-objects-settled h x = any (objects-settled h (x .parts)) (x .parts)
+
+-- a test of a list's images is a test of the list
+any-map : {A B : Type 0} (f : B → Bool) (g : A → B) (l : List A) → any f (map g l) ≡ any (λ (a : A). f (g a)) l
+unfolding any
+any-map f g [] = refl
+any-map f g (a ∷ l) = ap (λ (b : Bool). f (g a) || b) (any-map f g l)
+
+-- so it is asked of the step made
+pub objects-made : (m : Model) (h k : ℕ) → any-objects k (step-made m h) ≡ any-objects-settled k (step-shown m h)
+unfolding any-objects any-objects-settled step-made step-shown all-settled
+objects-made m h k = any-map (objects k) (λ (p : Part). settled (reading0 (step-shown m h .parts) p) p) (step-shown m h .parts)
+
+-- the kinds that can object
+abbrev pub detects : Kind → Bool
+detects Constant = false
+detects Gain = false
+detects Adder = false
+detects Square = false
+detects Pulse = false
+detects Delay = false
+detects Integrator = false
+detects ResetIntegrator = false
+detects Detector = true
+detects Hold = false
+detects Sampler = false
+detects Drive = false
+detects Clapper = false
+
+-- another does not
+never-objects : (k : Kind) (h : ℕ) (p : Part) → detects k ≡ false → objects-as (class k) h p ≡ false
+unfolding objects-as
+never-objects Constant h p e = refl
+never-objects Gain h p e = refl
+never-objects Adder h p e = refl
+never-objects Square h p e = refl
+never-objects Pulse h p e = refl
+never-objects Delay h p e = refl
+never-objects Integrator h p e = refl
+never-objects ResetIntegrator h p e = refl
+never-objects Detector h p e = absurd (true≢false e)
+never-objects Hold h p e = refl
+never-objects Sampler h p e = refl
+never-objects Drive h p e = refl
+never-objects Clapper h p e = refl
+
+pub passes-trial : (h : ℕ) (ps : List Part) (p : Part) → detects (p .component .kind) ≡ false → objects-settled h ps p ≡ false
+unfolding objects settled
+passes-trial h ps p e = never-objects (p .component .kind) h (settled (reading0 ps p) p) e
