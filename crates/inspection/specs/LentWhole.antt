@@ -22,7 +22,7 @@ use Rattle.soundness.specs.Magnitude.{magnitude-end}
 use Rattle.placing.specs.declared.Direct.{Direct}
 use Rattle.placing.specs.Direct.{direct-of}
 use Rattle.store.specs.Held.{lent, parts-lent, stored-component, stored-number, stored-part, stored-point, held}
-use Rattle.store.specs.Frame.{held-many, held-order, held-part, held-number}
+use Rattle.store.specs.StoreFrame.{held-many, held-order, held-part, held-number}
 use Rattle.inspection.specs.declared.survey.Survey.{Survey}
 use Rattle.inspection.specs.LentSurveyed.{LentSurveyed}
 use Rattle.inspection.specs.Parts.{part-fits}

@@ -17,7 +17,7 @@ ghost use Prim.Native.Nat.{_≤_};
 ghost use Rattle.machine.specs.Lists.{every};
 ghost use Rattle.machine.specs.Model.{trimmed, trimmed-part};
 ghost use Rattle.machine.specs.Time.{last-magnitude};
-ghost use Rattle.store.specs.Held.{Room, held, parts-lent};
+ghost use Rattle.store.specs.Held.{WordsThere, held, parts-lent};
 ghost use Rattle.inspection.specs.Parts.{part-fits, state-holds};
 
 // Whether a state may be that of a part of this kind with this ratio at tick t.
@@ -65,7 +65,7 @@ fn part_fits(p: Part, parts: usize, magnitude: u8, t: Ticks) -> bool
 
 // Whether every part may be one of the model's at tick `t`, by the master's magnitude.
 pub(crate) fn parts_fit_in(table: &[u64], state: &[u64], magnitude: u8, t: Ticks) -> bool
-    requires { ⌜ Room (now table) (now state) ⌝ }
+    requires { ⌜ WordsThere (now table) (now state) ⌝ }
     requires { ⌜ parts-lent (now table) ≤ 32 ⌝ }
     requires { ⌜ magnitude ≤ last-magnitude ⌝ }
     ensures { λ r. ⌜ r ≡ every (part-fits (parts-lent (now (table .entry))) magnitude (t .0)) (trimmed (held (now (table .entry)) (now (state .entry))) .parts) ⌝ }

@@ -12,7 +12,7 @@ use Rattle.machine.specs.Time.{tick}
 use Rattle.machine.specs.Model.{blank-part, trimmed, trimmed-part}
 use Rattle.machine.specs.Rehearse.{answer-line, blank, committed-line, line-feed, outputs-text, refused-line, signal-text}
 use Rattle.store.specs.Held.{held, parts-lent, stored-part, stored-point, stored-state}
-use Rattle.store.specs.Frame.{held-part}
+use Rattle.store.specs.StoreFrame.{held-part}
 use Rattle.lines.specs.LineNumbers.{numbers-text}
 use Rattle.lines.specs.LentLines.{lent-answer}
 

@@ -12,7 +12,7 @@ use writing::written::Written;
 use writing::written::write_text;
 ghost use Prim.Native.Nat.{ℕ, _≤_};
 ghost use Rattle.machine.specs.Rehearse.{answer-line};
-ghost use Rattle.store.specs.Held.{Room, parts-lent};
+ghost use Rattle.store.specs.Held.{WordsThere, parts-lent};
 ghost use Rattle.writing.specs.Written.{WrittenAs};
 ghost use Rattle.lines.specs.LentLines.{lent-answer};
 
@@ -30,7 +30,7 @@ pub fn write_lent(
     revisions: u64,
     buf: &mut [u8],
 ) -> Written
-    requires { ⌜ Room (now table) (now state) ⌝ }
+    requires { ⌜ WordsThere (now table) (now state) ⌝ }
     requires { ⌜ parts-lent (now table) ≤ 32 ⌝ }
     ensures { λ w. ⌜ ((ceiling : ℕ) → WrittenAs (answer-line (lent-answer (now (table .entry)) (now (state .entry)) number step rounds revisions ceiling)) (now (buf .entry)) (now (buf .exit)) w) ⌝ }
     ensures { λ w. ⌜ w .length ≤ 1024 ⌝ }

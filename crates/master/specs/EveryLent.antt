@@ -22,7 +22,7 @@ use Rattle.laws.specs.Bools.{either, cond-true, cond-false}
 use Rattle.wholelist.specs.Demand3.{whole-list}
 use Rattle.store.specs.Held.{parts-lent, state-words-of, held}
 use Rattle.store.specs.Form.{spelled}
-use Rattle.store.specs.Frame.{held-unused}
+use Rattle.store.specs.StoreFrame.{held-unused}
 use Rattle.master.specs.declared.verdict.Verdict.{Verdict}
 use Rattle.master.specs.Into.{verdict-of, lent-model, outcome-into, CalledInto}
 use Rattle.master.specs.IntoLaws.{into-machine}

@@ -20,7 +20,7 @@ use Rattle.stepsearch.specs.Outcomes.{outcome-barred, outcome-searched}
 use Rattle.store.specs.Held.{parts-lent, state-words-of, stored-point, held}
 use Rattle.store.specs.Form.{spelled}
 use Rattle.store.specs.Updated.{state-spelled, SameBehind}
-use Rattle.store.specs.Frame.{behind-none}
+use Rattle.store.specs.StoreFrame.{behind-none}
 use Rattle.store.specs.Respelled.{respelled}
 use Rattle.master.specs.declared.verdict.Verdict.{Verdict}
 use Rattle.master.specs.Searching.{Searched}

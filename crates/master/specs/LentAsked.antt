@@ -20,7 +20,7 @@ use Rattle.replies.specs.Askable.{AskFits}
 use Rattle.steps.specs.Reading.{source-index, heard, index-below, heard0}
 use Rattle.steps.specs.Fillable.{wired-at}
 use Rattle.store.specs.Held.{parts-lent, stored-state, stored-part, stored-point, held}
-use Rattle.store.specs.Frame.{held-part}
+use Rattle.store.specs.StoreFrame.{held-part}
 use Rattle.master.specs.Asked.{wired, period-of, askable, least-from, due-of-part, objects-trimmed}
 
 -- what is read of part i: the part, the number that its port 0 is wired to, the stored output there, and what it hears

@@ -23,7 +23,7 @@ ghost use Rattle.machine.specs.Model.{trimmed};
 ghost use Rattle.machine.specs.Sound.{sound};
 ghost use Rattle.machine.specs.Advance.{any-due, round};
 ghost use Rattle.steps.specs.StepShown.{Settleable};
-ghost use Rattle.store.specs.Held.{Room, held};
+ghost use Rattle.store.specs.Held.{WordsThere, held};
 ghost use Rattle.master.specs.Trials.{any-objects-settled, detects};
 
 // The smaller of two steps.
@@ -38,7 +38,7 @@ fn smaller(a: Ticks, b: Ticks) -> Ticks
 
 // A round at `h`: the least of the longest steps of at most `h` that the parts accept.
 pub(crate) fn round_in(table: &[u64], state: &[u64], h: Ticks) -> Ticks
-    requires { ⌜ Room (now table) (now state) ⌝ }
+    requires { ⌜ WordsThere (now table) (now state) ⌝ }
     requires { ⌜ sound (trimmed (held (now table) (now state))) ≡ true ⌝ }
     requires { ⌜ tick (held (now table) (now state) .point) + h .0 ≤ last-tick ⌝ }
     ensures { λ r. ⌜ r .0 ≡ round (trimmed (held (now (table .entry)) (now (state .entry)))) (h .0) ⌝ }
@@ -63,7 +63,7 @@ pub(crate) fn round_in(table: &[u64], state: &[u64], h: Ticks) -> Ticks
 
 // Whether some part is due.
 pub(crate) fn any_due_in(table: &[u64], state: &[u64]) -> bool
-    requires { ⌜ Room (now table) (now state) ⌝ }
+    requires { ⌜ WordsThere (now table) (now state) ⌝ }
     requires { ⌜ sound (trimmed (held (now table) (now state))) ≡ true ⌝ }
     ensures { λ r. ⌜ r ≡ any-due (trimmed (held (now (table .entry)) (now (state .entry)))) ⌝ }
 {
@@ -109,7 +109,7 @@ fn detects(k: Kind) -> bool
 // Whether some part of the trial, once it is settled, objects to the step of `h` that led there. Each part that can is settled by
 // itself and asked.
 pub(crate) fn any_objects_in(table: &[u64], h: Ticks, trial: &[u64]) -> bool
-    requires { ⌜ Room (now table) (now trial) ⌝ }
+    requires { ⌜ WordsThere (now table) (now trial) ⌝ }
     requires { ⌜ Settleable (trimmed (held (now table) (now trial))) ⌝ }
     ensures { λ r. ⌜ r ≡ any-objects-settled (h .0) (trimmed (held (now (table .entry)) (now (trial .entry)))) ⌝ }
 {

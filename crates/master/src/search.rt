@@ -19,14 +19,14 @@ ghost use Prim.Native.Nat.{ℕ, _+_, _≤_, _<_};
 ghost use Rattle.machine.specs.Time.{last-tick, tick};
 ghost use Rattle.machine.specs.Sound.{sound};
 ghost use Rattle.machine.specs.Advance.{searched};
-ghost use Rattle.store.specs.Held.{Room, held, parts-lent, state-words-of};
+ghost use Rattle.store.specs.Held.{WordsThere, held, parts-lent, state-words-of};
 ghost use Rattle.store.specs.Updated.{Copied, state-spelled};
 ghost use Rattle.master.specs.Into.{SearchedInto, lent-model};
 ghost use Rattle.master.specs.Searching.{refusal};
 
 // The number of the refusal of a step of `h` that all parts accept, 0 where it is made on trial.
 fn refusal_in(table: &[u64], state: &[u64], h: Ticks) -> u64
-    requires { ⌜ Room (now table) (now state) ⌝ }
+    requires { ⌜ WordsThere (now table) (now state) ⌝ }
     requires { ⌜ sound (lent-model (now table) (now state)) ≡ true ⌝ }
     ensures { λ r. ⌜ r ≡ refusal (lent-model (now (table .entry)) (now (state .entry))) (h .0) ⌝ }
 {
@@ -52,8 +52,8 @@ fn changed_nothing(least: Ticks, h: Ticks) -> bool
 
 // The state of a table copied, for a call that is refused after its search.
 fn kept_in(table: &[u64], old: &[u64], new: &mut [u64])
-    requires { ⌜ Room (now table) (now old) ⌝ }
-    requires { ⌜ Room (now table) (now new) ⌝ }
+    requires { ⌜ WordsThere (now table) (now old) ⌝ }
+    requires { ⌜ WordsThere (now table) (now new) ⌝ }
     ensures { λ r. ⌜ Copied (state-words-of (parts-lent (now (table .entry)))) (now (old .entry)) (now (new .entry)) (now (new .exit)) ⌝ }
 {
     let count = parts_of(table);
@@ -64,8 +64,8 @@ fn kept_in(table: &[u64], old: &[u64], new: &mut [u64])
 // step is then refused, or made on trial in `new`, and an objection to the trial halves the ceiling. A trial is settled where it is
 // taken up, and written over where it is dropped. Within the search, h and the ceiling are plain numbers; h counts ticks where parts are asked and a step is made.
 pub(crate) fn searched_into(table: &[u64], old: &[u64], w: u64, new: &mut [u64]) -> Verdict
-    requires { ⌜ Room (now table) (now old) ⌝ }
-    requires { ⌜ Room (now table) (now new) ⌝ }
+    requires { ⌜ WordsThere (now table) (now old) ⌝ }
+    requires { ⌜ WordsThere (now table) (now new) ⌝ }
     requires { ⌜ sound (lent-model (now table) (now old)) ≡ true ⌝ }
     requires { ⌜ w ≤ 1_000_000_000 ⌝ }
     requires { ⌜ tick (held (now table) (now old) .point) + w ≤ last-tick ⌝ }

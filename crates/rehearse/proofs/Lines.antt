@@ -24,7 +24,7 @@ use Rattle.writing.specs.Put.{Put}
 use Rattle.writing.specs.Written.{WrittenAs}
 use Rattle.store.specs.Held.{held}
 use Rattle.rehearse.specs.declared.play.Rehearsing.{Rehearsing}
-use Rattle.rehearse.specs.declared.play.Played.{Played}
+use Rattle.rehearse.specs.declared.play.CommandPlayed.{CommandPlayed}
 use Rattle.rehearse.specs.Playing.{stands-in, Playable, lines-at, lines-left, PlayedWanted, PlayedOne, PlayedTurn}
 
 -- what a written text's answer and buffer are, where the text fits
@@ -125,7 +125,7 @@ module _ (bs : List ℕ) (at : ℕ) where
           later = λ goes. absurd (true≢false goes);
         }
 
-    pub played-wanted : (w next used : ℕ) (before after : List ℕ) (r : Played) → score-at bs at ≡ Wanted w next →
+    pub played-wanted : (w next used : ℕ) (before after : List ℕ) (r : CommandPlayed) → score-at bs at ≡ Wanted w next →
         PlayedWanted ts os w next ns before used after r → r .used ≤ length after → PlayedOne bs at ts os ns before used after r
     unfolding lines-left
     played-wanted w next used before after r e wanted room =
@@ -154,7 +154,7 @@ exchanged-back false a b = refl
 
 -- where a rehearsal stands after a command that was asked of the second state, and of the first
 pub turned-back :
-    {bs ts a b before after : List ℕ} {at used : ℕ} {r : Played} (a₀ : List ℕ) (exchanged : Bool) → exchanged ≡ true →
+    {bs ts a b before after : List ℕ} {at used : ℕ} {r : CommandPlayed} (a₀ : List ℕ) (exchanged : Bool) → exchanged ≡ true →
     PlayedOne bs at ts b a before used after r →
     PlayedTurn bs at ts (stands-in exchanged a₀ b) a b before used after
     (record { ended = r .ended; number = 0; at = r .at; used = r .used; exchanged = not (r .moved) })
@@ -169,7 +169,7 @@ turned-back {a = a} {b = b} {r = r} a₀ exchanged e one =
     }
 
 pub turned-forth :
-    {bs ts a b before after : List ℕ} {at used : ℕ} {r : Played} (b₀ : List ℕ) (exchanged : Bool) → exchanged ≡ false →
+    {bs ts a b before after : List ℕ} {at used : ℕ} {r : CommandPlayed} (b₀ : List ℕ) (exchanged : Bool) → exchanged ≡ false →
     PlayedOne bs at ts a b before used after r →
     PlayedTurn bs at ts (stands-in exchanged a b₀) a b before used after
     (record { ended = r .ended; number = 0; at = r .at; used = r .used; exchanged = r .moved })

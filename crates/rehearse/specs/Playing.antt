@@ -14,14 +14,14 @@ use Rattle.store.specs.Held.{held, table-words, state-words-of}
 use Rattle.store.specs.Form.{spelled}
 use Rattle.writing.specs.Put.{Put}
 use Rattle.rehearse.specs.declared.play.Rehearsing.{Rehearsing}
-use Rattle.rehearse.specs.declared.play.Played.{Played}
+use Rattle.rehearse.specs.declared.play.CommandPlayed.{CommandPlayed}
 
 -- how many words have room for the table of any model, and for a state of it
-abbrev pub table-room : ℕ
-table-room = table-words most-parts
+abbrev pub most-table-words : ℕ
+most-table-words = table-words most-parts
 
-abbrev pub state-room : ℕ
-state-room = state-words-of most-parts
+abbrev pub most-state-words : ℕ
+most-state-words = state-words-of most-parts
 
 -- the state in which a rehearsal stands: the second of the two where they are exchanged
 abbrev pub stands-in : Bool → List ℕ → List ℕ → List ℕ
@@ -43,7 +43,7 @@ lines-left bs ended at m = cond ended [] (lines-at bs at m)
 -- A step was wanted, and an advance of the state os by it made, into ns: its line is behind the buffer's first bytes, and the model's state is that of the machine's
 -- answer.
 pub record PlayedWanted
-    (ts os : List ℕ) (w next : ℕ) (ns before : List ℕ) (used : ℕ) (after : List ℕ) (r : Played) : Type 0 where
+    (ts os : List ℕ) (w next : ℕ) (ns before : List ℕ) (used : ℕ) (after : List ℕ) (r : CommandPlayed) : Type 0 where
   pub line : Put 1024 (answer-line (advance (trimmed (held ts os)) w)) used before after (r .used)
   pub model : trimmed (held ts (cond (r .moved) ns os)) ≡ advance (trimmed (held ts os)) w .model
   pub playable : Playable ts (cond (r .moved) ns os)
@@ -53,7 +53,7 @@ pub record PlayedWanted
 -- One score command was played, of the state os, a step being made into ns: the buffer's first bytes and all lines from there on are the same text as before. Where
 -- the score did not end, the next command lies later, and the one played lay within the stream.
 pub record PlayedOne
-    (bs : List ℕ) (at : ℕ) (ts os ns before : List ℕ) (used : ℕ) (after : List ℕ) (r : Played) : Type 0 where
+    (bs : List ℕ) (at : ℕ) (ts os ns before : List ℕ) (used : ℕ) (after : List ℕ) (r : CommandPlayed) : Type 0 where
   pub lines :
       take used before ++ lines-at bs at (held ts os) ≡ take (r .used) after ++ lines-left bs (r .ended) (r .at) (held ts (cond (r .moved) ns os))
   pub room : r .used ≤ length after

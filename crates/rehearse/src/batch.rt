@@ -8,7 +8,7 @@ use loading::load;
 use store::intake::put_model;
 ghost use Prim.Native.Nat.{_≤_};
 ghost use lib.ListN.{length};
-ghost use Rattle.rehearse.specs.Playing.{table-room, state-room};
+ghost use Rattle.rehearse.specs.Playing.{most-table-words, most-state-words};
 ghost use Rattle.rehearse.specs.Batches.{standing, Ready, BytesRead, Begun, Batched};
 
 // How many bytes of an input are read.
@@ -28,8 +28,8 @@ fn bytes_read(input: &[u8]) -> usize
 // Where the rehearsal of an input begins, with the loaded model put into the words of `table` and `state`, the first of its
 // states: all that is printed for it is still to come.
 pub(crate) fn begun(input: &[u8], table: &mut [u64], state: &mut [u64]) -> Rehearsing
-    requires { ⌜ table-room ≤ length (now table) ⌝ }
-    requires { ⌜ state-room ≤ length (now state) ⌝ }
+    requires { ⌜ most-table-words ≤ length (now table) ⌝ }
+    requires { ⌜ most-state-words ≤ length (now state) ⌝ }
     ensures { λ r. ⌜ Begun (now (input .entry)) (now (table .exit)) (now (state .exit)) r ⌝ }
 {
     let n = bytes_read(input);
@@ -55,8 +55,8 @@ pub(crate) fn batch(
     lines: &mut [u8],
 ) -> Rehearsing
     requires { ⌜ Ready (standing from (now table) (now first) (now second)) ⌝ }
-    requires { ⌜ state-room ≤ length (now first) ⌝ }
-    requires { ⌜ state-room ≤ length (now second) ⌝ }
+    requires { ⌜ most-state-words ≤ length (now first) ⌝ }
+    requires { ⌜ most-state-words ≤ length (now second) ⌝ }
     ensures { λ r. ⌜ Batched (now (input .entry)) (standing from (now (table .entry)) (now (first .entry)) (now (second .entry))) (now (lines .exit)) (standing r (now (table .entry)) (now (first .exit)) (now (second .exit))) ⌝ }
     ensures ready { λ r. ⌜ Ready (standing r (now (table .entry)) (now (first .exit)) (now (second .exit))) ⌝ }
 {

@@ -10,10 +10,10 @@ use score::command::score_at;
 ghost use Prim.Native.Nat.{_+_, _≤_};
 ghost use lib.ListN.{length};
 ghost use Rattle.machine.specs.Rehearse.{answer-line, refused-at-line};
-ghost use Rattle.store.specs.Held.{parts-lent, Room};
+ghost use Rattle.store.specs.Held.{parts-lent, WordsThere};
 ghost use Rattle.lines.specs.LentLines.{lent-answer};
 ghost use Rattle.writing.specs.Put.{Put};
-ghost use Rattle.rehearse.specs.Playing.{stands-in, state-room, Playable, PlayedWanted, PlayedOne, PlayedTurn, PlayedSome};
+ghost use Rattle.rehearse.specs.Playing.{stands-in, most-state-words, Playable, PlayedWanted, PlayedOne, PlayedTurn, PlayedSome};
 
 // How many bytes have room for any line.
 pub(crate) const LINE: usize = 1024;
@@ -31,7 +31,7 @@ pub struct Rehearsing {
 
 // What one score command came to: whether the score ended; the position of the next command; how many bytes the lines
 // take; and whether the model's state is now the new one.
-pub struct Played {
+pub struct CommandPlayed {
     pub ended: bool,
     pub at: usize,
     pub used: usize,
@@ -49,7 +49,7 @@ pub(crate) fn put_refused_at(number: u64, position: usize, lines: &mut [u8], use
 
 // The line of a call that ended so and left the state `state`, behind the first `used` bytes.
 fn put_answer(table: &[u64], state: &[u64], v: Verdict, lines: &mut [u8], used: usize) -> usize
-    requires { ⌜ Room (now table) (now state) ⌝ }
+    requires { ⌜ WordsThere (now table) (now state) ⌝ }
     requires { ⌜ parts-lent (now table) ≤ 32 ⌝ }
     requires { ⌜ used + 1024 ≤ length (now lines) ⌝ }
     ensures { λ r. ⌜ Put 1024 (answer-line (lent-answer (now (table .entry)) (now (state .entry)) (v .number) (v .step) (v .rounds) (v .revisions) (v .ceiling))) used (now (lines .entry)) (now (lines .exit)) r ⌝ }
@@ -76,16 +76,16 @@ fn play_wanted(
     new: &mut [u64],
     lines: &mut [u8],
     used: usize,
-) -> Played
+) -> CommandPlayed
     requires { ⌜ Playable (now table) (now old) ⌝ }
-    requires { ⌜ state-room ≤ length (now new) ⌝ }
+    requires { ⌜ most-state-words ≤ length (now new) ⌝ }
     requires { ⌜ used + 1024 ≤ length (now lines) ⌝ }
     ensures { λ r. ⌜ PlayedWanted (now (table .entry)) (now (old .entry)) wanted next (now (new .exit)) (now (lines .entry)) used (now (lines .exit)) r ⌝ }
 {
     let v = advance_sound_into(table, old, wanted, new);
     if v.number != 0 {
         let end = put_answer(table, old, v, lines, used);
-        return Played {
+        return CommandPlayed {
             ended: false,
             at: next,
             used: end,
@@ -93,7 +93,7 @@ fn play_wanted(
         };
     }
     let end = put_answer(table, new, v, lines, used);
-    Played {
+    CommandPlayed {
         ended: false,
         at: next,
         used: end,
@@ -110,15 +110,15 @@ fn play_one(
     new: &mut [u64],
     lines: &mut [u8],
     used: usize,
-) -> Played
+) -> CommandPlayed
     requires { ⌜ Playable (now table) (now old) ⌝ }
-    requires { ⌜ state-room ≤ length (now new) ⌝ }
+    requires { ⌜ most-state-words ≤ length (now new) ⌝ }
     requires { ⌜ used + 1024 ≤ length (now lines) ⌝ }
     ensures { λ r. ⌜ PlayedOne (now (stream .entry)) at (now (table .entry)) (now (old .entry)) (now (new .exit)) (now (lines .entry)) used (now (lines .exit)) r ⌝ }
 {
     let s = score_at(stream, at);
     match s {
-        Score::End => Played {
+        Score::End => CommandPlayed {
             ended: true,
             at: at,
             used: used,
@@ -127,7 +127,7 @@ fn play_one(
         Score::Wanted(wanted, next) => play_wanted(table, old, wanted, next, new, lines, used),
         Score::Refused(number, position) => {
             let last = put_refused_at(number, position, lines, used);
-            Played {
+            CommandPlayed {
                 ended: true,
                 at: at,
                 used: last,
@@ -149,8 +149,8 @@ fn play_turn(
     used: usize,
 ) -> Rehearsing
     requires { ⌜ Playable (now table) (stands-in exchanged (now first) (now second)) ⌝ }
-    requires { ⌜ state-room ≤ length (now first) ⌝ }
-    requires { ⌜ state-room ≤ length (now second) ⌝ }
+    requires { ⌜ most-state-words ≤ length (now first) ⌝ }
+    requires { ⌜ most-state-words ≤ length (now second) ⌝ }
     requires { ⌜ used + 1024 ≤ length (now lines) ⌝ }
     ensures { λ r. ⌜ PlayedTurn (now (stream .entry)) at (now (table .entry)) (stands-in exchanged (now (first .entry)) (now (second .entry))) (now (first .exit)) (now (second .exit)) (now (lines .entry)) used (now (lines .exit)) r ⌝ }
 {
@@ -185,8 +185,8 @@ pub(crate) fn play_some(
     lines: &mut [u8],
 ) -> Rehearsing
     requires { ⌜ Playable (now table) (stands-in exchanged (now first) (now second)) ⌝ }
-    requires { ⌜ state-room ≤ length (now first) ⌝ }
-    requires { ⌜ state-room ≤ length (now second) ⌝ }
+    requires { ⌜ most-state-words ≤ length (now first) ⌝ }
+    requires { ⌜ most-state-words ≤ length (now second) ⌝ }
     ensures { λ r. ⌜ PlayedSome (now (stream .entry)) from (now (table .entry)) (stands-in exchanged (now (first .entry)) (now (second .entry))) (now (first .exit)) (now (second .exit)) (now (lines .exit)) r ⌝ }
 {
     let mut at = from;

@@ -16,9 +16,9 @@ use Rattle.machine.specs.Kind.{output}
 use Rattle.machine.specs.Model.{most-parts, part-at, with-parts, reading0, reading1, trimmed}
 use Rattle.machine.specs.Step.{with-output, shown, filled}
 use Rattle.point.specs.PartRanges as point
-use Rattle.store.specs.Held.{Room, table-words, state-words-of, parts-lent, stored-number, stored-part, stored-point, stored-state, held}
+use Rattle.store.specs.Held.{WordsThere, table-words, state-words-of, parts-lent, stored-number, stored-part, stored-point, stored-state, held}
 use Rattle.store.specs.Updated.{SameBehind}
-use Rattle.store.specs.Frame.{held-number, held-part}
+use Rattle.store.specs.StoreFrame.{held-number, held-part}
 use Rattle.store.specs.Shown.{OutputPut, held-shown}
 use Rattle.steps.specs.Reading.{WiredBelow, source-index, index-below, heard, heard0, heard1}
 use Rattle.steps.specs.Trimmed.{Changed}
@@ -26,14 +26,14 @@ use Rattle.steps.specs.Fillable.{Fillable, wired-at}
 use Rattle.steps.specs.Showing.{partly, Showable, number-below, half-wired, showable, shown-next, all-filled, heard-shown}
 
 -- the words of each part are there
-pub table-room : (ts ss : List ℕ) → Room ts ss → (j : ℕ) → j < parts-lent ts → table-words (j + 1) ≤ length ts
+pub table-room : (ts ss : List ℕ) → WordsThere ts ss → (j : ℕ) → j < parts-lent ts → table-words (j + 1) ≤ length ts
 table-room ts ss room j low = omega (arith, room .table, low)
 
-pub state-room : (ts ss : List ℕ) → Room ts ss → (j : ℕ) → j < parts-lent ts → state-words-of (j + 1) ≤ length ss
+pub state-room : (ts ss : List ℕ) → WordsThere ts ss → (j : ℕ) → j < parts-lent ts → state-words-of (j + 1) ≤ length ss
 state-room ts ss room j low = omega (arith, room .state, low)
 
 -- and still are once words were written in place
-pub room-kept : (ts a b : List ℕ) (n : ℕ) → SameBehind n a b → Room ts a → Room ts b
+pub room-kept : (ts a b : List ℕ) (n : ℕ) → SameBehind n a b → WordsThere ts a → WordsThere ts b
 room-kept ts a b n same room = record { table = room .table; state = rw (same .size) (room .state) }
 
 -- a turn that shows the part p with the number k, which is the i-th of the order, in the words ns; the words os stand at the point before, and ns₀ are those before

@@ -24,7 +24,7 @@ use Rattle.laws.specs.ListLaws.{getD-map-in}
 use Rattle.laws.specs.Partway.{mapped-length}
 use Rattle.store.specs.Held.{parts-lent, stored-component, stored-part, stored-point, stored-state, held}
 use Rattle.store.specs.Updated.{state-spelled, StatePut, SameBehind}
-use Rattle.store.specs.Frame.{held-many, held-part, held-put, state-kept, spelled-kept, behind-put, behind-none, behind-through}
+use Rattle.store.specs.StoreFrame.{held-many, held-part, held-put, state-kept, spelled-kept, behind-put, behind-none, behind-through}
 use Rattle.steps.specs.Reading.{SourceBelow, WiredBelow, source-index, heard, heard0, index-below, part-trimmed}
 use Rattle.steps.specs.Trimmed.{Changed, none-changed}
 use Rattle.steps.specs.Fillable.{Wired, part-in-use, wired-at, reading-in-use}

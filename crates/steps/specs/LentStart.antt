@@ -9,7 +9,7 @@ use Rattle.machine.specs.Model.{most-parts, trimmed}
 use Rattle.machine.specs.Table.{Table}
 use Rattle.machine.specs.Step.{filled, all-settled}
 use Rattle.machine.specs.Fresh.{fresh}
-use Rattle.store.specs.Held.{Room, held}
+use Rattle.store.specs.Held.{WordsThere, held}
 use Rattle.store.specs.Spelling.{spelled-room}
 use Rattle.store.specs.ModelPut.{ModelPut}
 use Rattle.store.specs.Recalled.{Recalled}
@@ -26,8 +26,8 @@ unfilled-few m u = rw (← ap (λ (x : Model). x .count) (u .is)) at (unfilled-f
 -- such a model in words, and the words ns of its state, copied
 module _ (m : Model) (u : Unfilled m) (ts os ns : List ℕ) (put : ModelPut m ts os) (copied : ns ≡ os) where
   -- all of the words are there
-  pub start-room : Room ts ns
-  start-room = subst (Room ts) (sym copied) (spelled-room ts os (put .form))
+  pub start-room : WordsThere ts ns
+  start-room = subst (WordsThere ts) (sym copied) (spelled-room ts os (put .form))
 
   -- what filling asks
   pub start-fillable : Fillable (trimmed (held ts os)) (trimmed (held ts ns))

@@ -14,7 +14,7 @@ use Rattle.machine.specs.Sound.{sound}
 use Rattle.machine.specs.Step.{all-moved, filled}
 use Rattle.store.specs.Held.{stored-point, held}
 use Rattle.store.specs.Updated.{PointPut, SameBehind}
-use Rattle.store.specs.Frame.{held-pointed, behind-pointed, behind-through}
+use Rattle.store.specs.StoreFrame.{held-pointed, behind-pointed, behind-through}
 use Rattle.steps.specs.Trimmed.{Changed}
 use Rattle.steps.specs.Fillable.{Fillable}
 use Rattle.steps.specs.StepMade.{at-point, never-past, leads-to, moved-is, made-fillable}

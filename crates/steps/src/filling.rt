@@ -13,15 +13,15 @@ use store::lookup::point_of;
 use store::update::put_output;
 ghost use Rattle.machine.specs.Model.{trimmed};
 ghost use Rattle.machine.specs.Step.{filled};
-ghost use Rattle.store.specs.Held.{Room, held, parts-lent};
+ghost use Rattle.store.specs.Held.{WordsThere, held, parts-lent};
 ghost use Rattle.store.specs.Updated.{SameBehind};
 ghost use Rattle.steps.specs.Trimmed.{Changed};
 ghost use Rattle.steps.specs.Fillable.{Fillable};
 
 // The outputs of `new` at its point, in the table's part order; `old` stands at the point before, which delays read.
 pub(crate) fn filled_into(table: &[u64], old: &[u64], new: &mut [u64])
-    requires { ⌜ Room (now table) (now old) ⌝ }
-    requires { ⌜ Room (now table) (now new) ⌝ }
+    requires { ⌜ WordsThere (now table) (now old) ⌝ }
+    requires { ⌜ WordsThere (now table) (now new) ⌝ }
     requires { ⌜ Fillable (trimmed (held (now table) (now old))) (trimmed (held (now table) (now new))) ⌝ }
     ensures { λ r. ⌜ Changed (held (now (table .entry)) (now (new .entry))) (filled (trimmed (held (now (table .entry)) (now (old .entry))) .parts) (held (now (table .entry)) (now (new .entry)) .point) (trimmed (held (now (table .entry)) (now (new .entry))) .order) (trimmed (held (now (table .entry)) (now (new .entry))) .parts)) (held (now (table .entry)) (now (new .exit))) ⌝ }
     ensures { λ r. ⌜ SameBehind (parts-lent (now (table .entry))) (now (new .entry)) (now (new .exit)) ⌝ }

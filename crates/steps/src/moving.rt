@@ -18,7 +18,7 @@ ghost use Rattle.machine.specs.Time.{last-tick, tick};
 ghost use Rattle.machine.specs.Model.{trimmed};
 ghost use Rattle.machine.specs.Sound.{sound};
 ghost use Rattle.machine.specs.Step.{all-moved};
-ghost use Rattle.store.specs.Held.{Room, held, parts-lent};
+ghost use Rattle.store.specs.Held.{WordsThere, held, parts-lent};
 ghost use Rattle.store.specs.Updated.{SameBehind, state-spelled};
 ghost use Rattle.steps.specs.Trimmed.{Changed};
 ghost use Rattle.steps.specs.StepMade.{at-point};
@@ -26,8 +26,8 @@ ghost use Rattle.steps.specs.StepMade.{at-point};
 // All parts moved by a step of `h`. Of `new` the records of the parts are written, each once; they are read from `old`
 // alone, and the point of `new` is kept.
 pub(crate) fn moved_into(table: &[u64], old: &[u64], h: Ticks, new: &mut [u64])
-    requires { ⌜ Room (now table) (now old) ⌝ }
-    requires { ⌜ Room (now table) (now new) ⌝ }
+    requires { ⌜ WordsThere (now table) (now old) ⌝ }
+    requires { ⌜ WordsThere (now table) (now new) ⌝ }
     requires { ⌜ sound (trimmed (held (now table) (now old))) ≡ true ⌝ }
     requires { ⌜ h .0 ≤ 1_000_000_000 ⌝ }
     requires { ⌜ tick (held (now table) (now old) .point) + h .0 ≤ last-tick ⌝ }

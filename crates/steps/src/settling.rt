@@ -14,7 +14,7 @@ use store::update::put_state;
 ghost use mathlib.Core.Path.{_≡_};
 ghost use Rattle.machine.specs.Model.{trimmed};
 ghost use Rattle.machine.specs.Step.{all-settled};
-ghost use Rattle.store.specs.Held.{Room, held, parts-lent};
+ghost use Rattle.store.specs.Held.{WordsThere, held, parts-lent};
 ghost use Rattle.store.specs.Updated.{SameBehind};
 ghost use Rattle.steps.specs.Trimmed.{Changed};
 ghost use Rattle.steps.specs.Fillable.{Wired};
@@ -44,7 +44,7 @@ fn settles(k: Kind) -> bool
 // All parts settled, one after the other in place: settling changes no stored output. A part that settling does not
 // change is passed over, by its kind alone.
 pub fn settled_into(table: &[u64], new: &mut [u64])
-    requires { ⌜ Room (now table) (now new) ⌝ }
+    requires { ⌜ WordsThere (now table) (now new) ⌝ }
     requires { ⌜ Wired (trimmed (held (now table) (now new))) ⌝ }
     ensures { λ r. ⌜ Changed (held (now (table .entry)) (now (new .entry))) (all-settled (trimmed (held (now (table .entry)) (now (new .entry))) .parts)) (held (now (table .entry)) (now (new .exit))) ⌝ }
     ensures { λ r. ⌜ SameBehind (parts-lent (now (table .entry))) (now (new .entry)) (now (new .exit)) ⌝ }

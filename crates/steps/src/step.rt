@@ -14,15 +14,15 @@ ghost use Rattle.machine.specs.Time.{last-microstep, last-tick, tick};
 ghost use Rattle.machine.specs.Model.{trimmed};
 ghost use Rattle.machine.specs.Sound.{sound};
 ghost use Rattle.steps.specs.StepShown.{step-shown};
-ghost use Rattle.store.specs.Held.{Room, held, parts-lent};
+ghost use Rattle.store.specs.Held.{WordsThere, held, parts-lent};
 ghost use Rattle.store.specs.Updated.{SameBehind, state-spelled};
 
 // The model of `old` after a step of `h`, in `new`, before it is settled: a trial is settled only where it is taken up. The
 // words behind the model's are kept. No model is copied: each part is read from `old` and written into `new`. What is
 // required rules out a step past the time.
 pub fn shown_into(table: &[u64], old: &[u64], h: Ticks, new: &mut [u64])
-    requires { ⌜ Room (now table) (now old) ⌝ }
-    requires { ⌜ Room (now table) (now new) ⌝ }
+    requires { ⌜ WordsThere (now table) (now old) ⌝ }
+    requires { ⌜ WordsThere (now table) (now new) ⌝ }
     requires { ⌜ sound (trimmed (held (now table) (now old))) ≡ true ⌝ }
     requires { ⌜ h .0 ≤ 1_000_000_000 ⌝ }
     requires { ⌜ tick (held (now table) (now old) .point) + h .0 ≤ last-tick ⌝ }

@@ -13,7 +13,7 @@ use Rattle.laws.specs.Bools.{and-left, and-right, and-intro}
 use Rattle.codec.specs.Tables.{table-same}
 use Rattle.store.specs.Held.{lent, table-words, stored-spans, stored-component, stored-ratio, stored-number}
 use Rattle.store.specs.Form.{table-limits, words-within}
-use Rattle.store.specs.Written.{Outside}
+use Rattle.store.specs.WordsWritten.{Outside}
 use Rattle.store.specs.Updated.{within-same}
 use Rattle.store.specs.TableRuns.{operand-limits, span-limits, wire-limits, OperandsPut, SpansPut, WiresPut}
 

@@ -87,6 +87,6 @@ held ts ss =
     }
 
 -- all words of the table and of the state are there
-pub record Room (ts ss : List ℕ) : Type 0 where
+pub record WordsThere (ts ss : List ℕ) : Type 0 where
   pub table : table-words (parts-lent ts) ≤ length ts
   pub state : state-words-of (parts-lent ts) ≤ length ss

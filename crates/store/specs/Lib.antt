@@ -1,9 +1,9 @@
 -- What words mean, whether they spell a model, what writing a part's state into them changes, and a model by value put into them and taking their state.
 pub mod Held
 pub mod Form
-pub mod Written
+pub mod WordsWritten
 pub mod Updated
-pub mod Frame
+pub mod StoreFrame
 pub mod Shown
 pub mod Spelling
 pub mod Respelled

@@ -15,7 +15,7 @@ use Rattle.codec.specs.Tables.{length-table, table-at, below-more}
 use Rattle.store.specs.Held.{lent, parts-lent, table-words, state-words-of, stored-ratio, stored-number, stored-part, stored-point, held}
 use Rattle.store.specs.Form.{table-limits, words-within, spelled}
 use Rattle.store.specs.Updated.{state-spelled, StatePut, PointPut, within-same}
-use Rattle.store.specs.Frame.{state-kept, spelled-kept, point-kept}
+use Rattle.store.specs.StoreFrame.{state-kept, spelled-kept, point-kept}
 use Rattle.store.specs.Spelling.{spelled-parts}
 use Rattle.store.specs.Respelled.{parts-all}
 use Rattle.store.specs.ComponentPut.{ComponentPut, same-component}

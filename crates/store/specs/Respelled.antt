@@ -12,7 +12,7 @@ use Rattle.laws.specs.Bools.{either}
 use Rattle.store.specs.Held.{parts-lent, table-words, state-words-of}
 use Rattle.store.specs.Form.{table-limits, words-within, part-spelled, parts-spelled, spelled}
 use Rattle.store.specs.Updated.{state-spelled}
-use Rattle.store.specs.Spelling.{Spelled, spelled-facts, spelled-parts}
+use Rattle.store.specs.Spelling.{SpellingFacts, spelled-facts, spelled-parts}
 
 -- each of the first n parts is spelled, where all are; and all are where each is
 parts-at : (ts ss : List ℕ) (n j : ℕ) → parts-spelled ts ss n ≡ true → j < n →
@@ -52,6 +52,6 @@ pub respelled : (ts os ss : List ℕ) → spelled ts os ≡ true → state-words
     ((j : ℕ) → j < parts-lent ts → state-spelled ss j ≡ true) → spelled ts ss ≡ true
 respelled ts os ss h deep each =
     let had = spelled-facts ts os h in
-    let kept : Spelled ts ss = record { two = had .two; magnitude = had .magnitude; few = had .few; table = had .table; state = deep } in
+    let kept : SpellingFacts ts ss = record { two = had .two; magnitude = had .magnitude; few = had .few; table = had .table; state = deep } in
     spelled-parts ts ss kept ∙
     parts-all ts ss (parts-lent ts) (λ j low. (parts-at ts os (parts-lent ts) j (all-parts ts os h) low .0, each j low))

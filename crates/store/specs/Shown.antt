@@ -15,9 +15,9 @@ use Rattle.laws.specs.Bools.{either, and-left, and-right}
 use Rattle.codec.specs.Decoded.{signal-of}
 use Rattle.store.specs.Held.{lent, parts-lent, state-words-of, stored-state, stored-part, held}
 use Rattle.store.specs.Form.{any-word, state-limits, words-within}
-use Rattle.store.specs.Written.{Outside, written, length-written, written-at, written-outside}
+use Rattle.store.specs.WordsWritten.{Outside, written, length-written, written-at, written-outside}
 use Rattle.store.specs.Updated.{state-spelled, SameBehind, within-all}
-use Rattle.store.specs.Frame.{KeptOutside, spelled-outside, held-outside}
+use Rattle.store.specs.StoreFrame.{KeptOutside, spelled-outside, held-outside}
 
 -- the state with another stored output
 abbrev pub state-shown : State → Signal → State

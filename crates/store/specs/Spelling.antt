@@ -12,7 +12,7 @@ use lib.Seq.{drop-cons}
 use lib.Dec.{leb}
 use borrow.Author.Tests.{leb-true, le-leb, lt-leb}
 use Rattle.machine.specs.Model.{most-parts}
-use Rattle.store.specs.Held.{lent, parts-lent, table-words, state-words-of, Room}
+use Rattle.store.specs.Held.{lent, parts-lent, table-words, state-words-of, WordsThere}
 use Rattle.store.specs.Form.{words-within, part-spelled, parts-spelled, spelled}
 
 -- the words at k and the limits, from place j on: the first of them, and those behind it
@@ -69,26 +69,26 @@ module _ (ts ss : List ℕ) where
       cases (inr less) before = rw (before (omega arith)) refl
 
   -- what the tests say of words that spell a model, but for the words of the parts
-  pub record Spelled : Type 0 where
+  pub record SpellingFacts : Type 0 where
     pub two : 2 ≤ length ts
     pub magnitude : lent ts 0 ≤ 255
     pub few : parts-lent ts ≤ most-parts
     pub table : table-words (parts-lent ts) ≤ length ts
     pub state : state-words-of (parts-lent ts) ≤ length ss
 
-  pub spelled-facts : spelled ts ss ≡ true → Spelled
+  pub spelled-facts : spelled ts ss ≡ true → SpellingFacts
   unfolding spelled
   spelled-facts h =
       let (((((two, magnitude), few), table), state), parts) = simp and-eq-true-iff at h in
       record { two = leb-true _ _ two; magnitude = leb-true _ _ magnitude; few = leb-true _ _ few; table = leb-true _ _ table; state = leb-true _ _ state }
 
   -- where they hold, the words spell a model where those of the parts do
-  pub spelled-parts : Spelled → spelled ts ss ≡ parts-spelled ts ss (parts-lent ts)
+  pub spelled-parts : SpellingFacts → spelled ts ss ≡ parts-spelled ts ss (parts-lent ts)
   unfolding spelled
   spelled-parts f = rw (le-leb _ _ (f .two), le-leb _ _ (f .magnitude), le-leb _ _ (f .few), le-leb _ _ (f .table), le-leb _ _ (f .state))
 
   -- so all words are there, of no more parts than a model may have
-  pub spelled-room : spelled ts ss ≡ true → Room ts ss
+  pub spelled-room : spelled ts ss ≡ true → WordsThere ts ss
   spelled-room h = let f = spelled-facts h in record { table = f .table; state = f .state }
 
   pub spelled-few : spelled ts ss ≡ true → parts-lent ts ≤ most-parts

@@ -23,7 +23,7 @@ use Rattle.codec.specs.Encoded.{signal-code, side-code, mark-code}
 use Rattle.codec.specs.Decoded.{side-coded, mark-coded, signal-of}
 use Rattle.store.specs.Held.{lent, state-words-of, stored-state, stored-point}
 use Rattle.store.specs.Form.{any-word, state-limits, words-within}
-use Rattle.store.specs.Written.{Outside, written, length-written, written-at, written-outside}
+use Rattle.store.specs.WordsWritten.{Outside, written, length-written, written-at, written-outside}
 
 -- the words of part i's state are within their limits
 abbrev pub state-spelled : List ℕ → ℕ → Bool

@@ -12,7 +12,7 @@ use Rattle.machine.specs.declared.model.Model.{Model}
 use Rattle.machine.specs.Model.{trimmed}
 use Rattle.machine.specs.Table.{table-of, magnitude-of}
 use Rattle.machine.specs.Sound.{sound}
-use Rattle.store.specs.Held.{Room, held, parts-lent}
+use Rattle.store.specs.Held.{WordsThere, held, parts-lent}
 use Rattle.store.specs.Form.{spelled}
 use Rattle.store.specs.Spelling.{spelled-few, spelled-room}
 use Rattle.inspection.specs.Whole.{order-holds, parts-hold, magnitude-holds, magnitude-by, passed, failed}
@@ -51,7 +51,7 @@ known c = c .before .before .before
 spells : (c : tie.Else1) → spelled (tables (c .before)) (states (c .before)) ≡ true
 spells c = sym (c .before .spelled .ensures) ∙ not-false (c .before .spelled .result) (c .if1 .left)
 
-room : (c : tie.Else1) → Room (tables (c .before)) (states (c .before))
+room : (c : tie.Else1) → WordsThere (tables (c .before)) (states (c .before))
 room c = spelled-room (tables (c .before)) (states (c .before)) (spells c)
 
 few : (c : tie.Else1) → parts-lent (tables (c .before)) ≤ 32

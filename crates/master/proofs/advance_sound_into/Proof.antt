@@ -8,7 +8,7 @@ use borrow.Author.Needs.{needs}
 use Rattle.machine.specs.Model.{trimmed}
 use Rattle.machine.specs.Advance.{barred}
 use Rattle.stepsearch.specs.Outcomes.{not-barred}
-use Rattle.store.specs.Held.{parts-lent, state-words-of, Room}
+use Rattle.store.specs.Held.{parts-lent, state-words-of, WordsThere}
 use Rattle.store.specs.Spelling.{spelled-room, spelled-few}
 use Rattle.store.specs.Respelled.{states-spelled}
 use Rattle.master.specs.Into.{lent-model, outcome-with, CalledInto}
@@ -21,7 +21,7 @@ abbrev start-of : tie.After-barred-number → tie.Start
 start-of bars = bars .before .before .before .before .before
 
 -- all words are there
-room : (s : tie.Start) → Room (s .args .table .now) (s .args .old .now)
+room : (s : tie.Start) → WordsThere (s .args .table .now) (s .args .old .now)
 room s = spelled-room (s .args .table .now) (s .args .old .now) (s .pre .0)
 
 -- the number is the machine's
@@ -104,7 +104,7 @@ searched-into-requires c κs =
     let os = s .args .old .now in
     let met = not-barred (lent-model ts os) (s .args .w) (free (test .before .before)) in
     let had = room s in
-    let spare : Room ts (s .args .new .now) = record { table = had .table; state = enough test } in
+    let spare : WordsThere ts (s .args .new .now) = record { table = had .table; state = enough test } in
     (had, (spare, (s .pre .1, (met .at-most, (met .in-time, states-spelled ts os (s .pre .0))))))
 
 same-length : tie.Need-same-length

@@ -17,7 +17,7 @@ use Rattle.writing.specs.declared.written.Written.{Written}
 use Rattle.writing.specs.Written.{WrittenAs}
 use Rattle.writing.specs.Pieces.{put-nothing, put-then, put-as}
 use Rattle.store.specs.Held.{held, parts-lent, stored-point, stored-state}
-use Rattle.store.specs.Frame.{held-many}
+use Rattle.store.specs.StoreFrame.{held-many}
 use Rattle.lines.specs.LineNumbers.{numbers-text}
 use Rattle.lines.specs.LentLines.{lent-answer}
 use Rattle.lines.proofs.Outputs.{outputs-more, lent-output, refused-lent, committed-lent}

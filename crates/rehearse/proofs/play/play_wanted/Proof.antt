@@ -1,6 +1,6 @@
 -- `play_wanted` asks for an advance and writes its line: of the new state where the call commits, which is then the model's; of the old one where it is refused.
 use native.Mathlib.Omega.{arith}
-use Rattle.rehearse.proofs.Calls.{line-words, moved-words, wanted-moved, wanted-kept}
+use Rattle.rehearse.proofs.WordCalls.{line-words, moved-words, wanted-moved, wanted-kept}
 use borrow.Author.Needs.{needs}
 use Rattle.rehearse.proofs.play.play_wanted.Statement.{statement}
 use Rattle.rehearse.proofs.play.play_wanted.Tie as tie

@@ -5,9 +5,9 @@ use Prim.Native.Nat.{ℕ, _-_, _≤_, _<_}
 use native.Mathlib.Omega.{arith}
 use mathlib.Core.List.{List}
 use Rattle.machine.specs.Step.{filled}
-use Rattle.store.specs.Held.{Room, held, parts-lent}
+use Rattle.store.specs.Held.{WordsThere, held, parts-lent}
 use Rattle.store.specs.Updated.{SameBehind}
-use Rattle.store.specs.Frame.{behind-none, behind-through}
+use Rattle.store.specs.StoreFrame.{behind-none, behind-through}
 use Rattle.store.specs.Shown.{behind-shown}
 use Rattle.steps.specs.Trimmed.{Changed, none-changed}
 use Rattle.steps.specs.Showing.{partly}
@@ -61,7 +61,7 @@ within : (test : tie.In-loop Inv-loop μ-loop) → test .before .loop .i < parts
 within test = rw (test .before .before .before .before .parts-of .ensures) at (test .loop-test .taken)
 
 -- the words of the new state are all there
-room-of : (test : tie.In-loop Inv-loop μ-loop) → Room (table-of test) (new-of test)
+room-of : (test : tie.In-loop Inv-loop μ-loop) → WordsThere (table-of test) (new-of test)
 room-of test =
     let s = start-of test in
     room-kept (table-of test) (first-of test) (new-of test) (parts-lent (table-of test)) (test .before .loop .inv .2) (s .pre .1 .0)

@@ -7,7 +7,7 @@ use mathlib.Core.List.{List}
 use lib.ListN.{length}
 use borrow.Author.Needs.{needs}
 use Rattle.store.specs.Held.{parts-lent}
-use Rattle.store.specs.Frame.{copied-whole}
+use Rattle.store.specs.StoreFrame.{copied-whole}
 use Rattle.store.specs.Spelling.{spelled-room}
 use Rattle.steps.specs.LentFilling.{room-kept}
 use Rattle.steps.specs.LentStart.{start-fillable, start-is, start-room, start-settleable, unfilled-few}

@@ -5,9 +5,9 @@ use mathlib.Core.Path.{sym, _∙_}
 use mathlib.Core.List.{List}
 use borrow.Author.Needs.{needs}
 use Rattle.machine.specs.declared.time.Point.{Point}
-use Rattle.store.specs.Held.{Room, parts-lent}
+use Rattle.store.specs.Held.{WordsThere, parts-lent}
 use Rattle.store.specs.Updated.{SameBehind}
-use Rattle.store.specs.Frame.{behind-pointed, behind-through}
+use Rattle.store.specs.StoreFrame.{behind-pointed, behind-through}
 use Rattle.steps.specs.LentFilling.{room-kept}
 use Rattle.steps.specs.LentStep.{lent-behind, lent-fillable, lent-leads-to, lent-shown, lent-never-past}
 use Rattle.steps.proofs.step.shown_into.Statement.{statement}
@@ -55,7 +55,7 @@ behind-point points =
     (behind-pointed n (to-of moves) (moved-of moves) (pointed-of points) (points .put-point .ensures))
 
 -- and the model's are all there
-room-point : (points : tie.After-put-point) → Room (table-of (moves-of points)) (pointed-of points)
+room-point : (points : tie.After-put-point) → WordsThere (table-of (moves-of points)) (pointed-of points)
 room-point points =
     let moves = moves-of points in
     let s = start-of moves in

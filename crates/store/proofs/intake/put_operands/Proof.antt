@@ -4,7 +4,7 @@ use mathlib.Core.Path.{_∙_}
 use mir.Syntax.{w64}
 use mir.ValLaws.{toZ-ofZ}
 use lib.ListN.{length-set}
-use Rattle.store.specs.Written.{written}
+use Rattle.store.specs.WordsWritten.{written}
 use Rattle.store.specs.TableRuns.{operands-put}
 use borrow.Author.Needs.{needs}
 use Rattle.store.proofs.intake.put_operands.Statement.{statement}

@@ -1,7 +1,7 @@
 -- `put_wires` writes the four words one behind another.
 use native.Mathlib.Omega.{arith}
 use lib.ListN.{length-set}
-use Rattle.store.specs.Written.{written}
+use Rattle.store.specs.WordsWritten.{written}
 use Rattle.store.specs.TableRuns.{wires-put}
 use borrow.Author.Needs.{needs}
 use Rattle.store.proofs.intake.put_wires.Statement.{statement}

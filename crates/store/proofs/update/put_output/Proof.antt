@@ -1,7 +1,7 @@
 -- `put_output` writes the two words of a stored output one behind the other.
 use native.Mathlib.Omega.{arith}
 use lib.ListN.{length-set}
-use Rattle.store.specs.Written.{written}
+use Rattle.store.specs.WordsWritten.{written}
 use Rattle.store.specs.Updated.{signal-limit}
 use Rattle.store.specs.Shown.{two-put}
 use borrow.Author.Needs.{needs}

@@ -4,7 +4,7 @@ use mathlib.Core.Path.{refl, _∙_}
 use mir.Syntax.{w64}
 use mir.ValLaws.{toZ-ofZ}
 use lib.ListN.{length-set}
-use Rattle.store.specs.Written.{written}
+use Rattle.store.specs.WordsWritten.{written}
 use Rattle.store.specs.Updated.{signal-limit, side-limit, mark-limit, side-same, mark-same, nine-put}
 use borrow.Author.Needs.{needs}
 use Rattle.store.proofs.update.put_state.Statement.{statement}

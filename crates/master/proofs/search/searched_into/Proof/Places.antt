@@ -12,9 +12,9 @@ use Rattle.machine.specs.Sound.{sound}
 use Rattle.machine.specs.Step.{step-made}
 use Rattle.machine.specs.Advance.{round, any-objects}
 use Rattle.steps.specs.StepShown.{Settleable, shown-settleable}
-use Rattle.store.specs.Held.{parts-lent, held, Room}
+use Rattle.store.specs.Held.{parts-lent, held, WordsThere}
 use Rattle.store.specs.Updated.{SameBehind}
-use Rattle.store.specs.Frame.{behind-through}
+use Rattle.store.specs.StoreFrame.{behind-through}
 use Rattle.master.specs.Searching.{refusal, Left, lowered, lower-below, halve-above}
 use Rattle.master.specs.Trials.{any-objects-settled, objects-made}
 use Rattle.master.specs.Into.{lent-model}
@@ -76,7 +76,7 @@ behind-at at =
     behind-through (parts-lent (s .args .table .now)) (s .args .new .now) (ceilings .new) (at .loop .new) (ceilings .inv .3) (at .loop .inv .4)
 
 -- so there is room for the new state
-pub room-at : (at : tie.At-loop Inv-loop μ-loop Inv-ceilings μ-ceilings) → Room (start-of at .args .table .now) (at .loop .new)
+pub room-at : (at : tie.At-loop Inv-loop μ-loop Inv-ceilings μ-ceilings) → WordsThere (start-of at .args .table .now) (at .loop .new)
 room-at at =
     let room = start-of at .pre .1 .0 in
     record { table = room .table; state = omega (arith, room .state, behind-at at .size) }
@@ -162,7 +162,7 @@ behind-trial tries =
     behind-through (parts-lent (s .args .table .now)) (s .args .new .now) (at .loop .new) (words-of tries) (behind-at at) (tries .shown-into .ensures .1 .1)
 
 -- there is room for it
-pub room-of-trial : (tries : tie.After-shown-into Inv-loop μ-loop Inv-ceilings μ-ceilings) → Room (start-of (loop-of-trial tries) .args .table .now) (words-of tries)
+pub room-of-trial : (tries : tie.After-shown-into Inv-loop μ-loop Inv-ceilings μ-ceilings) → WordsThere (start-of (loop-of-trial tries) .args .table .now) (words-of tries)
 room-of-trial tries =
     let room = start-of (loop-of-trial tries) .pre .1 .0 in
     record { table = room .table; state = omega (arith, room .state, behind-trial tries .size) }

@@ -15,13 +15,13 @@ use Rattle.machine.specs.Advance.{outcome, answer-with, advance}
 use Rattle.machine.specs.Rehearse.{answer-line}
 use Rattle.laws.specs.Bools.{cond-false}
 use Rattle.wholelist.specs.Bounds.{answer-sound}
-use Rattle.store.specs.Held.{parts-lent, Room}
+use Rattle.store.specs.Held.{parts-lent, WordsThere}
 use Rattle.store.specs.Spelling.{spelled-room, spelled-few}
 use Rattle.master.specs.declared.verdict.Verdict.{Verdict}
 use Rattle.master.specs.Into.{verdict-of, lent-model, outcome-with, CalledInto}
 use Rattle.master.specs.IntoLaws.{spelled-call, into-machine}
 use Rattle.writing.specs.Put.{Put}
-use Rattle.rehearse.specs.Playing.{state-room, Playable, PlayedWanted}
+use Rattle.rehearse.specs.Playing.{most-state-words, Playable, PlayedWanted}
 
 -- an answer of a model and a verdict
 abbrev shown : Model → Verdict → Answer
@@ -40,7 +40,7 @@ unfolding advance answer-with
 answer-shown m n w v model ends = ap₂ shown model ends
 
 -- words that can be played are all there, of at most 32 parts, so that a line of them can be written
-pub line-words : (ts ss : List ℕ) → Playable ts ss → Room ts ss × (parts-lent ts ≤ 32)
+pub line-words : (ts ss : List ℕ) → Playable ts ss → WordsThere ts ss × (parts-lent ts ≤ 32)
 line-words ts ss words = (spelled-room ts ss (words .form), spelled-few ts ss (words .form))
 
 -- a call of words that can be played
@@ -49,7 +49,7 @@ module _
     (w : ℕ)
     (v : Verdict)
     (words : Playable ts os)
-    (room : state-room ≤ length a)
+    (room : most-state-words ≤ length a)
     (called : CalledInto (outcome-with ts os w (length a)) ts os a b v) where
   -- the model that it is asked of
   abbrev before-it : Model

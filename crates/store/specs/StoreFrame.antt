@@ -20,7 +20,7 @@ use Rattle.codec.specs.Words.{table}
 use Rattle.codec.specs.Tables.{length-table, table-at, table-same}
 use Rattle.store.specs.Held.{lent, parts-lent, state-words-of, stored-number, stored-state, stored-part, stored-point, held}
 use Rattle.store.specs.Form.{state-limits}
-use Rattle.store.specs.Written.{Outside}
+use Rattle.store.specs.WordsWritten.{Outside}
 use Rattle.store.specs.Updated.{state-spelled, StatePut, PointPut, Copied, SameBehind, within-same}
 
 -- a table with one place set
