@@ -3,4 +3,5 @@ pub mod Spans
 pub mod Longest
 pub mod Ends
 pub mod Rounds
+pub mod Agreed
 pub mod FitParts

@@ -30,7 +30,7 @@ abbrev pub AllFew : Model → Type 0
 AllFew m = (i : ℕ) → i < length (m .parts) → length (part-at (m .parts) i .component .spans) ≤ 8
 
 -- the longest step of at most h that a part accepts where the model m stands
-abbrev longest-in : Model → ℕ → Part → ℕ
+abbrev pub longest-in : Model → ℕ → Part → ℕ
 longest-in m h p = longest p (m .point) (reading0 (m .parts) p) h
 
 -- the part's ends there
@@ -45,7 +45,7 @@ module _ (m : Model) (h : ℕ) where
   least-start best (p ∷ ps) = omega (arith, least-start (min best (longest-in m h p)) ps)
 
   -- and at most the longest step of each
-  least-each : (best : ℕ) (ps : List Part) (i : ℕ) → i < length ps → least m h best ps ≤ longest-in m h (part-at ps i)
+  pub least-each : (best : ℕ) (ps : List Part) (i : ℕ) → i < length ps → least m h best ps ≤ longest-in m h (part-at ps i)
   unfolding least
   least-each best [] i within = absurd (omega arith)
   least-each best (p ∷ ps) zero within = omega (arith, least-start (min best (longest-in m h p)) ps)

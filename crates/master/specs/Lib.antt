@@ -4,6 +4,7 @@ pub mod Asked
 pub mod Searching
 pub mod Barring
 pub mod LentAsked
+pub mod LaterRounds
 pub mod Trials
 pub mod LentTrial
 pub mod Into

@@ -7,6 +7,7 @@ use machine::time::Ticks;
 use point::change::settled_part;
 use replies::due::due_of;
 use replies::longest::longest_of;
+use replies::longest::longest_of_drive;
 use replies::objection::objects_of;
 use steps::heard::heard_of;
 use steps::heard::source_index;
@@ -17,13 +18,15 @@ use store::lookup::parts_of;
 use store::lookup::point_of;
 ghost use mathlib.Core.Path.{_≡_};
 ghost use mathlib.Core.Bool.{true};
-ghost use Prim.Native.Nat.{_+_, _≤_, min};
+ghost use Prim.Native.Nat.{_+_, _≤_, _<_, min};
 ghost use Rattle.machine.specs.Time.{last-tick, tick};
 ghost use Rattle.machine.specs.Model.{trimmed};
 ghost use Rattle.machine.specs.Sound.{sound};
 ghost use Rattle.machine.specs.Advance.{any-due, round};
+ghost use Rattle.acceptance.specs.Agreed.{Agreed};
 ghost use Rattle.steps.specs.StepShown.{Settleable};
 ghost use Rattle.store.specs.Held.{WordsThere, held};
+ghost use Rattle.master.specs.LaterRounds.{drives};
 ghost use Rattle.master.specs.Trials.{any-objects-settled, detects};
 
 // The smaller of two steps.
@@ -37,7 +40,7 @@ fn smaller(a: Ticks, b: Ticks) -> Ticks
 }
 
 // A round at `h`: the least of the longest steps of at most `h` that the parts accept.
-pub(crate) fn round_in(table: &[u64], state: &[u64], h: Ticks) -> Ticks
+fn round_in(table: &[u64], state: &[u64], h: Ticks) -> Ticks
     requires { ⌜ WordsThere (now table) (now state) ⌝ }
     requires { ⌜ sound (trimmed (held (now table) (now state))) ≡ true ⌝ }
     requires { ⌜ tick (held (now table) (now state) .point) + h .0 ≤ last-tick ⌝ }
@@ -59,6 +62,69 @@ pub(crate) fn round_in(table: &[u64], state: &[u64], h: Ticks) -> Ticks
         i += 1;
     }
     best
+}
+
+// Whether a part of the kind is a drive.
+fn drives(k: Kind) -> bool
+    ensures { λ r. ⌜ r ≡ drives k ⌝ }
+{
+    match k {
+        Kind::Constant => false,
+        Kind::Gain => false,
+        Kind::Adder => false,
+        Kind::Square => false,
+        Kind::Pulse => false,
+        Kind::Delay => false,
+        Kind::Integrator => false,
+        Kind::ResetIntegrator => false,
+        Kind::Detector => false,
+        Kind::Hold => false,
+        Kind::Sampler => false,
+        Kind::Drive => true,
+        Kind::Clapper => false,
+    }
+}
+
+// A round at `h`, where every part that is no drive accepts `h`: the drives alone are asked.
+fn drives_in(table: &[u64], state: &[u64], h: Ticks) -> Ticks
+    requires { ⌜ WordsThere (now table) (now state) ⌝ }
+    requires { ⌜ sound (trimmed (held (now table) (now state))) ≡ true ⌝ }
+    requires { ⌜ tick (held (now table) (now state) .point) + h .0 ≤ last-tick ⌝ }
+    requires { ⌜ Agreed (trimmed (held (now table) (now state))) (h .0) ⌝ }
+    ensures { λ r. ⌜ r .0 ≡ round (trimmed (held (now (table .entry)) (now (state .entry)))) (h .0) ⌝ }
+{
+    let count = parts_of(table);
+    let now = point_of(state);
+    let t = now.t;
+    let mut best = h;
+    let mut i: usize = 0;
+    while i < count {
+        let kind = kind_in(table, i);
+        if !drives(kind) {
+            i += 1;
+            continue;
+        }
+        let p = part_at(table, state, i);
+        let longest = longest_of_drive(p, t, h);
+        best = smaller(best, longest);
+        i += 1;
+    }
+    best
+}
+
+// A round at `h`, with `rounds` of the same advance before it: the first asks every part, and each behind it the drives alone, since
+// the other parts accept every step up to the longest that they accepted.
+pub(crate) fn least_in(table: &[u64], state: &[u64], h: Ticks, rounds: u64) -> Ticks
+    requires { ⌜ WordsThere (now table) (now state) ⌝ }
+    requires { ⌜ sound (trimmed (held (now table) (now state))) ≡ true ⌝ }
+    requires { ⌜ tick (held (now table) (now state) .point) + h .0 ≤ last-tick ⌝ }
+    requires { ⌜ (0 < rounds → Agreed (trimmed (held (now table) (now state))) (h .0)) ⌝ }
+    ensures { λ r. ⌜ r .0 ≡ round (trimmed (held (now (table .entry)) (now (state .entry)))) (h .0) ⌝ }
+{
+    if rounds == 0 {
+        return round_in(table, state, h);
+    }
+    drives_in(table, state, h)
 }
 
 // Whether some part is due.

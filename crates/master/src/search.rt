@@ -3,7 +3,7 @@
 // Its contracts cite this crate's `specs/Into.antt` and `specs/Searching.antt`, which go by `machine`'s `specs/Advance.antt`.
 use crate::asking::any_due_in;
 use crate::asking::any_objects_in;
-use crate::asking::round_in;
+use crate::asking::least_in;
 use crate::past::leads_past;
 use crate::verdict::Verdict;
 use machine::time::Ticks;
@@ -78,7 +78,7 @@ pub(crate) fn searched_into(table: &[u64], old: &[u64], w: u64, new: &mut [u64])
     let mut revisions: u64 = 0;
     'ceilings: loop {
         loop {
-            let least = round_in(table, old, Ticks(h));
+            let least = least_in(table, old, Ticks(h), rounds);
             rounds += 1;
             if changed_nothing(least, Ticks(h)) {
                 let number = refusal_in(table, old, Ticks(h));

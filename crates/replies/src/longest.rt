@@ -41,7 +41,7 @@ fn last_adding(ratio: u64, t: Ticks, v: u64) -> Ticks
 }
 
 // A drive's longest step of at most `h` from the tick `t`.
-fn longest_of_drive(p: Part, t: Ticks, h: Ticks) -> Ticks
+pub fn longest_of_drive(p: Part, t: Ticks, h: Ticks) -> Ticks
     requires { ⌜ AskFits (t .0) (h .0) p ⌝ }
     ensures { λ r. ⌜ r .0 ≡ longest-as driving (trimmed-part p) (t .0) (h .0) ⌝ }
 {

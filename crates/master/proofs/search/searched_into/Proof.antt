@@ -1,11 +1,12 @@
 -- `searched_into` is the search on words. Both loops keep that the search from here comes to the outcome of the whole, that neither the rounds nor the
--- revisions, with h, are above w, and that the words behind the new state's are kept; the inner one also that h is at most what it began with. The measure
--- of both is h.
+-- revisions, with h, are above w, that the words behind the new state's are kept, and that behind a round the parts that are no drives accept h; the inner one
+-- also that h is at most what it began with. The measure of both is h.
 use Prim.Native.Nat.{ℕ, _+_}
 use native.Mathlib.Omega.{arith}
 use mathlib.Core.Path.{_≡_, refl, sym, ap, subst, _∙_}
 use Rattle.machine.specs.Model.{trimmed}
 use Rattle.machine.specs.Advance.{any-objects}
+use Rattle.acceptance.specs.Agreed.{Agreed, round-agreed, agreed-below}
 use Rattle.steps.specs.StepShown.{settled-made}
 use Rattle.store.specs.Held.{parts-lent, held}
 use Rattle.store.specs.Updated.{SameBehind}
@@ -21,17 +22,17 @@ mod Places
 ceilings-holds : tie.Need-ceilings-holds Inv-loop μ-loop Inv-ceilings μ-ceilings
 ceilings-holds c =
     let s = c .before .before .before in
-    (left-start (lent-model (s .args .table .now) (s .args .old .now)) (s .args .w), omega arith, omega arith, behind-none _ _)
+    (left-start (lent-model (s .args .table .now) (s .args .old .now)) (s .args .w), omega arith, omega arith, behind-none _ _, λ some. absurd (omega arith))
 
 loop-holds : tie.Need-loop-holds Inv-loop μ-loop Inv-ceilings μ-ceilings
 loop-holds c =
     let inv = c .ceilings .inv in
-    (inv .0, inv .1, inv .2, omega arith, behind-none _ _)
+    (inv .0, inv .1, inv .2, omega arith, behind-none _ _, inv .4)
 
-round-in-requires : tie.Need-round-in-requires Inv-loop μ-loop Inv-ceilings μ-ceilings
-round-in-requires c κs =
+least-in-requires : tie.Need-least-in-requires Inv-loop μ-loop Inv-ceilings μ-ceilings
+least-in-requires c κs =
     let s = start-of c in
-    (s .pre .0, (is-sound-at s, omega (arith, far s, c .loop .inv .1)))
+    (s .pre .0, (is-sound-at s, (omega (arith, far s, c .loop .inv .1), c .loop .inv .5)))
 
 add-rounds : tie.Need-add-rounds Inv-loop μ-loop Inv-ceilings μ-ceilings
 add-rounds c =
@@ -76,12 +77,13 @@ loop-again c =
     let below = lowers c in
     let inv = at .loop .inv in (
       subst (λ (l : ℕ). Left (model-of at) (s .args .w) (ceilings .ceiling) l (at .loop .rounds + 1) (ceilings .revisions))
-          (sym (rounds .round-in .ensures))
+          (sym (rounds .least-in .ensures))
           (lowered (model-of at) (is-sound-at s) (s .args .w) (ceilings .ceiling) (at .loop .h) (at .loop .rounds) (ceilings .revisions) (inv .0) (changed c)),
       omega (arith, below, inv .1),
       omega (arith, below, inv .2),
       omega (arith, below, inv .3),
       inv .4,
+      λ some. subst (Agreed (model-of at)) (sym (rounds .least-in .ensures)) (round-agreed (model-of at) (at .loop .h)),
     )
 
 add-revisions : tie.Need-add-revisions Inv-loop μ-loop Inv-ceilings μ-ceilings
@@ -102,12 +104,14 @@ ceilings-again c =
     let s = start-of at in
     let ceilings = at .before .ceilings in
     let two = halves c in
+    let accepts = subst (Agreed (model-of at)) (kept (refusal-of-trial tries)) (round-agreed (model-of at) (at .loop .h)) in
     let inv = at .loop .inv in (
       halved (model-of at) (is-sound-at s) (s .args .w) (ceilings .ceiling) (at .loop .h) (at .loop .rounds) (ceilings .revisions) (inv .0)
           (kept (refusal-of-trial tries)) (not-refused (tries .before .before)) (objected c),
       omega (arith, two, inv .1),
       omega (arith, two, inv .2),
       behind-trial tries,
+      λ some. agreed-below (model-of at) (at .loop .h) _ accepts (omega arith),
     )
 
 -- what a refusal leaves: the old state, copied
@@ -191,7 +195,7 @@ searched-into-spec =
     μ-ceilings
     ceilings-holds
     loop-holds
-    round-in-requires
+    least-in-requires
     add-rounds
     changed-nothing-requires
     refusal-in-requires

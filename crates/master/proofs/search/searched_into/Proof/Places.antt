@@ -11,6 +11,7 @@ use Rattle.machine.specs.Time.{tick, last-tick}
 use Rattle.machine.specs.Sound.{sound}
 use Rattle.machine.specs.Step.{step-made}
 use Rattle.machine.specs.Advance.{round, any-objects}
+use Rattle.acceptance.specs.Agreed.{Agreed}
 use Rattle.steps.specs.StepShown.{Settleable, shown-settleable}
 use Rattle.store.specs.Held.{parts-lent, held, WordsThere}
 use Rattle.store.specs.Updated.{SameBehind}
@@ -23,14 +24,15 @@ use Rattle.master.proofs.search.searched_into.Tie as tie
 abbrev pub Inv-loop : tie.InvT-loop
 Inv-loop table old w new₀ ceiling h₀ rounds₀ revisions new h rounds =
     Left (lent-model table old) w ceiling h rounds revisions × (rounds + h ≤ w) × (revisions + h ≤ w) × (h ≤ h₀) ×
-    SameBehind (parts-lent table) new₀ new
+    SameBehind (parts-lent table) new₀ new × (0 < rounds → Agreed (lent-model table old) h)
 
 abbrev pub μ-loop : tie.MeasureT-loop
 μ-loop table old w new₀ ceiling h₀ rounds₀ revisions new h rounds = h
 
 abbrev pub Inv-ceilings : tie.InvT-ceilings
 Inv-ceilings table old w new₀ ceiling₀ h₀ rounds₀ revisions₀ new ceiling h rounds revisions =
-    Left (lent-model table old) w ceiling h rounds revisions × (rounds + h ≤ w) × (revisions + h ≤ w) × SameBehind (parts-lent table) new₀ new
+    Left (lent-model table old) w ceiling h rounds revisions × (rounds + h ≤ w) × (revisions + h ≤ w) × SameBehind (parts-lent table) new₀ new ×
+    (0 < rounds → Agreed (lent-model table old) h)
 
 abbrev pub μ-ceilings : tie.MeasureT-ceilings
 μ-ceilings table old w new₀ ceiling₀ h₀ rounds₀ revisions₀ new ceiling h rounds revisions = h
@@ -88,18 +90,18 @@ pub changed :
     round (model-of at) (at .loop .h) ≡ at .loop .h → ⊥
 changed c same =
     let rounds = c .before .before in
-    eqb-false (rounds .round-in .result .0) (rounds .before .loop .h) (sym (c .before .changed-nothing .ensures) ∙ c .if1 .left)
-    (rounds .round-in .ensures ∙ same)
+    eqb-false (rounds .least-in .result .0) (rounds .before .loop .h) (sym (c .before .changed-nothing .ensures) ∙ c .if1 .left)
+    (rounds .least-in .ensures ∙ same)
 
 -- lowered it
 pub lowers :
     (c : tie.Else1 Inv-loop μ-loop Inv-ceilings μ-ceilings) →
     let rounds = c .before .before in
-    rounds .round-in .result .0 < rounds .before .loop .h
+    rounds .least-in .result .0 < rounds .before .loop .h
 lowers c =
     let rounds = c .before .before in
     let at = rounds .before in
-    rw (rounds .round-in .ensures) (lower-below (model-of at) (is-sound-at (start-of at)) (at .loop .h) (changed c))
+    rw (rounds .least-in .ensures) (lower-below (model-of at) (is-sound-at (start-of at)) (at .loop .h) (changed c))
 
 -- one that changed nothing
 pub kept :
@@ -109,8 +111,8 @@ pub kept :
 kept refuses =
     let tests = refuses .before .before in
     let rounds = tests .before in
-    sym (rounds .round-in .ensures) ∙
-    eqb-true (rounds .round-in .result .0) (rounds .before .loop .h) (sym (tests .changed-nothing .ensures) ∙ refuses .before .if1 .taken)
+    sym (rounds .least-in .ensures) ∙
+    eqb-true (rounds .least-in .result .0) (rounds .before .loop .h) (sym (tests .changed-nothing .ensures) ∙ refuses .before .if1 .taken)
 
 -- the step is not refused
 pub not-refused :
