@@ -23,7 +23,6 @@ ghost use Rattle.machine.specs.Calls.{Advanced};
 ghost use Rattle.store.specs.Form.{spelled};
 ghost use Rattle.master.specs.Into.{CalledInto, lent-model, outcome-into, outcome-with, verdict-of};
 
-mod asking;
 mod barring;
 mod past;
 mod search;

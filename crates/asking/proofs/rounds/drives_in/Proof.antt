@@ -9,11 +9,11 @@ use borrow.Author.Tests.{not-true, not-false}
 use Rattle.machine.specs.Model.{trimmed}
 use Rattle.machine.specs.Advance.{least, round}
 use Rattle.store.specs.Held.{parts-lent, held}
-use Rattle.master.specs.Asked.{least-end}
-use Rattle.master.specs.LentAsked.{askable-lent}
-use Rattle.master.specs.LaterRounds.{later-passes, later-drive}
-use Rattle.master.proofs.asking.drives_in.Statement.{statement}
-use Rattle.master.proofs.asking.drives_in.Tie as tie
+use Rattle.asking.specs.Asked.{least-end}
+use Rattle.asking.specs.LentAsked.{askable-lent}
+use Rattle.asking.specs.LaterRounds.{later-passes, later-drive}
+use Rattle.asking.proofs.rounds.drives_in.Statement.{statement}
+use Rattle.asking.proofs.rounds.drives_in.Tie as tie
 
 abbrev Inv-loop : tie.InvT-loop
 Inv-loop table state h count t best₀ i₀ best i =

@@ -12,10 +12,10 @@ use Rattle.machine.specs.Model.{part-at, reading0, trimmed, trimmed-part}
 use Rattle.machine.specs.Accept.{due}
 use Rattle.machine.specs.Advance.{any-due}
 use Rattle.store.specs.Held.{parts-lent, held}
-use Rattle.master.specs.Asked.{any-hit, any-miss, any-end}
-use Rattle.master.specs.LentAsked.{Asks, source-lent, period-lent, due-lent}
-use Rattle.master.proofs.asking.any_due_in.Statement.{statement}
-use Rattle.master.proofs.asking.any_due_in.Tie as tie
+use Rattle.asking.specs.Asked.{any-hit, any-miss, any-end}
+use Rattle.asking.specs.LentAsked.{Asks, source-lent, period-lent, due-lent}
+use Rattle.asking.proofs.dues.any_due_in.Statement.{statement}
+use Rattle.asking.proofs.dues.any_due_in.Tie as tie
 
 -- the test that is made of each part
 abbrev is-due : Model → Part → Bool

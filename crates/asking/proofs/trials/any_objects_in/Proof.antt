@@ -12,11 +12,11 @@ use Rattle.machine.specs.Lists.{any}
 use Rattle.machine.specs.Model.{part-at, trimmed}
 use Rattle.machine.specs.Advance.{objects}
 use Rattle.store.specs.Held.{parts-lent, held}
-use Rattle.master.specs.LentAsked.{Asks}
-use Rattle.master.specs.Trials.{objects-settled, any-objects-settled, detects, passes-trial}
-use Rattle.master.specs.LentTrial.{trial-hit, trial-miss, trial-end, trial-source, trial-period, trial-objects, trial-kind}
-use Rattle.master.proofs.asking.any_objects_in.Statement.{statement}
-use Rattle.master.proofs.asking.any_objects_in.Tie as tie
+use Rattle.asking.specs.LentAsked.{Asks}
+use Rattle.asking.specs.Trials.{objects-settled, any-objects-settled, detects, passes-trial}
+use Rattle.asking.specs.LentTrial.{trial-hit, trial-miss, trial-end, trial-source, trial-period, trial-objects, trial-kind}
+use Rattle.asking.proofs.trials.any_objects_in.Statement.{statement}
+use Rattle.asking.proofs.trials.any_objects_in.Tie as tie
 
 abbrev Inv-loop : tie.InvT-loop
 Inv-loop table h trial count i₀ i =

@@ -1,14 +1,10 @@
-// What all parts of a model in words reply: the least of their longest steps, whether one is due, and whether one
-// objects to a trial.
+// A round of all parts of a model in words: the least of their longest steps.
 //
-// Its contracts cite `machine`'s `specs/Advance.antt` and `store`'s `specs/Held.antt`.
+// Its contracts cite `machine`'s `specs/Advance.antt`, `acceptance`'s `specs/Agreed.antt` and `store`'s `specs/Held.antt`.
 use machine::part::Kind;
 use machine::time::Ticks;
-use point::change::settled_part;
-use replies::due::due_of;
 use replies::longest::longest_of;
 use replies::longest::longest_of_drive;
-use replies::objection::objects_of;
 use steps::heard::heard_of;
 use steps::heard::source_index;
 use store::lookup::kind_in;
@@ -22,12 +18,10 @@ ghost use Prim.Native.Nat.{_+_, _≤_, _<_, min};
 ghost use Rattle.machine.specs.Time.{last-tick, tick};
 ghost use Rattle.machine.specs.Model.{trimmed};
 ghost use Rattle.machine.specs.Sound.{sound};
-ghost use Rattle.machine.specs.Advance.{any-due, round};
+ghost use Rattle.machine.specs.Advance.{round};
 ghost use Rattle.acceptance.specs.Agreed.{Agreed};
-ghost use Rattle.steps.specs.StepShown.{Settleable};
 ghost use Rattle.store.specs.Held.{WordsThere, held};
-ghost use Rattle.master.specs.LaterRounds.{drives};
-ghost use Rattle.master.specs.Trials.{any-objects-settled, detects};
+ghost use Rattle.asking.specs.LaterRounds.{drives};
 
 // The smaller of two steps.
 fn smaller(a: Ticks, b: Ticks) -> Ticks
@@ -114,7 +108,7 @@ fn drives_in(table: &[u64], state: &[u64], h: Ticks) -> Ticks
 
 // A round at `h`, with `rounds` of the same advance before it: the first asks every part, and each behind it the drives alone, since
 // the other parts accept every step up to the longest that they accepted.
-pub(crate) fn least_in(table: &[u64], state: &[u64], h: Ticks, rounds: u64) -> Ticks
+pub fn least_in(table: &[u64], state: &[u64], h: Ticks, rounds: u64) -> Ticks
     requires { ⌜ WordsThere (now table) (now state) ⌝ }
     requires { ⌜ sound (trimmed (held (now table) (now state))) ≡ true ⌝ }
     requires { ⌜ tick (held (now table) (now state) .point) + h .0 ≤ last-tick ⌝ }
@@ -125,79 +119,4 @@ pub(crate) fn least_in(table: &[u64], state: &[u64], h: Ticks, rounds: u64) -> T
         return round_in(table, state, h);
     }
     drives_in(table, state, h)
-}
-
-// Whether some part is due.
-pub(crate) fn any_due_in(table: &[u64], state: &[u64]) -> bool
-    requires { ⌜ WordsThere (now table) (now state) ⌝ }
-    requires { ⌜ sound (trimmed (held (now table) (now state))) ≡ true ⌝ }
-    ensures { λ r. ⌜ r ≡ any-due (trimmed (held (now (table .entry)) (now (state .entry)))) ⌝ }
-{
-    let count = parts_of(table);
-    let now = point_of(state);
-    let mut i: usize = 0;
-    while i < count {
-        let p = part_at(table, state, i);
-        let c = p.component;
-        let s = c.port0;
-        let k = source_index(s);
-        let out = output_at(state, k);
-        let x = heard_of(s, out);
-        if due_of(p, now, x) {
-            return true;
-        }
-        i += 1;
-    }
-    false
-}
-
-// Whether a part of the kind can object to a trial.
-fn detects(k: Kind) -> bool
-    ensures { λ r. ⌜ r ≡ detects k ⌝ }
-{
-    match k {
-        Kind::Constant => false,
-        Kind::Gain => false,
-        Kind::Adder => false,
-        Kind::Square => false,
-        Kind::Pulse => false,
-        Kind::Delay => false,
-        Kind::Integrator => false,
-        Kind::ResetIntegrator => false,
-        Kind::Detector => true,
-        Kind::Hold => false,
-        Kind::Sampler => false,
-        Kind::Drive => false,
-        Kind::Clapper => false,
-    }
-}
-
-// Whether some part of the trial, once it is settled, objects to the step of `h` that led there. Each part that can is settled by
-// itself and asked.
-pub(crate) fn any_objects_in(table: &[u64], h: Ticks, trial: &[u64]) -> bool
-    requires { ⌜ WordsThere (now table) (now trial) ⌝ }
-    requires { ⌜ Settleable (trimmed (held (now table) (now trial))) ⌝ }
-    ensures { λ r. ⌜ r ≡ any-objects-settled (h .0) (trimmed (held (now (table .entry)) (now (trial .entry)))) ⌝ }
-{
-    let count = parts_of(table);
-    let mut i: usize = 0;
-    while i < count {
-        let kind = kind_in(table, i);
-        if !detects(kind) {
-            i += 1;
-            continue;
-        }
-        let p = part_at(table, trial, i);
-        let c = p.component;
-        let s = c.port0;
-        let k = source_index(s);
-        let out = output_at(trial, k);
-        let x = heard_of(s, out);
-        let settled = settled_part(p, x);
-        if objects_of(settled, h) {
-            return true;
-        }
-        i += 1;
-    }
-    false
 }

@@ -25,9 +25,9 @@ use Rattle.steps.specs.Fillable.{reading-in-use}
 use Rattle.steps.specs.Settling.{settling}
 use Rattle.steps.specs.StepShown.{Settleable}
 use Rattle.steps.specs.LentMoving.{lent-many, lent-part, lent-source, lent-heard, port-below}
-use Rattle.master.specs.Asked.{objects-trimmed}
-use Rattle.master.specs.LentAsked.{Asks}
-use Rattle.master.specs.Trials.{objects-settled}
+use Rattle.asking.specs.Asked.{objects-trimmed}
+use Rattle.asking.specs.LentAsked.{Asks}
+use Rattle.asking.specs.Trials.{objects-settled}
 
 module _ (ts ss : List ℕ) (fit : Settleable (trimmed (held ts ss))) where
   -- the parts of the trial

@@ -1,8 +1,8 @@
 -- `least_in` is `round`, by every part in the first round and by the drives alone behind it.
 use native.Mathlib.Omega.{arith}
 use borrow.Author.Needs.{needs}
-use Rattle.master.proofs.asking.least_in.Statement.{statement}
-use Rattle.master.proofs.asking.least_in.Tie as tie
+use Rattle.asking.proofs.rounds.least_in.Statement.{statement}
+use Rattle.asking.proofs.rounds.least_in.Tie as tie
 
 round-in-requires : tie.Need-round-in-requires
 round-in-requires c κs = search needs

@@ -7,10 +7,10 @@ use lib.ListN.{drop}
 use Rattle.machine.specs.Model.{trimmed}
 use Rattle.machine.specs.Advance.{least, round}
 use Rattle.store.specs.Held.{parts-lent, held}
-use Rattle.master.specs.Asked.{least-end}
-use Rattle.master.specs.LentAsked.{Asks, source-lent, askable-lent, least-lent}
-use Rattle.master.proofs.asking.round_in.Statement.{statement}
-use Rattle.master.proofs.asking.round_in.Tie as tie
+use Rattle.asking.specs.Asked.{least-end}
+use Rattle.asking.specs.LentAsked.{Asks, source-lent, askable-lent, least-lent}
+use Rattle.asking.proofs.rounds.round_in.Statement.{statement}
+use Rattle.asking.proofs.rounds.round_in.Tie as tie
 
 abbrev Inv-loop : tie.InvT-loop
 Inv-loop table state h count now best₀ i₀ best i =
