@@ -1,11 +1,11 @@
 // The search for the step of one advance on lent words, of a sound model.
 //
 // Its contracts cite this crate's `specs/Into.antt` and `specs/Searching.antt`, which go by `machine`'s `specs/Advance.antt`.
+use crate::past::leads_past;
+use crate::verdict::Verdict;
 use asking::dues::any_due_in;
 use asking::rounds::least_in;
 use asking::trials::any_objects_in;
-use crate::past::leads_past;
-use crate::verdict::Verdict;
 use machine::time::Ticks;
 use steps::settling::settled_into;
 use steps::step::shown_into;

@@ -1,8 +1,8 @@
 -- Parts moved, and parts settled, in the words of a state: what holds after i parts, after one part more, and after all. Each part is read from words and
--- its state alone is written, so that each turn of these loops is told of the model that the words mean. Assumes nothing.
+-- its state alone is written, of a moved part three numbers, so that each turn of these loops is told of the model that the words mean. Assumes nothing.
 use Prim.Native.Nat.{ℕ, _+_, _≤_, _<_}
 use native.Mathlib.Omega.{arith}
-use mathlib.Core.Path.{_≡_, sym, ap, subst, _∙_}
+use mathlib.Core.Path.{_≡_, refl, sym, ap, ap₂, subst, _∙_}
 use mathlib.Core.Bool.{true, false}
 use mathlib.Core.List.{List, map}
 use mathlib.Core.Logic.{_⊎_, inl, inr}
@@ -15,6 +15,7 @@ use Rattle.machine.specs.declared.signal.Signal.{Signal}
 use Rattle.machine.specs.declared.part.Kind.{Kind}
 use Rattle.machine.specs.declared.part.State.{State}
 use Rattle.machine.specs.declared.part.Part.{Part}
+use Rattle.machine.specs.declared.model.Model.{Model}
 use Rattle.machine.specs.Time.{last-tick, tick}
 use Rattle.machine.specs.Model.{blank-part, part-at, with-state, with-parts, reading0, trimmed, trimmed-part, trimmed-component}
 use Rattle.machine.specs.Step.{moved, all-moved, settled, all-settled}
@@ -22,9 +23,10 @@ use Rattle.machine.specs.Sound.{sound}
 use Rattle.laws.specs.Bools.{either}
 use Rattle.laws.specs.ListLaws.{getD-map-in}
 use Rattle.laws.specs.Partway.{mapped-length}
-use Rattle.store.specs.Held.{parts-lent, stored-component, stored-part, stored-point, stored-state, held}
-use Rattle.store.specs.Updated.{state-spelled, StatePut, SameBehind}
-use Rattle.store.specs.StoreFrame.{held-many, held-part, held-put, state-kept, spelled-kept, behind-put, behind-none, behind-through}
+use Rattle.store.specs.Held.{parts-lent, state-words-of, stored-component, stored-part, stored-point, stored-state, held}
+use Rattle.store.specs.Updated.{state-spelled, StatePut, Copied, SameBehind}
+use Rattle.store.specs.StoreFrame.{held-many, held-part, same-state, held-put, held-copied, copied-spelled, behind-put, behind-none, behind-through}
+use Rattle.store.specs.NumbersPut.{state-numbered, NumbersPut, state-unnumbered, point-unnumbered, behind-numbered}
 use Rattle.steps.specs.Reading.{SourceBelow, WiredBelow, source-index, heard, heard0, index-below, part-trimmed}
 use Rattle.steps.specs.Trimmed.{Changed, none-changed}
 use Rattle.steps.specs.Fillable.{Wired, part-in-use, wired-at, reading-in-use}
@@ -32,7 +34,6 @@ use Rattle.steps.specs.WiredParts.{sound-wired}
 use Rattle.steps.specs.InPlace.{by-reading, changed-to, LoopTurn, turn, all-changed}
 use Rattle.steps.specs.Moving.{Movable, moving, movable, movable-untrimmed}
 use Rattle.steps.specs.Settling.{settles, settling, settled-same}
-use Rattle.steps.specs.StepMade.{at-point}
 
 -- the parts that words mean, trimmed: as many as the table says, each that of its words
 pub lent-many : (ts ss : List ℕ) → length (trimmed (held ts ss) .parts) ≡ parts-lent ts
@@ -129,10 +130,20 @@ settled-done ts a wired i b so-far past = all-changed settled (held ts a) wired 
 abbrev pub moved-state : List ℕ → List ℕ → ℕ → ℕ → ℕ → State
 moved-state ts old t h j = moved t h (reading0 (trimmed (held ts old) .parts) (stored-part ts old j)) (stored-part ts old j) .state
 
--- in the words b, which were a, stand the moved states of the first i parts of the old words, within their limits
+-- a state with the three numbers of another; moving a state changes these alone
+abbrev numbered-as : State → State → State
+numbered-as s from = state-numbered s (from .local .0) (from .held) (from .speed)
+
+three-moved : (ts old : List ℕ) (t h j : ℕ) → numbered-as (stored-state old j) (moved-state ts old t h j) ≡ moved-state ts old t h j
+unfolding moved stored-part
+three-moved ts old t h j = refl
+
+-- in the words b, which were a, stand the point and the states of the old words, of which the first i are moved, all within their limits
 pub record LentMoved (ts old : List ℕ) (t h : ℕ) (a : List ℕ) (i : ℕ) (b : List ℕ) : Type 0 where
   pub states : (j : ℕ) → j < i → stored-state b j ≡ moved-state ts old t h j
-  pub form : (j : ℕ) → j < i → state-spelled b j ≡ true
+  pub rest : (j : ℕ) → i ≤ j → j < parts-lent ts → stored-state b j ≡ stored-state old j
+  pub form : (j : ℕ) → j < parts-lent ts → state-spelled b j ≡ true
+  pub point : stored-point b ≡ stored-point old
   pub behind : SameBehind (parts-lent ts) a b
 
 -- the tick that the old words are read to stand at is that of their model
@@ -140,9 +151,19 @@ pub lent-tick : (ts old : List ℕ) (now : Point) → now ≡ stored-point old �
 unfolding held
 lent-tick ts old now is = ap tick is
 
--- at first none does
-pub none-moved : (ts old : List ℕ) (t h : ℕ) (a : List ℕ) → LentMoved ts old t h a 0 a
-none-moved ts old t h a = record { states = λ j below. absurd (omega arith); form = λ j below. absurd (omega arith); behind = behind-none (parts-lent ts) a }
+-- at first none is: b are the words just copied
+pub none-moved :
+    (ts old : List ℕ) (t h : ℕ) (a b : List ℕ) → Copied (state-words-of (parts-lent ts)) old a b →
+    ((j : ℕ) → j < parts-lent ts → state-spelled old j ≡ true) → LentMoved ts old t h b 0 b
+unfolding held
+none-moved ts old t h a b copy spells =
+    record {
+      states = λ j below. absurd (omega arith);
+      rest = λ j from low. same-state old b j (λ x first last. copy .front x (omega arith));
+      form = copied-spelled (parts-lent ts) old a b copy spells;
+      point = ap (λ (m : Model). m .point) (held-copied ts old a b copy);
+      behind = behind-none (parts-lent ts) b;
+    }
 
 -- the part i of the old words
 module _ (ts old : List ℕ) (is-sound : sound (trimmed (held ts old)) ≡ true) (i : ℕ) (low : i < parts-lent ts) (p : Part) (is : p ≡ stored-part ts old i) where
@@ -169,33 +190,36 @@ module _ (ts old : List ℕ) (is-sound : sound (trimmed (held ts old)) ≡ true)
       heard0 (m .parts) p k x index (lent-heard ts old p k out x there from hears) ∙
       reading-in-use m wires (p .component .port0) (rw is (port-below ts old wires i low))
 
-  -- moved, and its state written
+  -- moved, it differs in its three numbers, which are written
   pub moved-more :
       (t h : ℕ) (a b c : List ℕ) (x : Signal) (q : Part) → LentMoved ts old t h a i b → x ≡ reading0 (trimmed (held ts old) .parts) p →
-      q ≡ moved t h x p → StatePut i (q .state) b c → LentMoved ts old t h a (i + 1) c
+      q ≡ moved t h x p → NumbersPut i (q .state .local .0) (q .state .held) (q .state .speed) b c → LentMoved ts old t h a (i + 1) c
   moved-more t h a b c x q so-far reads moves put =
+      let numbers = q .state in
+      let kept = behind-numbered i (numbers .local .0) (numbers .held) (numbers .speed) b c put (parts-lent ts) low in
       record {
         states = λ j below. state-at j below (either (ltb j i));
-        form = λ j below. form-at j below (either (ltb j i));
-        behind = behind-through (parts-lent ts) a b c (so-far .behind) (behind-put (parts-lent ts) i (q .state) b c put low);
+        rest = λ j from inside. other j (λ same. omega arith) ∙ so-far .rest j (omega arith) inside;
+        form = λ j inside. kept .form j (so-far .form j inside);
+        point = point-unnumbered i (numbers .local .0) (numbers .held) (numbers .speed) b c put ∙ so-far .point;
+        behind = behind-through (parts-lent ts) a b c (so-far .behind) kept;
       }
     where
+      other : (j : ℕ) → (j ≡ i → ⊥) → stored-state c j ≡ stored-state b j
+      other = state-unnumbered i (q .state .local .0) (q .state .held) (q .state .speed) b c put
+
       state-at : (j : ℕ) → j < i + 1 → (ltb j i ≡ true) ⊎ (ltb j i ≡ false) → stored-state c j ≡ moved-state ts old t h j
       state-at j below (inl e) =
-          let before = ltb-true j i e in state-kept b c i j (q .state) put (λ same. omega arith) ∙ so-far .states j before
+          let before = ltb-true j i e in other j (λ same. omega arith) ∙ so-far .states j before
       state-at j below (inr e) =
           let same : i ≡ j = omega (arith, ltb-false j i e) in
           let f = by-reading (moved t h) (trimmed (held ts old) .parts) in
+          let becomes : q ≡ f (stored-part ts old i) = moves ∙ ap (λ (y : Signal). moved t h y p) reads ∙ ap f is in
           subst (λ (l : ℕ). stored-state c l ≡ moved-state ts old t h l) same
-          (put .is ∙ ap (λ (r : Part). r .state) (moves ∙ ap (λ (y : Signal). moved t h y p) reads ∙ ap f is))
+          (put .is ∙ ap (λ (s : State). numbered-as s (q .state)) (so-far .rest i (omega arith) low) ∙
+          ap (λ (r : Part). numbered-as (stored-state old i) (r .state)) becomes ∙ three-moved ts old t h i)
 
-      form-at : (j : ℕ) → j < i + 1 → (ltb j i ≡ true) ⊎ (ltb j i ≡ false) → state-spelled c j ≡ true
-      form-at j below (inl e) =
-          let before = ltb-true j i e in spelled-kept b c i j (q .state) put (λ same. omega arith) ∙ so-far .form j before
-      form-at j below (inr e) =
-          let same : i ≡ j = omega (arith, ltb-false j i e) in subst (λ (l : ℕ). state-spelled c l ≡ true) same (put .form)
-
--- and at last all do: the new words mean the moved parts
+-- and at last all are: the new words mean the moved parts
 module _ (ts old : List ℕ) (t h : ℕ) (a : List ℕ) (i : ℕ) (b : List ℕ) (so-far : LentMoved ts old t h a i b) (past : parts-lent ts ≤ i) where
   moved-part-at :
       (j : ℕ) → j < parts-lent ts →
@@ -220,8 +244,8 @@ module _ (ts old : List ℕ) (t h : ℕ) (a : List ℕ) (i : ℕ) (b : List ℕ)
 
   pub moved-done :
       t ≡ tick (held ts old .point) →
-      Changed (held ts old) (all-moved (tick (held ts old .point)) h (trimmed (held ts old) .parts)) (at-point (held ts b) (held ts old .point))
+      Changed (held ts old) (all-moved (tick (held ts old .point)) h (trimmed (held ts old) .parts)) (held ts b)
   unfolding trimmed held
   moved-done now =
       let moves : ℕ → List Part = λ u. all-moved u h (trimmed (held ts old) .parts) in
-      record { is = ap (with-parts (trimmed (held ts old)) (held ts old .point)) (all-parts ∙ ap moves now) }
+      record { is = ap₂ (with-parts (trimmed (held ts old))) (so-far .point) (all-parts ∙ ap moves now) }

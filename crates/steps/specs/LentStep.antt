@@ -41,20 +41,16 @@ module _
     (ts os a b : List ℕ)
     (to : Point)
     (h : ℕ)
-    (moves :
-    Changed (held ts os) (all-moved (tick (held ts os .point)) h (trimmed (held ts os) .parts)) (at-point (held ts a) (held ts os .point)))
+    (moves : Changed (held ts os) (all-moved (tick (held ts os .point)) h (trimmed (held ts os) .parts)) (held ts a))
     (put : PointPut to a b) where
-  -- what the moved words mean, at the old point
-  abbrev moved-model : Model
-  moved-model = at-point (held ts a) (held ts os .point)
-
-  pointed : held ts b ≡ at-point moved-model to
+  -- what the words then mean
+  pointed : held ts b ≡ at-point (held ts a) to
   pointed = held-pointed ts a b to put
 
   -- what filling asks
   pub lent-fillable : sound (trimmed (held ts os)) ≡ true → Fillable (trimmed (held ts os)) (trimmed (held ts b))
   lent-fillable s =
-      subst (λ (x : Model). Fillable (trimmed (held ts os)) (trimmed x)) (sym pointed) (made-fillable (held ts os) moved-model to h s moves)
+      subst (λ (x : Model). Fillable (trimmed (held ts os)) (trimmed x)) (sym pointed) (made-fillable (held ts os) (held ts a) to h s moves)
 
   -- the words f, the outputs filled
   module _
@@ -69,7 +65,7 @@ module _
         let moves-all = all-moved (tick (held ts os .point)) h old in
         fills .is ∙
         ap (λ (x : Model). with-parts (trimmed x) (x .point) (filled old (x .point) (trimmed x .order) (trimmed x .parts))) pointed ∙
-        ap (λ (y : Model). with-parts y to (filled old to (y .order) (y .parts))) (moved-is (held ts os) moved-model to moves-all moves) ∙
+        ap (λ (y : Model). with-parts y to (filled old to (y .order) (y .parts))) (moved-is (held ts os) (held ts a) to moves-all moves) ∙
         ap (λ (p : Point). with-parts (trimmed (held ts os)) p (filled old p (trimmed (held ts os) .order) moves-all)) leads
 
 -- the words behind the model's are kept through it all

@@ -10,7 +10,8 @@ use store::lookup::output_at;
 use store::lookup::part_at;
 use store::lookup::parts_of;
 use store::lookup::point_of;
-use store::update::put_state;
+use store::update::copy_words;
+use store::update::put_numbers;
 ghost use mathlib.Core.Path.{_≡_};
 ghost use mathlib.Core.Bool.{true};
 ghost use Prim.Native.Nat.{ℕ, _+_, _≤_, _<_};
@@ -21,21 +22,22 @@ ghost use Rattle.machine.specs.Step.{all-moved};
 ghost use Rattle.store.specs.Held.{WordsThere, held, parts-lent};
 ghost use Rattle.store.specs.Updated.{SameBehind, state-spelled};
 ghost use Rattle.steps.specs.Trimmed.{Changed};
-ghost use Rattle.steps.specs.StepMade.{at-point};
 
-// All parts moved by a step of `h`. Of `new` the records of the parts are written, each once; they are read from `old`
-// alone, and the point of `new` is kept.
+// All parts moved by a step of `h`. The words of the old state are copied, then three numbers of each part are written;
+// they are read from `old` alone.
 pub(crate) fn moved_into(table: &[u64], old: &[u64], h: Ticks, new: &mut [u64])
     requires { ⌜ WordsThere (now table) (now old) ⌝ }
     requires { ⌜ WordsThere (now table) (now new) ⌝ }
     requires { ⌜ sound (trimmed (held (now table) (now old))) ≡ true ⌝ }
     requires { ⌜ h .0 ≤ 1_000_000_000 ⌝ }
     requires { ⌜ tick (held (now table) (now old) .point) + h .0 ≤ last-tick ⌝ }
-    ensures { λ r. ⌜ Changed (held (now (table .entry)) (now (old .entry))) (all-moved (tick (held (now (table .entry)) (now (old .entry)) .point)) (h .0) (trimmed (held (now (table .entry)) (now (old .entry))) .parts)) (at-point (held (now (table .entry)) (now (new .exit))) (held (now (table .entry)) (now (old .entry)) .point)) ⌝ }
+    requires { ⌜ ((j : ℕ) → j < parts-lent (now table) → state-spelled (now old) j ≡ true) ⌝ }
+    ensures { λ r. ⌜ Changed (held (now (table .entry)) (now (old .entry))) (all-moved (tick (held (now (table .entry)) (now (old .entry)) .point)) (h .0) (trimmed (held (now (table .entry)) (now (old .entry))) .parts)) (held (now (table .entry)) (now (new .exit))) ⌝ }
     ensures { λ r. ⌜ ((j : ℕ) → j < parts-lent (now (table .entry)) → state-spelled (now (new .exit)) j ≡ true) ⌝ }
     ensures { λ r. ⌜ SameBehind (parts-lent (now (table .entry))) (now (new .entry)) (now (new .exit)) ⌝ }
 {
     let count = parts_of(table);
+    copy_words(old, 9 * count + 2, new);
     let now = point_of(old);
     let t = now.t;
     let mut i: usize = 0;
@@ -48,7 +50,7 @@ pub(crate) fn moved_into(table: &[u64], old: &[u64], h: Ticks, new: &mut [u64])
         let x = heard_of(s, out);
         let moved = moved_part(p, t, h, x);
         let state = moved.state;
-        put_state(new, i, state);
+        put_numbers(new, i, state.local, state.held, state.speed);
         i += 1;
     }
 }

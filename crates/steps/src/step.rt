@@ -18,8 +18,8 @@ ghost use Rattle.store.specs.Held.{WordsThere, held, parts-lent};
 ghost use Rattle.store.specs.Updated.{SameBehind, state-spelled};
 
 // The model of `old` after a step of `h`, in `new`, before it is settled: a trial is settled only where it is taken up. The
-// words behind the model's are kept. No model is copied: each part is read from `old` and written into `new`. What is
-// required rules out a step past the time.
+// words behind the model's are kept. The words of the old state are copied once; then what the step changes of each part
+// is written over them. What is required rules out a step past the time.
 pub fn shown_into(table: &[u64], old: &[u64], h: Ticks, new: &mut [u64])
     requires { ⌜ WordsThere (now table) (now old) ⌝ }
     requires { ⌜ WordsThere (now table) (now new) ⌝ }
@@ -27,6 +27,7 @@ pub fn shown_into(table: &[u64], old: &[u64], h: Ticks, new: &mut [u64])
     requires { ⌜ h .0 ≤ 1_000_000_000 ⌝ }
     requires { ⌜ tick (held (now table) (now old) .point) + h .0 ≤ last-tick ⌝ }
     requires { ⌜ (h .0 ≡ 0 → held (now table) (now old) .point .n < last-microstep) ⌝ }
+    requires { ⌜ ((j : ℕ) → j < parts-lent (now table) → state-spelled (now old) j ≡ true) ⌝ }
     ensures { λ r. ⌜ trimmed (held (now (table .entry)) (now (new .exit))) ≡ step-shown (trimmed (held (now (table .entry)) (now (old .entry)))) (h .0) ⌝ }
     ensures { λ r. ⌜ ((j : ℕ) → j < parts-lent (now (table .entry)) → state-spelled (now (new .exit)) j ≡ true) ⌝ }
     ensures { λ r. ⌜ SameBehind (parts-lent (now (table .entry))) (now (new .entry)) (now (new .exit)) ⌝ }

@@ -5,6 +5,7 @@ pub mod WordsWritten
 pub mod Updated
 pub mod StoreFrame
 pub mod Shown
+pub mod NumbersPut
 pub mod Spelling
 pub mod Respelled
 pub mod TableRuns

@@ -2,22 +2,22 @@
 use Prim.Native.Nat.{ℕ, zero, suc, _+_, _*_, _≤_, _<_}
 use native.Mathlib.Omega.{arith}
 use mathlib.Core.Path.{_≡_, refl, ap, _∙_}
-use mathlib.Core.Bool.{true, false}
-use mathlib.Core.Logic.{_⊎_, inl, inr}
+use mathlib.Core.Bool.{true}
+use mathlib.Core.Logic.{inl, inr}
 use mathlib.Core.List.{List, [], _∷_}
-use lib.Dec.{eqb, leb}
+use lib.Dec.{leb}
 use lib.ListN.{length, getD, set}
-use borrow.Author.Tests.{eqb-true, eqb-false, leb-true}
+use borrow.Author.Tests.{leb-true}
 use Rattle.machine.specs.declared.signal.Signal.{Signal}
 use Rattle.machine.specs.declared.part.State.{State}
 use Rattle.machine.specs.Model.{with-state, with-parts}
-use Rattle.laws.specs.Bools.{either, and-left, and-right}
+use Rattle.laws.specs.Bools.{and-left, and-right}
 use Rattle.codec.specs.Decoded.{signal-of}
 use Rattle.store.specs.Held.{lent, parts-lent, state-words-of, stored-state, stored-part, held}
 use Rattle.store.specs.Form.{any-word, state-limits, words-within}
 use Rattle.store.specs.WordsWritten.{Outside, written, length-written, written-at, written-outside}
 use Rattle.store.specs.Updated.{state-spelled, SameBehind, within-all}
-use Rattle.store.specs.StoreFrame.{KeptOutside, spelled-outside, held-outside}
+use Rattle.store.specs.StoreFrame.{KeptOutside, behind-outside, held-outside}
 
 -- the state with another stored output
 abbrev pub state-shown : State → Signal → State
@@ -41,7 +41,7 @@ pub record OutputPut (i : ℕ) (out : Signal) (a b : List ℕ) : Type 0 where
   pub others : (x : ℕ) → Outside (9 * i + 7) (9 * i + 9) x → lent b x ≡ lent a x
 
 -- words within their limits are at most these, one by one
-within-one : (ws : List ℕ) (k : ℕ) (ls : List ℕ) → words-within ws k ls ≡ true → (n : ℕ) → n < length ls → lent ws (k + n) ≤ getD ls n 0
+pub within-one : (ws : List ℕ) (k : ℕ) (ls : List ℕ) → words-within ws k ls ≡ true → (n : ℕ) → n < length ls → lent ws (k + n) ≤ getD ls n 0
 unfolding words-within
 within-one ws k [] all n low = absurd (omega arith)
 within-one ws k (l ∷ ls) all zero low =
@@ -128,11 +128,4 @@ held-shown ts a b i out put low = held-outside a b i (output-outside a b i out p
 
 -- the words behind the model's are kept
 pub behind-shown : (n i : ℕ) (out : Signal) (a b : List ℕ) → OutputPut i out a b → i < n → SameBehind n a b
-behind-shown n i out a b put low =
-    record { size = put .size; behind = λ x far. put .others x (inr (omega arith)); form = λ j before. form j before (either (eqb j i)) }
-  where
-    form : (j : ℕ) → state-spelled a j ≡ true → (eqb j i ≡ true) ⊎ (eqb j i ≡ false) → state-spelled b j ≡ true
-    form j before (inl e) =
-        let same : j ≡ i = eqb-true j i e in
-        rw same (put .form (rw same at before))
-    form j before (inr e) = spelled-outside a b i (output-outside a b i out put) j (eqb-false j i e) ∙ before
+behind-shown n i out a b put low = behind-outside a b i (output-outside a b i out put) n (put .size) (put .form) low

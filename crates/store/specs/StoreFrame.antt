@@ -95,16 +95,27 @@ KeptOutside i a b = (x : ℕ) → Outside (state-words-of i) (state-words-of (i 
 
 -- then so are the states of the other parts, whether their words are within their limits, and the point
 module _ (a b : List ℕ) (i : ℕ) (kept : KeptOutside i a b) where
-  state-outside : (j : ℕ) → (j ≡ i → ⊥) → stored-state b j ≡ stored-state a j
+  pub state-outside : (j : ℕ) → (j ≡ i → ⊥) → stored-state b j ≡ stored-state a j
   state-outside j other = same-state a b j (λ x from to. kept x (apart i j x other from to (either (ltb j i))))
 
-  pub spelled-outside : (j : ℕ) → (j ≡ i → ⊥) → state-spelled b j ≡ state-spelled a j
+  spelled-outside : (j : ℕ) → (j ≡ i → ⊥) → state-spelled b j ≡ state-spelled a j
   spelled-outside j other =
       within-same a b (state-words-of j) state-limits (λ x from to. kept x (apart i j x other from (omega arith) (either (ltb j i))))
 
-  point-outside : stored-point b ≡ stored-point a
+  pub point-outside : stored-point b ≡ stored-point a
   unfolding stored-point
   point-outside = rw (kept 0 (inl (omega arith)), kept 1 (inl (omega arith))) refl
+
+  -- and the words behind the model's, where the words of part i's state are within their limits still
+  pub behind-outside : (n : ℕ) → length b ≡ length a → (state-spelled a i ≡ true → state-spelled b i ≡ true) → i < n → SameBehind n a b
+  behind-outside n size form low =
+      record { size = size; behind = λ x far. kept x (inr (omega arith)); form = λ j before. form-at j before (either (eqb j i)) }
+    where
+      form-at : (j : ℕ) → state-spelled a j ≡ true → (eqb j i ≡ true) ⊎ (eqb j i ≡ false) → state-spelled b j ≡ true
+      form-at j before (inl e) =
+          let same : j ≡ i = eqb-true j i e in
+          rw same (form (rw same at before))
+      form-at j before (inr e) = spelled-outside j (eqb-false j i e) ∙ before
 
   -- and the model is the one before with part i's state set to the one that stands there
   pub held-outside : (ts : List ℕ) (s : State) → stored-state b i ≡ s → i < parts-lent ts →
@@ -172,12 +183,7 @@ behind-copied n l a b copy spells =
 
 -- the words behind the model's are kept by both, by nothing, and by one change after another
 pub behind-put : (n i : ℕ) (s : State) (a b : List ℕ) → StatePut i s a b → i < n → SameBehind n a b
-behind-put n i s a b put low =
-    record { size = put .size; behind = λ x far. put .others x (inr (omega arith)); form = λ j before. form j before (either (eqb j i)) }
-  where
-    form : (j : ℕ) → state-spelled a j ≡ true → (eqb j i ≡ true) ⊎ (eqb j i ≡ false) → state-spelled b j ≡ true
-    form j before (inl e) = rw (eqb-true j i e) (put .form)
-    form j before (inr e) = spelled-kept a b i j s put (eqb-false j i e) ∙ before
+behind-put n i s a b put low = behind-outside a b i (put .others) n (put .size) (λ before. put .form) low
 
 pub behind-pointed : (n : ℕ) (now : Point) (a b : List ℕ) → PointPut now a b → SameBehind n a b
 behind-pointed n now a b put =

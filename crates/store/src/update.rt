@@ -1,11 +1,13 @@
-// The state of a part, its output alone, and the point, written into the words of a state.
+// The state of a part, its three numbers alone, its output alone, and the point, written into the words of a state.
 //
-// The contracts cite `specs/Updated.antt` and `specs/Shown.antt`: what was written is read back, and every other word is kept.
+// The contracts cite `specs/Updated.antt`, `specs/NumbersPut.antt` and `specs/Shown.antt`: what was written is read back, and
+// every other word is kept.
 use codec::fields::mark_code;
 use codec::fields::side_code;
 use codec::word::signed_word;
 use machine::part::State;
 use machine::signal::Signal;
+use machine::time::LocalTicks;
 use machine::time::Point;
 ghost use mathlib.Core.Path.{_≡_};
 ghost use Prim.Native.Nat.{_+_, _*_, _≤_};
@@ -15,6 +17,7 @@ ghost use Rattle.codec.specs.Encoded.{signal-code};
 ghost use Rattle.codec.specs.Decoded.{signal-of};
 ghost use Rattle.store.specs.Held.{state-words-of};
 ghost use Rattle.store.specs.Updated.{Copied, PointPut, StatePut};
+ghost use Rattle.store.specs.NumbersPut.{NumbersPut};
 ghost use Rattle.store.specs.Shown.{OutputPut};
 
 // The word of a signed number, which is read back as the number.
@@ -63,6 +66,17 @@ pub fn put_state(state: &mut [u64], i: usize, s: State)
     state[k + 8] = signal_word(output);
     state[k + 9] = side_code(side);
     state[k + 10] = mark_code(mark);
+}
+
+// The local count, the held number and the speed of part `i`, written anew.
+pub fn put_numbers(state: &mut [u64], i: usize, local: LocalTicks, held: i64, speed: i64)
+    requires { ⌜ state-words-of (i + 1) ≤ length (now state) ⌝ }
+    ensures { λ r. ⌜ NumbersPut i (local .0) held speed (now (state .entry)) (now (state .exit)) ⌝ }
+{
+    let k = 9 * i;
+    state[k + 2] = local.0;
+    state[k + 3] = word_of(held);
+    state[k + 4] = word_of(speed);
 }
 
 // The stored output of part `i`, written anew.

@@ -58,7 +58,7 @@ shown-into-requires c κs =
     let s = start-of at in
     let within = at .loop .inv .1 in
     let step = may-step (held (s .args .table .now) (s .args .old .now)) (is-sound-at s) (at .loop .h) (not-refused (c .before)) in
-    (s .pre .0, (room-at at, (is-sound-at s, (omega (arith, small s, within), (omega (arith, far s, within), step)))))
+    (s .pre .0, (room-at at, (is-sound-at s, (omega (arith, small s, within), (omega (arith, far s, within), (step, s .pre .1 .1 .1 .1 .1))))))
 
 any-objects-in-requires : tie.Need-any-objects-in-requires Inv-loop μ-loop Inv-ceilings μ-ceilings
 any-objects-in-requires c κs =

@@ -80,13 +80,13 @@ returns c =
     let asks = s .pre .1 .1 .1 .1 in
     absurd
     (lent-never-past (s .args .table .now) (s .args .old .now) (leads .before .point-of .result) (s .args .h .0) (leads .before .point-of .ensures) (asks .0)
-    (asks .1) (sym (leads .step .ensures) ∙ c .enum-told .given .1))
+    (asks .1 .0) (sym (leads .step .ensures) ∙ c .enum-told .given .1))
 
 moved-into-requires : tie.Need-moved-into-requires
 moved-into-requires c κs =
     let s = c .before .before .before .before .before .before .before .before .before in
     let asks = s .pre .1 .1 in
-    (s .pre .0, (s .pre .1 .0, (asks .0, (asks .1 .0, asks .1 .1 .0))))
+    (s .pre .0, (s .pre .1 .0, (asks .0, (asks .1 .0, (asks .1 .1 .0, asks .1 .1 .1 .1)))))
 
 put-point-requires : tie.Need-put-point-requires
 put-point-requires c κs = search needs
@@ -117,7 +117,7 @@ returns-2 c =
     let asks = s .pre .1 .1 .1 .1 in
     let to = to-of moves in
     let led =
-    lent-leads-to (table-of moves) (old-of moves) (leads .before .point-of .result) (s .args .h .0) (leads .before .point-of .ensures) (asks .0) (asks .1) to
+    lent-leads-to (table-of moves) (old-of moves) (leads .before .point-of .result) (s .args .h .0) (leads .before .point-of .ensures) (asks .0) (asks .1 .0) to
     (sym (leads .step .ensures) ∙ moves .before .before .before .to .given .1) in (
       lent-shown (table-of moves) (old-of moves) (moved-of moves) (pointed-of points) to (s .args .h .0) (moves .moved-into .ensures .0)
           (points .put-point .ensures) (filled-of fills) (fills .filled-into .ensures .0) led,
