@@ -17,7 +17,7 @@ use Rattle.machine.specs.Advance.{Outcome}
 use Rattle.soundness.specs.Facts.{sound-facts, table-facts}
 use Rattle.store.specs.Held.{table-words, state-words-of}
 use Rattle.store.specs.Form.{spelled}
-use Rattle.store.specs.ModelPut.{ModelPut}
+use Rattle.transfer.specs.ModelPut.{ModelPut}
 use Rattle.loading.specs.LoadOwed.{accepted-is-a-table}
 use Rattle.master.specs.declared.verdict.Verdict.{Verdict}
 use Rattle.master.specs.Into.{lent-model, verdict-of, outcome-into, CalledInto}

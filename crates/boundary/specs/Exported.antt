@@ -11,7 +11,7 @@ use Rattle.machine.specs.Sound.{sound}
 use Rattle.machine.specs.Advance.{Outcome}
 use Rattle.store.specs.Held.{table-words, state-words-of}
 use Rattle.store.specs.Form.{spelled}
-use Rattle.store.specs.ModelPut.{ModelPut}
+use Rattle.transfer.specs.ModelPut.{ModelPut}
 use Rattle.master.specs.Into.{verdict-of, lent-model, outcome-into, CalledInto}
 
 -- the number of a load that ended with a number and a model of so many parts, with so many words lent for the table and for the state: 25 where the

@@ -6,7 +6,7 @@
 use loading::load;
 use machine::model::Model;
 use master::advance_into;
-use store::intake::put_model;
+use transfer::intake::put_model;
 ghost use mathlib.Core.Path.{_≡_};
 ghost use mathlib.Core.List.{_∷_};
 ghost use Prim.Native.Nat.{_≤_};

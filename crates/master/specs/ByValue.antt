@@ -16,8 +16,8 @@ use Rattle.machine.specs.Calls.{Advanced}
 use Rattle.laws.specs.Bools.{cond-false}
 use Rattle.store.specs.Held.{parts-lent, state-words-of}
 use Rattle.store.specs.Spelling.{spelled-few}
-use Rattle.store.specs.ModelPut.{ModelPut}
-use Rattle.store.specs.Recalled.{Recalled}
+use Rattle.transfer.specs.ModelPut.{ModelPut}
+use Rattle.transfer.specs.Recalled.{Recalled}
 use Rattle.inspection.specs.Whole.{unsound-many}
 use Rattle.master.specs.declared.verdict.Verdict.{Verdict}
 use Rattle.master.specs.Searching.{answer-of}

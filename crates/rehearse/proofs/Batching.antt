@@ -20,7 +20,7 @@ use Rattle.soundness.specs.Facts.{table-facts, sound-facts}
 use Rattle.loading.specs.Blank.{blank-model}
 use Rattle.loading.specs.LoadOwed.{accepted-is-a-table}
 use Rattle.store.specs.Held.{held}
-use Rattle.store.specs.ModelPut.{ModelPut}
+use Rattle.transfer.specs.ModelPut.{ModelPut}
 use Rattle.writing.specs.Put.{Put}
 use Rattle.rehearse.specs.declared.play.Rehearsing.{Rehearsing}
 use Rattle.rehearse.specs.Playing.{stands-in, lines-at, lines-left, PlayedSome}

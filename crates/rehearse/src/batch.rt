@@ -5,7 +5,7 @@ use crate::play::Rehearsing;
 use crate::play::play_some;
 use crate::play::put_refused_at;
 use loading::load;
-use store::intake::put_model;
+use transfer::intake::put_model;
 ghost use Prim.Native.Nat.{_≤_};
 ghost use lib.ListN.{length};
 ghost use Rattle.rehearse.specs.Playing.{most-table-words, most-state-words};

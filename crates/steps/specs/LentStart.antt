@@ -11,8 +11,8 @@ use Rattle.machine.specs.Step.{filled, all-settled}
 use Rattle.machine.specs.Fresh.{fresh}
 use Rattle.store.specs.Held.{WordsThere, held}
 use Rattle.store.specs.Spelling.{spelled-room}
-use Rattle.store.specs.ModelPut.{ModelPut}
-use Rattle.store.specs.Recalled.{Recalled}
+use Rattle.transfer.specs.ModelPut.{ModelPut}
+use Rattle.transfer.specs.Recalled.{Recalled}
 use Rattle.steps.specs.Trimmed.{Changed}
 use Rattle.steps.specs.Fillable.{Wired, Fillable}
 use Rattle.steps.specs.StepMade.{filled-settled, filled-settleable}

@@ -4,11 +4,11 @@
 use crate::filling::filled_into;
 use crate::settling::settled_into;
 use machine::model::Model;
-use store::intake::put_model;
 use store::lookup::STATE_ROOM;
 use store::lookup::TABLE_ROOM;
-use store::recall::recalled;
 use store::update::copy_words;
+use transfer::intake::put_model;
+use transfer::recall::recalled;
 ghost use mathlib.Core.Path.{_≡_};
 ghost use Rattle.machine.specs.Model.{trimmed};
 ghost use Rattle.machine.specs.Table.{Table};

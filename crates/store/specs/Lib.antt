@@ -1,4 +1,4 @@
--- What words mean, whether they spell a model, what writing a part's state into them changes, and a model by value put into them and taking their state.
+-- What words mean, whether they spell a model, and what writing a part's state into them changes.
 pub mod Held
 pub mod Form
 pub mod WordsWritten
@@ -8,7 +8,3 @@ pub mod Shown
 pub mod NumbersPut
 pub mod Spelling
 pub mod Respelled
-pub mod TableRuns
-pub mod ComponentPut
-pub mod ModelPut
-pub mod Recalled

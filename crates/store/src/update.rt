@@ -21,7 +21,7 @@ ghost use Rattle.store.specs.NumbersPut.{NumbersPut};
 ghost use Rattle.store.specs.Shown.{OutputPut};
 
 // The word of a signed number, which is read back as the number.
-pub(crate) fn word_of(v: i64) -> u64
+pub fn word_of(v: i64) -> u64
     ensures { λ r. ⌜ word-signed r ≡ v ⌝ }
 {
     signed_word(v)

@@ -1,10 +1,10 @@
 -- `put_component` writes the three runs of the record; a signed number passed through a word stays the same.
 use mir.Syntax.{w64}
 use mir.ValLaws.{toZ-ofZ}
-use Rattle.store.specs.ComponentPut.{component-put}
+use Rattle.transfer.specs.ComponentPut.{component-put}
 use borrow.Author.Needs.{needs}
-use Rattle.store.proofs.intake.put_component.Statement.{statement}
-use Rattle.store.proofs.intake.put_component.Tie as tie
+use Rattle.transfer.proofs.intake.put_component.Statement.{statement}
+use Rattle.transfer.proofs.intake.put_component.Tie as tie
 
 put-operands-requires : tie.Need-put-operands-requires
 put-operands-requires c κs = search needs

@@ -3,9 +3,9 @@ use Prim.Native.Nat.{ℕ, _+_, _-_, _*_, _≤_}
 use native.Mathlib.Omega.{arith}
 use mathlib.Core.Path.{_≡_, subst}
 use borrow.Author.Needs.{needs}
-use Rattle.store.specs.TableRuns.{SpansFirst, spans-none, spans-more, spans-put}
-use Rattle.store.proofs.intake.put_spans.Statement.{statement}
-use Rattle.store.proofs.intake.put_spans.Tie as tie
+use Rattle.transfer.specs.TableRuns.{SpansFirst, spans-none, spans-more, spans-put}
+use Rattle.transfer.proofs.intake.put_spans.Statement.{statement}
+use Rattle.transfer.proofs.intake.put_spans.Tie as tie
 
 abbrev Inv-loop : tie.InvT-loop
 Inv-loop table₀ i spans k j₀ table j = (j ≤ 8) × SpansFirst (18 * i + 8) j spans table₀ table

@@ -1,9 +1,9 @@
 -- `put_header` writes the first two words.
 use native.Mathlib.Omega.{arith}
-use Rattle.store.specs.ModelPut.{header-put}
+use Rattle.transfer.specs.ModelPut.{header-put}
 use borrow.Author.Needs.{needs}
-use Rattle.store.proofs.intake.put_header.Statement.{statement}
-use Rattle.store.proofs.intake.put_header.Tie as tie
+use Rattle.transfer.proofs.intake.put_header.Statement.{statement}
+use Rattle.transfer.proofs.intake.put_header.Tie as tie
 
 slice-write-table : tie.Need-slice-write-table
 slice-write-table c = search needs

@@ -2,9 +2,6 @@
 //
 // The contracts cite `specs/TableRuns.antt`, `specs/ComponentPut.antt` and `specs/ModelPut.antt`: what was written is read
 // back, from words within their limits.
-use crate::update::put_point;
-use crate::update::put_state;
-use crate::update::word_of;
 use codec::fields::kind_code;
 use codec::fields::source_code;
 use machine::model::Model;
@@ -12,13 +9,16 @@ use machine::part::Component;
 use machine::part::Kind;
 use machine::part::SPANS;
 use machine::part::Source;
+use store::update::put_point;
+use store::update::put_state;
+use store::update::word_of;
 ghost use mathlib.Core.Path.{_≡_};
 ghost use Prim.Native.Nat.{_+_, _≤_, _<_};
 ghost use lib.ListN.{length};
 ghost use Rattle.store.specs.Held.{state-words-of, table-words};
-ghost use Rattle.store.specs.TableRuns.{OperandsPut, SpansPut, WiresPut};
-ghost use Rattle.store.specs.ComponentPut.{ComponentPut};
-ghost use Rattle.store.specs.ModelPut.{HeaderPut, ModelPut};
+ghost use Rattle.transfer.specs.TableRuns.{OperandsPut, SpansPut, WiresPut};
+ghost use Rattle.transfer.specs.ComponentPut.{ComponentPut};
+ghost use Rattle.transfer.specs.ModelPut.{HeaderPut, ModelPut};
 
 // The kind, the preference, the operands and the count of spans of part `i`.
 fn put_operands(

@@ -1,17 +1,17 @@
 // A model by value with the point and the states of the words of a state.
 //
 // The contracts cite `specs/Recalled.antt` and `machine`'s `specs/Model.antt`.
-use crate::lookup::point_of;
-use crate::lookup::state_at;
 use machine::model::Model;
 use machine::part::Part;
 use machine::part::State;
+use store::lookup::point_of;
+use store::lookup::state_at;
 ghost use mathlib.Core.Path.{_≡_};
 ghost use Prim.Native.Nat.{_≤_};
 ghost use lib.ListN.{length};
 ghost use Rattle.machine.specs.Model.{with-state};
 ghost use Rattle.store.specs.Held.{state-words-of};
-ghost use Rattle.store.specs.Recalled.{Recalled};
+ghost use Rattle.transfer.specs.Recalled.{Recalled};
 
 // The part in another state.
 fn in_state(mut p: Part, s: State) -> Part

@@ -12,13 +12,13 @@ use Rattle.machine.specs.declared.model.Model.{Model}
 use Rattle.machine.specs.Model.{most-parts, blank-part, part-at, trimmed-part, trimmed}
 use Rattle.codec.specs.Words.{table}
 use Rattle.codec.specs.Tables.{length-table, table-at, below-more}
 use Rattle.store.specs.Held.{lent, parts-lent, table-words, state-words-of, stored-ratio, stored-number, stored-part, stored-point, held}
 use Rattle.store.specs.Form.{table-limits, words-within, spelled}
 use Rattle.store.specs.Updated.{state-spelled, StatePut, PointPut, within-same}
 use Rattle.store.specs.StoreFrame.{state-kept, spelled-kept, point-kept}
 use Rattle.store.specs.Spelling.{spelled-parts}
 use Rattle.store.specs.Respelled.{parts-all}
-use Rattle.store.specs.ComponentPut.{ComponentPut, same-component}
+use Rattle.transfer.specs.ComponentPut.{ComponentPut, same-component}
 
 -- the words ts and ss hold the model m, but for its places in no use
 pub record ModelPut (m : Model) (ts ss : List ℕ) : Type 0 where

@@ -13,9 +13,9 @@ use Rattle.machine.specs.declared.model.Model.{Model}
 use Rattle.machine.specs.Model.{blank-part, part-at, with-state, with-parts, trimmed-part, trimmed, spare-spans, SameUnused}
 use Rattle.laws.specs.Alls.{same-at}
 use Rattle.codec.specs.Tables.{below-more}
 use Rattle.store.specs.Held.{parts-lent, stored-state, stored-part, stored-point, held}
 use Rattle.store.specs.StoreFrame.{held-many, held-part}
-use Rattle.store.specs.ModelPut.{trimmed-same}
+use Rattle.transfer.specs.ModelPut.{trimmed-same}
 
 -- the model r is m with the point and the states that the words ss hold; its places in no use are those of m
 pub record Recalled (m : Model) (ss : List ℕ) (r : Model) : Type 0 where

@@ -1,11 +1,11 @@
 -- `put_wires` writes the four words one behind another.
 use native.Mathlib.Omega.{arith}
 use lib.ListN.{length-set}
 use Rattle.store.specs.WordsWritten.{written}
-use Rattle.store.specs.TableRuns.{wires-put}
+use Rattle.transfer.specs.TableRuns.{wires-put}
 use borrow.Author.Needs.{needs}
-use Rattle.store.proofs.intake.put_wires.Statement.{statement}
-use Rattle.store.proofs.intake.put_wires.Tie as tie
+use Rattle.transfer.proofs.intake.put_wires.Statement.{statement}
+use Rattle.transfer.proofs.intake.put_wires.Tie as tie
 
 mul-k : tie.Need-mul-k
 mul-k c = search needs

@@ -4,11 +4,11 @@ use mathlib.Core.Path.{_∙_}
 use mir.Syntax.{w64}
 use mir.ValLaws.{toZ-ofZ}
 use lib.ListN.{length-set}
 use Rattle.store.specs.WordsWritten.{written}
-use Rattle.store.specs.TableRuns.{operands-put}
+use Rattle.transfer.specs.TableRuns.{operands-put}
 use borrow.Author.Needs.{needs}
-use Rattle.store.proofs.intake.put_operands.Statement.{statement}
-use Rattle.store.proofs.intake.put_operands.Tie as tie
+use Rattle.transfer.proofs.intake.put_operands.Statement.{statement}
+use Rattle.transfer.proofs.intake.put_operands.Tie as tie
 
 mul-k : tie.Need-mul-k
 mul-k c = search needs

@@ -5,9 +5,9 @@ use mathlib.Core.Path.{_≡_, subst, ap, _∙_}
 use lib.ListN.{length, length-map}
 use borrow.Author.Needs.{needs}
 use Rattle.machine.specs.Model.{part-at, with-state, with-parts}
-use Rattle.store.specs.Recalled.{RecalledFirst, recalled-none, recalled-more, recalled-count, recalled-all}
-use Rattle.store.proofs.recall.recalled.Statement.{statement}
-use Rattle.store.proofs.recall.recalled.Tie as tie
+use Rattle.transfer.specs.Recalled.{RecalledFirst, recalled-none, recalled-more, recalled-count, recalled-all}
+use Rattle.transfer.proofs.recall.recalled.Statement.{statement}
+use Rattle.transfer.proofs.recall.recalled.Tie as tie
 
 abbrev Inv-loop : tie.InvT-loop
 Inv-loop state next₀ i₀ next i = (i ≤ next₀ .count) × RecalledFirst next₀ state i next

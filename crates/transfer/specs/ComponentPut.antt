@@ -11,11 +11,11 @@ use lib.ListN.{length}
 use Rattle.machine.specs.declared.part.Component.{Component}
 use Rattle.laws.specs.Bools.{and-left, and-right, and-intro}
 use Rattle.codec.specs.Tables.{table-same}
 use Rattle.store.specs.Held.{lent, table-words, stored-spans, stored-component, stored-ratio, stored-number}
 use Rattle.store.specs.Form.{table-limits, words-within}
 use Rattle.store.specs.WordsWritten.{Outside}
 use Rattle.store.specs.Updated.{within-same}
-use Rattle.store.specs.TableRuns.{operand-limits, span-limits, wire-limits, OperandsPut, SpansPut, WiresPut}
+use Rattle.transfer.specs.TableRuns.{operand-limits, span-limits, wire-limits, OperandsPut, SpansPut, WiresPut}
 
 -- the words b are the words a with the record of part i written anew: what the table fixes of it, its ratio, and the number at its place of the order
 pub record ComponentPut (i : ℕ) (c : Component) (ratio number : ℕ) (a b : List ℕ) : Type 0 where

@@ -4,9 +4,9 @@ use native.Mathlib.Omega.{arith}
 use mathlib.Core.Path.{_≡_, subst, _∙_}
 use lib.ListN.{length, length-map}
 use borrow.Author.Needs.{needs}
-use Rattle.store.specs.ModelPut.{PutFirst, put-none, put-more, model-put}
-use Rattle.store.proofs.intake.put_model.Statement.{statement}
-use Rattle.store.proofs.intake.put_model.Tie as tie
+use Rattle.transfer.specs.ModelPut.{PutFirst, put-none, put-more, model-put}
+use Rattle.transfer.proofs.intake.put_model.Statement.{statement}
+use Rattle.transfer.proofs.intake.put_model.Tie as tie
 
 abbrev Inv-loop : tie.InvT-loop
 Inv-loop table₀ state₀ m i₀ table state i = (i ≤ m .count) × PutFirst m i table₀ state₀ table state
