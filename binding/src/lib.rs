@@ -1,9 +1,11 @@
 //! The rehearsal master's calls `load` and `advance`. The calls themselves are the proved ones of the static
-//! library, and work in words of 64 bits that they are lent; here is the owner of those words, and what they
-//! say as typed records. The crate `store` of the repository defines the words, in `specs/Held.antt` and
+//! library, and work in words of 64 bits that they are lent (`load_into`, `advance_into`); here is the owner of
+//! those words, and what they say as typed records. The crate `store` of the repository defines the words, in `specs/Held.antt` and
 //! `specs/Form.antt`.
+mod calls;
 mod part;
 
+pub use calls::{advance_into, load_into};
 pub use part::{Kind, Mark, Part, Side, KINDS};
 
 /// How many parts a model has room for, and how many spans a part.
@@ -23,30 +25,6 @@ pub const fn table_words(parts: usize) -> usize {
 /// How many words a state of a model of so many parts has.
 pub const fn state_words(parts: usize) -> usize {
     HEAD + STATE_RECORD * parts
-}
-
-extern "C" {
-    fn dozhumek_load(
-        stream: *const u8,
-        stream_length: usize,
-        table: *mut u64,
-        table_length: usize,
-        state: *mut u64,
-        state_length: usize,
-        out: *mut u64,
-        out_length: usize,
-    ) -> u64;
-    fn dozhumek_advance(
-        table: *const u64,
-        table_length: usize,
-        old: *const u64,
-        old_length: usize,
-        wanted: u64,
-        new: *mut u64,
-        new_length: usize,
-        out: *mut u64,
-        out_length: usize,
-    ) -> u64;
 }
 
 /// A model: the words of its table, of its state, and of the state that the next advance writes. An advance that is
@@ -82,19 +60,7 @@ pub fn load(stream: &[u8]) -> Loaded {
     let mut table = vec![0; table_words(PARTS)];
     let mut state = vec![0; state_words(PARTS)];
     let mut out = [0; 2];
-    // SAFETY: the slices are whole, and those that are written overlap no other.
-    unsafe {
-        dozhumek_load(
-            stream.as_ptr(),
-            stream.len(),
-            table.as_mut_ptr(),
-            table.len(),
-            state.as_mut_ptr(),
-            state.len(),
-            out.as_mut_ptr(),
-            out.len(),
-        )
-    };
+    load_into(stream, &mut table, &mut state, &mut out);
     let [number, position] = out;
     // There was room for the most parts, so that the words of a refused load are all 0, and so is their count.
     let count = table[1] as usize;
@@ -108,20 +74,7 @@ pub fn load(stream: &[u8]) -> Loaded {
 /// One advance of a model, by at most `wanted`. Where the number is 0 the model stands at the new point; otherwise it is kept.
 pub fn advance(model: &mut Model, wanted: u64) -> Answer {
     let mut out = [0; 5];
-    // SAFETY: the slices are whole, and those that are written overlap no other.
-    unsafe {
-        dozhumek_advance(
-            model.table.as_ptr(),
-            model.table.len(),
-            model.state.as_ptr(),
-            model.state.len(),
-            wanted,
-            model.next.as_mut_ptr(),
-            model.next.len(),
-            out.as_mut_ptr(),
-            out.len(),
-        )
-    };
+    advance_into(&model.table, &model.state, wanted, &mut model.next, &mut out);
     let [number, step, rounds, revisions, ceiling] = out;
     if number == 0 {
         std::mem::swap(&mut model.state, &mut model.next);

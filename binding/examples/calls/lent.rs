@@ -6,30 +6,6 @@ use crate::words::*;
 /// The number of a call whose words are too few for what it has to write.
 pub const TOO_SHORT: u64 = 25;
 
-extern "C" {
-    fn dozhumek_load(
-        stream: *const u8,
-        stream_length: usize,
-        table: *mut u64,
-        table_length: usize,
-        state: *mut u64,
-        state_length: usize,
-        out: *mut u64,
-        out_length: usize,
-    ) -> u64;
-    fn dozhumek_advance(
-        table: *const u64,
-        table_length: usize,
-        old: *const u64,
-        old_length: usize,
-        wanted: u64,
-        new: *mut u64,
-        new_length: usize,
-        out: *mut u64,
-        out_length: usize,
-    ) -> u64;
-}
-
 /// How many words the table of so many parts has, and a state.
 pub fn table_words(parts: usize) -> usize {
     HEAD + TABLE_RECORD * parts
@@ -50,19 +26,7 @@ pub struct Load {
 /// Loads a stream into so many words of each, all `fill` before.
 pub fn load(stream: &[u8], [table, state, out]: [usize; 3], fill: u64) -> Load {
     let [mut table, mut state, mut out] = [table, state, out].map(|length| vec![fill; length]);
-    // SAFETY: the slices are whole, and overlap no other.
-    let code = unsafe {
-        dozhumek_load(
-            stream.as_ptr(),
-            stream.len(),
-            table.as_mut_ptr(),
-            table.len(),
-            state.as_mut_ptr(),
-            state.len(),
-            out.as_mut_ptr(),
-            out.len(),
-        )
-    };
+    let code = dozhumek::load_into(stream, &mut table, &mut state, &mut out);
     Load { code, table, state, out }
 }
 
@@ -83,20 +47,7 @@ pub struct Advance {
 /// Advances the model of these words into so many of each, all `fill` before.
 pub fn advance(table: &[u64], old: &[u64], wanted: u64, [new, out]: [usize; 2], fill: u64) -> Advance {
     let [mut new, mut out] = [new, out].map(|length| vec![fill; length]);
-    // SAFETY: the slices are whole, and those that are written overlap no other.
-    let code = unsafe {
-        dozhumek_advance(
-            table.as_ptr(),
-            table.len(),
-            old.as_ptr(),
-            old.len(),
-            wanted,
-            new.as_mut_ptr(),
-            new.len(),
-            out.as_mut_ptr(),
-            out.len(),
-        )
-    };
+    let code = dozhumek::advance_into(table, old, wanted, &mut new, &mut out);
     Advance { code, new, out }
 }
 
