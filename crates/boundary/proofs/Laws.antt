@@ -17,7 +17,7 @@ use Rattle.machine.specs.Advance.{Outcome}
 use Rattle.soundness.specs.Facts.{sound-facts, table-facts}
 use Rattle.store.specs.Held.{table-words, state-words-of}
 use Rattle.store.specs.Form.{spelled}
-use Rattle.transfer.specs.ModelPut.{ModelPut}
+use Rattle.transfer.specs.ModelPut.{KeptBehind, ModelPut}
 use Rattle.loading.specs.LoadOwed.{accepted-is-a-table}
 use Rattle.master.specs.declared.verdict.Verdict.{Verdict}
 use Rattle.master.specs.Into.{lent-model, verdict-of, outcome-into, CalledInto}
@@ -46,6 +46,7 @@ taken-refused m number a s some =
     record {
       is = rw (ne-eqb number 0 some) refl;
       put = λ none. absurd (some none);
+      behind = λ none. absurd (some none);
       kept = λ other. (refl, refl);
     }
 
@@ -56,6 +57,7 @@ table-short m number a s none short =
     record {
       is = rw (eq-eqb number 0 none, lt-leb (table-words (m .count)) (length a) short) refl;
       put = λ zero. absurd (omega arith);
+      behind = λ zero. absurd (omega arith);
       kept = λ other. (refl, refl);
     }
 
@@ -67,17 +69,19 @@ state-short m number a s none room short =
       is =
           rw (eq-eqb number 0 none, le-leb (table-words (m .count)) (length a) room, lt-leb (state-words-of (m .count)) (length s) short) refl;
       put = λ zero. absurd (omega arith);
+      behind = λ zero. absurd (omega arith);
       kept = λ other. (refl, refl);
     }
 
 -- and where there is room the model was put
 pub taken-put : (m : Model) (number : ℕ) (a b s t : List ℕ) → number ≡ 0 → table-words (m .count) ≤ length a → state-words-of (m .count) ≤ length s →
-    ModelPut m b t → TakenIn m number a b s t 0
+    ModelPut m b t → KeptBehind (m .count) a b s t → TakenIn m number a b s t 0
 unfolding taken-number
-taken-put m number a b s t none room spare put =
+taken-put m number a b s t none room spare put behind =
     record {
       is = rw (eq-eqb number 0 none, le-leb (table-words (m .count)) (length a) room, le-leb (state-words-of (m .count)) (length s) spare) refl;
       put = λ zero. put;
+      behind = λ zero. behind;
       kept = λ other. absurd (other refl);
     }
 
@@ -110,6 +114,7 @@ loaded-short stream a s o few =
       model = λ none. absurd (omega arith);
       form = λ none. absurd (omega arith);
       sounds = λ none. absurd (omega arith);
+      behind = λ none. absurd (omega arith);
       kept = λ some. (refl, refl);
     }
 
@@ -127,6 +132,7 @@ loaded-words stream a b s t o p r number is taken room written =
           λ none.
           let accepted = taken-accepted (r .number) (r .model .count) (length a) (length s) (sym (taken .is) ∙ none) in
           ap sound (taken .put none .is) ∙ accepted-is-a-table stream r is accepted .1 .sound;
+      behind = λ none. subst (λ (l : Loaded). KeptBehind (l .model .count) a b s t) is (taken .behind none);
       kept = taken .kept;
     }
 

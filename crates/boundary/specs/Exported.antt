@@ -11,7 +11,7 @@ use Rattle.machine.specs.Sound.{sound}
 use Rattle.machine.specs.Advance.{Outcome}
 use Rattle.store.specs.Held.{table-words, state-words-of}
 use Rattle.store.specs.Form.{spelled}
-use Rattle.transfer.specs.ModelPut.{ModelPut}
+use Rattle.transfer.specs.ModelPut.{KeptBehind, ModelPut}
 use Rattle.master.specs.Into.{verdict-of, lent-model, outcome-into, CalledInto}
 
 -- the number of a load that ended with a number and a model of so many parts, with so many words lent for the table and for the state: 25 where the
@@ -21,10 +21,11 @@ taken-number number count table state =
     cond (eqb number 0) (cond (leb (table-words count) table && leb (state-words-of count) state) 0 25) number
 
 -- a model that was loaded with a number, and the words of a table before and after it was taken in, a and b, and of a state, s and t: where the number is then 0 the model
--- was put into the words, and where it is not they are kept
+-- was put into the words, and those behind it are kept, and where it is not all are kept
 pub record TakenIn (m : Model) (loaded : ℕ) (a b s t : List ℕ) (number : ℕ) : Type 0 where
   pub is : number ≡ taken-number loaded (m .count) (length a) (length s)
   pub put : number ≡ 0 → ModelPut m b t
+  pub behind : number ≡ 0 → KeptBehind (m .count) a b s t
   pub kept : (number ≡ 0 → ⊥) → (b ≡ a) × (t ≡ s)
 
 -- the number of a load of a stream
@@ -33,7 +34,8 @@ loaded-number stream table state = taken-number (load stream .number) (load stre
 
 -- A stream, the words of a table before and after a load, a and b, of a state, s and t, and of the answer, o and p, and the call's number. Where the
 -- answer has room, the number is the load's, or 25; it and the load's position are the answer's first words, and the others are kept. Where the number is 0,
--- the words spell the model that loading the stream gives, and it is sound, so that a call on it is not refused with 24; where it is not, the words are kept.
+-- the words spell the model that loading the stream gives, and it is sound, so that a call on it is not refused with 24, and the words behind it are kept;
+-- where it is not, all words are kept.
 pub record LoadedWords (stream a b s t o p : List ℕ) (number : ℕ) : Type 0 where
   pub short : length o < 2 → (number ≡ 25) × (p ≡ o)
   pub is : 2 ≤ length o → number ≡ loaded-number stream (length a) (length s)
@@ -41,6 +43,7 @@ pub record LoadedWords (stream a b s t o p : List ℕ) (number : ℕ) : Type 0 w
   pub model : number ≡ 0 → lent-model b t ≡ load stream .model
   pub form : number ≡ 0 → spelled b t ≡ true
   pub sounds : number ≡ 0 → sound (lent-model b t) ≡ true
+  pub behind : number ≡ 0 → KeptBehind (load stream .model .count) a b s t
   pub kept : (number ≡ 0 → ⊥) → (b ≡ a) × (t ≡ s)
 
 -- how a call of `advance` ends, in words, with what stood behind them

@@ -4,7 +4,7 @@ use Prim.Native.Nat.{ℕ, _+_, _*_, _%_, _≤_, _<_}
 use native.Mathlib.Omega.{arith}
 use mathlib.Core.Path.{_≡_, refl, sym, ap, _∙_}
 use mathlib.Core.Bool.{true}
-use mathlib.Core.Logic.{inl}
+use mathlib.Core.Logic.{inl, inr}
 use mathlib.Core.List.{List, map}
 use lib.ListN.{length, getD, set, length-set, take}
 use lib.Seq.{getD-set-same, getD-set-other, getD-take, length-take-le, take-all, ext-getD}
@@ -25,12 +25,22 @@ pub record ModelPut (m : Model) (ts ss : List ℕ) : Type 0 where
   pub is : trimmed (held ts ss) ≡ trimmed m
   pub form : spelled ts ss ≡ true
 
+-- the words from n on are kept
+abbrev pub KeptFrom : ℕ → List ℕ → List ℕ → Type 0
+KeptFrom n a b = (x : ℕ) → n ≤ x → lent b x ≡ lent a x
+
+-- the words behind a model of n parts are kept, of a table, a and b, and of a state, s and t
+pub record KeptBehind (n : ℕ) (a b s t : List ℕ) : Type 0 where
+  pub table : KeptFrom (table-words n) a b
+  pub state : KeptFrom (state-words-of n) s t
+
 -- the words b are the words a with the magnitude, which fits its field, and the count written anew
 pub record HeaderPut (magnitude count : ℕ) (a b : List ℕ) : Type 0 where
   pub size : length b ≡ length a
   pub magnitude-is : lent b 0 ≡ magnitude
   pub octet : magnitude ≤ 255
   pub count-is : lent b 1 ≡ count
+  pub others : KeptFrom 2 a b
 
 -- the two words, written
 pub header-put : (a : List ℕ) (magnitude count : ℕ) → 2 ≤ length a → magnitude ≤ 255 →
@@ -42,6 +52,8 @@ header-put a magnitude count room octet =
       magnitude-is = getD-set-other (set a 0 magnitude) 1 0 count 0 (λ e. omega arith) ∙ getD-set-same a 0 magnitude 0 (omega arith);
       octet = octet;
       count-is = getD-set-same (set a 0 magnitude) 1 count 0 inside;
+      others = λ x far.
+          getD-set-other (set a 0 magnitude) 1 x count 0 (λ e. omega arith) ∙ getD-set-other a 0 x magnitude 0 (λ e. omega arith);
     }
 
 -- part j of m stands in the words, and so does the number at place j of its order, all in words within their limits
@@ -51,7 +63,7 @@ pub record PutAt (m : Model) (j : ℕ) (ts ss : List ℕ) : Type 0 where
   pub table-form : words-within ts (table-words j) table-limits ≡ true
   pub state-form : state-spelled ss j ≡ true
 
--- the magnitude, the count, the point and the first i parts of m stand in the words, which are as many as a and s
+-- the magnitude, the count, the point and the first i parts of m stand in the words, which are as many as a and s, and the same behind the model's
 pub record PutFirst (m : Model) (i : ℕ) (a s ts ss : List ℕ) : Type 0 where
   pub table-size : length ts ≡ length a
   pub state-size : length ss ≡ length s
@@ -60,6 +72,7 @@ pub record PutFirst (m : Model) (i : ℕ) (a s ts ss : List ℕ) : Type 0 where
   pub count-is : lent ts 1 ≡ m .count
   pub point-is : stored-point ss ≡ m .point
   pub each : (j : ℕ) → j < i → PutAt m j ts ss
+  pub behind : KeptBehind (m .count) a ts s ss
 
 -- no part at first
 pub put-none : (m : Model) (a s ts ss : List ℕ) → HeaderPut (m .magnitude) (m .count) a ts → PointPut (m .point) s ss →
@@ -73,6 +86,7 @@ put-none m a s ts ss header point =
       count-is = header .count-is;
       point-is = point .is;
       each = λ j low. absurd (omega arith);
+      behind = record { table = λ x far. refl; state = λ x far. refl };
     }
 
 -- and then one part more
@@ -80,6 +94,7 @@ module _
     (m : Model)
     (i : ℕ)
     (a s ts ss us vs : List ℕ)
+    (low : i < m .count)
     (before : PutFirst m i a s ts ss)
     (table-put : ComponentPut i (part-at (m .parts) i .component) (part-at (m .parts) i .ratio) (getD (m .order) i 0) ts us)
     (state-put : StatePut i (part-at (m .parts) i .state) ss vs) where
@@ -124,6 +139,11 @@ module _
         count-is = table-put .others 1 (inl (omega arith)) ∙ before .count-is;
         point-is = point-kept ss vs i (part-at (m .parts) i .state) state-put ∙ before .point-is;
         each = below-more (λ (j : ℕ). PutAt m j us vs) i kept here;
+        behind =
+            record {
+              table = λ x far. table-put .others x (inr (omega arith)) ∙ before .behind .table x far;
+              state = λ x far. state-put .others x (inr (omega arith)) ∙ before .behind .state x far;
+            };
       }
 
 -- the table of the first n elements of a list
@@ -171,4 +191,13 @@ model-put m a s ts ss put few orders parts table-room state-room =
           }) ∙
           parts-all ts ss (parts-lent ts)
           (λ j low. let at = put .each j (omega (arith, put .count-is)) in (at .table-form, at .state-form));
+    }
+
+-- and what was kept since the header and the point were written was kept since before them
+pub behind-put-words :
+    (m : Model) (a b s t ts ss : List ℕ) → HeaderPut (m .magnitude) (m .count) a b → PointPut (m .point) s t → KeptBehind (m .count) b ts t ss → KeptBehind (m .count) a ts s ss
+behind-put-words m a b s t ts ss header point behind =
+    record {
+      table = λ x far. behind .table x far ∙ header .others x (omega arith);
+      state = λ x far. behind .state x far ∙ point .others x (omega arith);
     }

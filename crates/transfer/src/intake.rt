@@ -18,7 +18,7 @@ ghost use lib.ListN.{length};
 ghost use Rattle.store.specs.Held.{state-words-of, table-words};
 ghost use Rattle.transfer.specs.TableRuns.{OperandsPut, SpansPut, WiresPut};
 ghost use Rattle.transfer.specs.ComponentPut.{ComponentPut};
-ghost use Rattle.transfer.specs.ModelPut.{HeaderPut, ModelPut};
+ghost use Rattle.transfer.specs.ModelPut.{HeaderPut, KeptBehind, ModelPut};
 
 // The kind, the preference, the operands and the count of spans of part `i`.
 fn put_operands(
@@ -99,12 +99,13 @@ fn put_header(table: &mut [u64], magnitude: u8, count: usize)
     table[1] = count as u64;
 }
 
-// The model, put into words that have room for it.
+// The model, put into words that have room for it. The words behind the model's are kept.
 pub fn put_model(m: Model, table: &mut [u64], state: &mut [u64])
     requires { ⌜ m .count ≤ 32 ⌝ }
     requires { ⌜ table-words (m .count) ≤ length (now table) ⌝ }
     requires { ⌜ state-words-of (m .count) ≤ length (now state) ⌝ }
     ensures { λ r. ⌜ ModelPut m (now (table .exit)) (now (state .exit)) ⌝ }
+    ensures { λ r. ⌜ KeptBehind (m .count) (now (table .entry)) (now (table .exit)) (now (state .entry)) (now (state .exit)) ⌝ }
 {
     let now = m.point;
     put_header(table, m.magnitude, m.count);

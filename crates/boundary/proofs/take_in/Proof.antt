@@ -48,7 +48,8 @@ returns-4 c =
     let puts = c .before .before .before .before in
     let state = puts .before .before .before in
     let table = state .before in
-    taken-put _ _ _ (puts .put-model .last .1 .0) _ (puts .put-model .last .1 .1 .0) (table .before .if1 .left) (table .if2 .left) (state .if3 .left) (puts .put-model .ensures)
+    taken-put _ _ _ (puts .put-model .last .1 .0) _ (puts .put-model .last .1 .1 .0) (table .before .if1 .left) (table .if2 .left) (state .if3 .left) (puts .put-model .ensures .0)
+    (puts .put-model .ensures .1)
 
 pub take-in-spec : {M : Type 1} → statement M
 take-in-spec =

@@ -63,7 +63,7 @@ returns-2 c =
     let puts = puts-of advances in
     let s = start-of puts in
     refused-by-value (s .args .m) (s .args .w) 290 (table-of puts) (old-of puts) _ (new-of advances) (advances .advance-into .result)
-    (puts .put-model .ensures) (omega arith) (advances .advance-into .ensures) (c .if2 .taken)
+    (puts .put-model .ensures .0) (omega arith) (advances .advance-into .ensures) (c .if2 .taken)
 
 slice-aggregate-recalled : tie.Need-slice-aggregate-recalled
 slice-aggregate-recalled c = search needs
@@ -78,7 +78,7 @@ returns-3 c =
     let puts = puts-of advances in
     let s = start-of puts in
     committed-by-value (s .args .m) (s .args .w) 290 (table-of puts) (old-of puts) _ (new-of advances) (advances .advance-into .result)
-    (puts .put-model .ensures) (omega arith) (advances .advance-into .ensures) (c .recalled .result) (c .recalled .ensures) (test .if2 .left)
+    (puts .put-model .ensures .0) (omega arith) (advances .advance-into .ensures) (c .recalled .result) (c .recalled .ensures) (test .if2 .left)
 
 pub advance-spec : {M : Type 1} → statement M
 advance-spec =

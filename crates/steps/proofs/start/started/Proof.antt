@@ -89,7 +89,7 @@ filled-into-requires c κs =
     let copies = c .before .before .before .before in
     let puts = puts-of copies in
     let s = start-of puts in
-    let put = puts .put-model .ensures in (
+    let put = puts .put-model .ensures .0 in (
       spelled-room (table-of puts) (old-of puts) (put .form),
       (
         start-room (s .args .m) (s .pre) (table-of puts) (old-of puts) (copy-of copies) put (copied copies),
@@ -109,7 +109,7 @@ settled-into-requires c κs =
     let copies = copies-of fills in
     let puts = puts-of copies in
     let s = start-of puts in
-    let put = puts .put-model .ensures in (
+    let put = puts .put-model .ensures .0 in (
       room-kept (table-of puts) (copy-of copies) (filled-of fills) (parts-lent (table-of puts)) (fills .filled-into .ensures .1)
           (start-room (s .args .m) (s .pre) (table-of puts) (old-of puts) (copy-of copies) put (copied copies)),
       start-settleable (s .args .m) (s .pre) (table-of puts) (old-of puts) (copy-of copies) put (copied copies) (filled-of fills)
@@ -132,7 +132,7 @@ returns c =
     let copies = copies-of fills in
     let puts = puts-of copies in
     let s = start-of puts in
-    start-is (s .args .m) (s .pre) (table-of puts) (old-of puts) (copy-of copies) (puts .put-model .ensures) (copied copies) (filled-of fills)
+    start-is (s .args .m) (s .pre) (table-of puts) (old-of puts) (copy-of copies) (puts .put-model .ensures .0) (copied copies) (filled-of fills)
     (fills .filled-into .ensures .0) (settles .settled-into .last .1 .0) (c .recalled .result) (settles .settled-into .ensures .0) (c .recalled .ensures)
 
 pub started-spec : {M : Type 1} → statement M
