@@ -1,25 +1,22 @@
--- What a round behind the first needs of a sound model, by what the code reads of each part: its kind, and of a drive its longest step. A part that is no drive
+-- What a round behind the first needs of a model in words, by what the code reads of each part: its kind, and of a drive its longest step. A part that is no drive
 -- accepts h then (`Agreed`), and lowers nothing. Assumes nothing.
 use Prim.Native.Nat.{ℕ, _+_, _≤_, _<_, min}
-use native.Mathlib.Numerals.{add-one}
 use mathlib.Core.Path.{_≡_, refl, sym, ap, _∙_}
 use mathlib.Core.Bool.{Bool, true, false, true≢false, false≢true}
-use mathlib.Core.List.{List, _∷_}
-use lib.ListN.{length, drop}
-use lib.Seq.{drop-cons}
+use mathlib.Core.List.{List}
+use lib.ListN.{drop}
 use Rattle.machine.specs.declared.time.Point.{Point}
 use Rattle.machine.specs.declared.part.Kind.{Kind}
-use Rattle.machine.specs.declared.part.Kind.the-variants.{Constant, Gain, Adder, Square, Pulse, Delay, Integrator, ResetIntegrator, Detector, Hold, Sampler, Drive, Clapper}
 use Rattle.machine.specs.declared.part.Part.{Part}
 use Rattle.machine.specs.declared.model.Model.{Model}
 use Rattle.machine.specs.Time.{tick}
-use Rattle.machine.specs.Model.{blank-part, part-at, reading0, trimmed, trimmed-part, trimmed-component}
-use Rattle.machine.specs.Sound.{sound}
+use Rattle.machine.specs.Model.{part-at, reading0, trimmed, trimmed-part}
 use Rattle.machine.specs.Accept.{Class, waiting, delaying, detecting, driving, free, class, class-of, longest-as}
 use Rattle.machine.specs.Advance.{least}
 use Rattle.acceptance.specs.Agreed.{Agreed, least-agreed, longest-driven}
 use Rattle.store.specs.Held.{parts-lent, stored-component, stored-part, stored-point, held}
-use Rattle.steps.specs.LentMoving.{lent-many, lent-part}
+use Rattle.steps.specs.LentReading.{lent-many, lent-kind}
+use Rattle.asking.specs.LentAsked.{parts-from, part-here}
 
 -- the class of drives
 abbrev is-driving : Class → Bool
@@ -43,25 +40,20 @@ undriven c none e = true≢false (ap is-driving (sym e) ∙ none)
 abbrev pub drives : Kind → Bool
 drives k = is-driving (class k)
 
-module _ (ts ss : List ℕ) (is-sound : sound (trimmed (held ts ss)) ≡ true) (i : ℕ) (low : i < parts-lent ts) (kind : Kind) (of : kind ≡ stored-component ts i .kind) where
+module _ (ts ss : List ℕ) (i : ℕ) (low : i < parts-lent ts) (kind : Kind) (of : kind ≡ stored-component ts i .kind) where
   -- the model that the words mean, trimmed
   abbrev m : Model
   m = trimmed (held ts ss)
 
   -- the class of its part i is its kind's
   class-here : class-of (part-at (m .parts) i) ≡ class kind
-  unfolding stored-part trimmed-part trimmed-component
-  class-here = ap class-of (lent-part ts ss i low) ∙ ap class (sym of)
-
-  -- the parts from i on
-  from-here : drop i (m .parts) ≡ part-at (m .parts) i ∷ drop (i + 1) (m .parts)
-  from-here = rw (add-one i) (drop-cons (m .parts) i blank-part (rw (lent-many ts ss) low))
+  class-here = ap class (lent-kind ts ss i low ∙ sym of)
 
   -- a part that is no drive is passed over
   pub later-passes : (h best : ℕ) → best ≤ h → drives kind ≡ false → Agreed m h → least m h best (drop i (m .parts)) ≡ least m h best (drop (i + 1) (m .parts))
   later-passes h best few none agreed =
       let accepts = agreed i (rw (lent-many ts ss) low) (λ e. undriven (class kind) none (sym class-here ∙ e)) in
-      ap (least m h best) from-here ∙ least-agreed m h best (part-at (m .parts) i) (drop (i + 1) (m .parts)) few accepts
+      ap (least m h best) (parts-from ts ss i low) ∙ least-agreed m h best (part-at (m .parts) i) (drop (i + 1) (m .parts)) few accepts
 
   -- a drive's longest step is taken in
   pub later-drive :
@@ -71,9 +63,8 @@ module _ (ts ss : List ℕ) (is-sound : sound (trimmed (held ts ss)) ≡ true) (
   unfolding least trimmed held
   later-drive p now h best y is at some e =
       let q = part-at (m .parts) i in
-      let same : q ≡ trimmed-part p = lent-part ts ss i low ∙ ap trimmed-part (sym is) in
       let longest-here =
       longest-driven q (m .point) (reading0 (m .parts) q) h (class-here ∙ driven (class kind) some) ∙
-      ap (λ (r : Part). longest-as driving r (tick (stored-point ss)) h) same ∙
+      ap (λ (r : Part). longest-as driving r (tick (stored-point ss)) h) (part-here ts ss i low p is) ∙
       ap (λ (n : Point). longest-as driving (trimmed-part p) (tick n) h) (sym at) ∙ sym e in
-      ap (least m h best) from-here ∙ ap (λ (z : ℕ). least m h (min best z) (drop (i + 1) (m .parts))) longest-here
+      ap (least m h best) (parts-from ts ss i low) ∙ ap (λ (z : ℕ). least m h (min best z) (drop (i + 1) (m .parts))) longest-here

@@ -1,100 +1,118 @@
--- What asking each part of a sound model in words needs, by what the code reads: the part, where its port 0 is wired to, and what it hears from there. The
--- laws of `Asked` are told of the model that the words mean. Assumes nothing.
-use Prim.Native.Nat.{ℕ, _+_, _≤_, _<_, min}
+-- The parts of a model in words, asked one after the other, by what the code reads of each: the part, and what its port 0 reads. Shown is what a part of a sound
+-- model meets, what its reply is in the model, and how a round and a test of all parts go on after it, and end. The idea: the model has the trimmed parts of the
+-- words, and a reply reads nothing that trimming cuts away. Assumes nothing.
+use Prim.Native.Nat.{ℕ, _+_, _/_, _≤_, _<_, min}
 use native.Mathlib.Omega.{arith}
-use mathlib.Core.Path.{_≡_, sym, ap, subst, _∙_}
-use mathlib.Core.Bool.{true}
-use mathlib.Core.List.{List}
-use lib.ListN.{drop}
+use native.Mathlib.Numerals.{add-one}
+use mathlib.Core.Path.{_≡_, sym, ap, ap₂, subst, _∙_}
+use mathlib.Core.Bool.{Bool, true, false, _||_}
+use mathlib.Core.List.{List, [], _∷_}
+use lib.ListN.{length, drop, drop-of-length-le}
+use lib.Seq.{drop-cons}
 use Rattle.machine.specs.declared.time.Point.{Point}
 use Rattle.machine.specs.declared.signal.Signal.{Signal}
 use Rattle.machine.specs.declared.part.Part.{Part}
 use Rattle.machine.specs.declared.model.Model.{Model}
-use Rattle.machine.specs.Time.{last-tick, tick}
+use Rattle.machine.specs.Lists.{All, any}
+use Rattle.machine.specs.Time.{last-tick, tick, local-count}
 use Rattle.machine.specs.Kind.{period}
-use Rattle.machine.specs.Model.{part-at, reading0, trimmed, trimmed-part}
+use Rattle.machine.specs.Model.{blank-part, part-at, reading0, trimmed, trimmed-part, trimmed-component}
 use Rattle.machine.specs.Sound.{sound}
 use Rattle.machine.specs.Accept.{due, longest}
-use Rattle.machine.specs.Advance.{least, objects}
+use Rattle.machine.specs.Advance.{least}
+use Rattle.laws.specs.Bools.{or-left}
+use Rattle.laws.specs.ListLaws.{all-at}
+use Rattle.laws.specs.Numbers.{div-grows}
+use Rattle.soundness.specs.SoundParts.{sound-component}
+use Rattle.acceptance.specs.FitParts.{sound-fit, sound-few}
 use Rattle.replies.specs.Askable.{AskFits}
-use Rattle.steps.specs.Reading.{source-index, heard, index-below, heard0}
-use Rattle.steps.specs.Fillable.{wired-at}
-use Rattle.store.specs.Held.{parts-lent, stored-state, stored-part, stored-point, held}
-use Rattle.store.specs.StoreFrame.{held-part}
-use Rattle.asking.specs.Asked.{wired, period-of, askable, least-from, due-of-part, objects-trimmed}
+use Rattle.replies.specs.DueTrimmed.{due-trimmed}
+use Rattle.store.specs.Held.{parts-lent, stored-part, stored-point, held}
+use Rattle.steps.specs.WiredParts.{sound-periods}
+use Rattle.steps.specs.LentReading.{lent-many, lent-part}
 
--- what is read of part i: the part, the number that its port 0 is wired to, the stored output there, and what it hears
-pub record Asks (ts ss : List ℕ) (i : ℕ) (p : Part) (k : ℕ) (out x : Signal) : Type 0 where
-  pub part : p ≡ stored-part ts ss i
-  pub source : k ≡ source-index (p .component .port0)
-  pub shows : out ≡ stored-state ss k .output
-  pub hears : x ≡ heard (p .component .port0) out
+-- each part of a sound model has at most 8 spans
+sound-spans : (m : Model) → sound m ≡ true → (i : ℕ) → i < length (m .parts) → part-at (m .parts) i .component .«span_count» ≤ 8
+sound-spans m is-sound i within = rw (sound-component m is-sound i within .counted) (sound-few m is-sound i within)
 
-module _ (ts ss : List ℕ) (is-sound : sound (trimmed (held ts ss)) ≡ true) where
-  -- the model that the words mean, and its part i
+module _ (ts ss : List ℕ) where
+  -- the model that the words mean, trimmed
   abbrev m : Model
-  m = held ts ss
+  m = trimmed (held ts ss)
 
-  part-held : (i : ℕ) (p : Part) → i < parts-lent ts → p ≡ stored-part ts ss i → p ≡ part-at (m .parts) i
-  part-held i p low e = e ∙ sym (held-part ts ss i low)
+  -- the end of its parts: no test is passed there, and a round is what is best by then
+  parts-end : (i : ℕ) → parts-lent ts ≤ i → drop i (m .parts) ≡ []
+  parts-end i past = drop-of-length-le (m .parts) {i = i} (rw (lent-many ts ss) past)
 
-  counted : (i : ℕ) → i < parts-lent ts → i < m .count
-  unfolding held
-  counted i low = low
+  pub any-end : (f : Part → Bool) (i : ℕ) → parts-lent ts ≤ i → any f (drop i (m .parts)) ≡ false
+  unfolding any
+  any-end f i past = ap (any f) (parts-end i past)
 
-  -- the part that its port 0 is wired to is one of the table's
-  pub source-lent : (i : ℕ) (p : Part) → i < parts-lent ts → p ≡ stored-part ts ss i → source-index (p .component .port0) < parts-lent ts
-  unfolding held
-  source-lent i p low e =
-      let below = wired-at m (wired m is-sound) i low in
-      let some : 0 < parts-lent ts = omega arith in
-      subst (λ (q : Part). source-index (q .component .port0) < parts-lent ts) (sym (part-held i p low e))
-      (index-below (parts-lent ts) (part-at (m .parts) i .component .port0) some (below .port0))
+  pub least-end : (h best i : ℕ) → parts-lent ts ≤ i → least m h best (drop i (m .parts)) ≡ best
+  unfolding least
+  least-end h best i past = ap (least m h best) (parts-end i past)
 
-  -- what is heard is the reading of port 0
-  pub reading-lent : (i : ℕ) (p : Part) (k : ℕ) (out x : Signal) → i < parts-lent ts → Asks ts ss i p k out x →
-      x ≡ reading0 (m .parts) (part-at (m .parts) i)
-  unfolding stored-part
-  reading-lent i p k out x low asks =
-      let within = source-lent i p low (asks .part) in
-      let there : k < parts-lent ts = subst (λ (j : ℕ). j < parts-lent ts) (sym (asks .source)) within in
-      let stored : out ≡ part-at (m .parts) k .state .output =
-      asks .shows ∙ sym (ap (λ (q : Part). q .state .output) (held-part ts ss k there)) in
-      heard0 (m .parts) p k x (asks .source) (asks .hears ∙ ap (heard (p .component .port0)) stored) ∙
-      ap (reading0 (m .parts)) (part-held i p low (asks .part))
+  -- the place i is one of its parts
+  module _ (i : ℕ) (low : i < parts-lent ts) where
+    inside : i < length (m .parts)
+    inside = rw (lent-many ts ss) low
 
-  -- what its reply asks
-  pub period-lent : (i : ℕ) (p : Part) → i < parts-lent ts → p ≡ stored-part ts ss i → period p ≤ last-tick
-  period-lent i p low e =
-      subst (λ (q : Part). period q ≤ last-tick) (sym (part-held i p low e)) (period-of m is-sound i (counted i low))
+    -- the parts from i on
+    pub parts-from : drop i (m .parts) ≡ part-at (m .parts) i ∷ drop (i + 1) (m .parts)
+    parts-from = rw (add-one i) (drop-cons (m .parts) i blank-part inside)
 
-  pub askable-lent : (i : ℕ) (p : Part) (now : Point) (h : ℕ) → now ≡ stored-point ss → tick (m .point) + h ≤ last-tick → i < parts-lent ts →
-      p ≡ stored-part ts ss i → AskFits (tick now) h p
-  unfolding held
-  askable-lent i p now h at far low e =
-      subst (λ (q : Part). AskFits (tick now) h q) (sym (part-held i p low e))
-      (subst (λ (n : Point). AskFits (tick n) h (part-at (m .parts) i)) (sym at) (askable m is-sound h i far low))
+    -- a test that the part i passes, and one that it does not
+    pub any-hit : (f : Part → Bool) → f (part-at (m .parts) i) ≡ true → any f (drop i (m .parts)) ≡ true
+    unfolding any
+    any-hit f e = ap (any f) parts-from ∙ or-left (f (part-at (m .parts) i)) (any f (drop (i + 1) (m .parts))) e
 
-  -- a round goes on after it, its longest step taken in
-  pub least-lent : (i : ℕ) (p : Part) (k : ℕ) (out x : Signal) (now : Point) (h best y : ℕ) → i < parts-lent ts → Asks ts ss i p k out x →
-      now ≡ stored-point ss → y ≡ longest (trimmed-part p) now x h →
-      least (trimmed m) h best (drop i (trimmed m .parts)) ≡ least (trimmed m) h (min best y) (drop (i + 1) (trimmed m .parts))
-  unfolding held
-  least-lent i p k out x now h best y low asks at e =
-      least-from m is-sound h best y i low
-      (e ∙ ap (λ (q : Part). longest (trimmed-part q) now x h) (part-held i p low (asks .part)) ∙
-      ap (λ (n : Point). longest (trimmed-part (part-at (m .parts) i)) n x h) at ∙
-      ap (λ (z : Signal). longest (trimmed-part (part-at (m .parts) i)) (stored-point ss) z h) (reading-lent i p k out x low asks))
+    pub any-miss : (f : Part → Bool) → f (part-at (m .parts) i) ≡ false → any f (drop i (m .parts)) ≡ any f (drop (i + 1) (m .parts))
+    unfolding any
+    any-miss f e = ap (any f) parts-from ∙ ap (λ (b : Bool). b || any f (drop (i + 1) (m .parts))) e
 
-  -- whether it is due, as the test of all parts asks it
-  pub due-lent : (i : ℕ) (p : Part) (k : ℕ) (out x : Signal) (now : Point) → i < parts-lent ts → Asks ts ss i p k out x → now ≡ stored-point ss →
-      due (trimmed-part (part-at (m .parts) i)) (m .point) (reading0 (trimmed m .parts) (trimmed-part (part-at (m .parts) i))) ≡ due p now x
-  unfolding held
-  due-lent i p k out x now low asks at =
-      due-of-part m is-sound i low x (reading-lent i p k out x low asks) ∙
-      sym (ap (λ (q : Part). due q now x) (part-held i p low (asks .part)) ∙ ap (λ (n : Point). due (part-at (m .parts) i) n x) at)
+    -- the part as it was read is that of the model
+    module _ (p : Part) (is : p ≡ stored-part ts ss i) where
+      pub part-here : part-at (m .parts) i ≡ trimmed-part p
+      part-here = lent-part ts ss i low ∙ ap trimmed-part (sym is)
 
-  -- and whether it objects
-  pub objects-lent : (i : ℕ) (p : Part) (h : ℕ) → i < parts-lent ts → p ≡ stored-part ts ss i →
-      objects h (trimmed-part (part-at (m .parts) i)) ≡ objects h p
-  objects-lent i p h low e = objects-trimmed h (part-at (m .parts) i) ∙ ap (objects h) (sym (part-held i p low e))
+      -- no P is above 10^18
+      pub period-here : All (λ (q : Part). period q ≤ last-tick) (m .parts) → period p ≤ last-tick
+      unfolding trimmed-part trimmed-component
+      period-here most = rw part-here at (all-at (λ (q : Part). period q ≤ last-tick) (m .parts) blank-part i most inside)
+
+      -- it meets what its longest step asks
+      pub askable : (now : Point) (h : ℕ) → sound m ≡ true → now ≡ stored-point ss → tick (held ts ss .point) + h ≤ last-tick → AskFits (tick now) h p
+      unfolding trimmed held trimmed-part trimmed-component local-count
+      askable now h is-sound at far =
+          let fit = rw part-here at (sound-fit m is-sound i inside) in
+          let counted = rw part-here at (sound-spans m is-sound i inside) in
+          let t = tick (stored-point ss) in
+          let local : p .state .local .0 ≡ t / p .ratio = fit .local in
+          let grows = div-grows (p .ratio) t (t + h) (omega arith) in
+          subst (λ (n : Point). AskFits (tick n) h p) (sym at)
+          (record {
+            places = counted;
+            ratio = fit .ratio;
+            period = period-here (sound-periods m is-sound);
+            waits = fit .period;
+            step = record { time = far; local = rw local grows };
+          })
+
+      -- asked at the point that was read, where its port 0 reads x
+      module _ (now : Point) (x : Signal) (at : now ≡ stored-point ss) (reads : x ≡ reading0 (m .parts) p) where
+        -- a round goes on after it, its longest step taken in
+        pub least-from :
+            (h best y : ℕ) → y ≡ longest (trimmed-part p) now x h → least m h best (drop i (m .parts)) ≡ least m h (min best y) (drop (i + 1) (m .parts))
+        unfolding least trimmed held reading0 trimmed-part trimmed-component
+        least-from h best y e =
+            ap (least m h best) parts-from ∙
+            ap (λ (z : ℕ). least m h (min best z) (drop (i + 1) (m .parts)))
+            (ap (λ (q : Part). longest q (m .point) (reading0 (m .parts) q) h) part-here ∙
+            sym (e ∙ ap₂ (λ (n : Point) (z : Signal). longest (trimmed-part p) n z h) at reads))
+
+        -- whether it is due, as the test of all parts asks it
+        pub due-here : due (part-at (m .parts) i) (m .point) (reading0 (m .parts) (part-at (m .parts) i)) ≡ due p now x
+        unfolding trimmed held reading0 trimmed-part trimmed-component
+        due-here =
+            ap (λ (q : Part). due q (m .point) (reading0 (m .parts) q)) part-here ∙
+            due-trimmed p (m .point) (reading0 (m .parts) p) ∙ sym (ap₂ (due p) at reads)

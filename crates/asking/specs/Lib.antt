@@ -1,5 +1,4 @@
--- Questions asked of all parts, of a model and of its words: rounds, the first and those behind it, and trials.
-pub mod Asked
+-- Questions asked of all parts of a model in words: rounds, the first and those behind it, and trials.
 pub mod LentAsked
 pub mod LaterRounds
 pub mod Trials

@@ -1,16 +1,15 @@
 -- A trial asked for objections before it is settled: what the parts would object to once they are settled is asked of each part, settled by its reading, one by
 -- one; and which kinds can object. Assumes nothing.
 use Prim.Native.Nat.{ℕ}
-use mathlib.Core.Path.{_≡_, refl, ap, _∙_}
+use mathlib.Core.Path.{_≡_, refl, ap}
 use mathlib.Core.Bool.{Bool, true, false, true≢false, _||_}
 use mathlib.Core.List.{List, [], _∷_, map}
-use Rattle.machine.specs.declared.signal.Signal.{Signal}
 use Rattle.machine.specs.declared.part.Kind.{Kind}
 use Rattle.machine.specs.declared.part.Kind.the-variants.{Constant, Gain, Adder, Square, Pulse, Delay, Integrator, ResetIntegrator, Detector, Hold, Sampler, Drive, Clapper}
 use Rattle.machine.specs.declared.part.Part.{Part}
 use Rattle.machine.specs.declared.model.Model.{Model}
 use Rattle.machine.specs.Lists.{any}
-use Rattle.machine.specs.Model.{reading0, trimmed-part, trimmed-component}
+use Rattle.machine.specs.Model.{reading0}
 use Rattle.machine.specs.Step.{settled, all-settled, step-made}
 use Rattle.machine.specs.Accept.{class}
 use Rattle.machine.specs.Advance.{objects, objects-as, any-objects}

@@ -61,7 +61,7 @@ module _ (m : Model) (wired : Wired (trimmed m)) where
   place-in-use i h = omega (arith, wired .few)
 
   -- the model has them all
-  pub wired-places : m .count ≤ length (m .parts)
+  wired-places : m .count ≤ length (m .parts)
   unfolding trimmed
   wired-places = mapped-places trimmed-part (m .count) (m .parts) (wired .counted)
 

@@ -13,9 +13,8 @@ use Rattle.machine.specs.Model.{blank-part, part-at, with-parts, reading, readi
 use Rattle.laws.specs.Alls.{same-at}
 use Rattle.laws.specs.Partway.{partway, partway-next, partway-same, partway-later, partway-kept}
 use Rattle.ordering.specs.Row.{reading-same}
-use Rattle.steps.specs.Reading.{source-index, heard, heard0}
 use Rattle.steps.specs.Trimmed.{Changed, changed-count, changed-more}
-use Rattle.steps.specs.Fillable.{Wired, changed-wired, part-in-use, wired-at, reading-in-use}
+use Rattle.steps.specs.Fillable.{Wired, changed-wired, part-in-use}
 
 -- what such a change g, given what port 0 reads, keeps of a part
 pub record InPlace (g : Signal → Part → Part) : Type 0 where
@@ -33,13 +32,9 @@ changed-to g m i = partway (by-reading g (trimmed m .parts)) i (trimmed m .parts
 
 -- a turn of a loop that changes the parts of m by g, at the place i of the model `next` that it holds: what it reads, and what it comes to
 pub record LoopTurn (g : Signal → Part → Part) (m next : Model) (i : ℕ) : Type 0 where
-  -- the part there is as it is in m
-  pub unchanged : trimmed-part (part-at (next .parts) i) ≡ part-at (trimmed m .parts) i
-  -- what its port 0 is heard to read is its reading in m
-  pub reads :
-      (k : ℕ) (x : Signal) → k ≡ source-index (part-at (next .parts) i .component .port0) →
-      x ≡ heard (part-at (next .parts) i .component .port0) (part-at (next .parts) k .state .output) →
-      x ≡ reading0 (trimmed m .parts) (part-at (trimmed m .parts) i)
+  -- the model is wired as m is, and the part there reads what it reads in m
+  pub wired : Wired (trimmed next)
+  pub reads : reading0 (trimmed next .parts) (part-at (next .parts) i) ≡ reading0 (trimmed m .parts) (part-at (trimmed m .parts) i)
   -- so it is changed next
   pub changes :
       (x : Signal) (v : Part) → x ≡ reading0 (trimmed m .parts) (part-at (trimmed m .parts) i) → v ≡ g x (part-at (next .parts) i) →
@@ -73,12 +68,12 @@ module _
       partway-later (by-reading g ps) i ps i blank-part (omega arith)
 
   -- and reads the same
-  next-reading : reading0 (next .parts) (part-at (next .parts) i) ≡ reading0 (trimmed m .parts) (part-at (trimmed m .parts) i)
+  next-reading : reading0 (trimmed next .parts) (part-at (next .parts) i) ≡ reading0 (trimmed m .parts) (part-at (trimmed m .parts) i)
   unfolding reading0 trimmed-part trimmed-component
   next-reading =
       let ps = trimmed m .parts in
       let s = part-at (next .parts) i .component .port0 in
-      reading-in-use next half-wired s (wired-at next half-wired i within .port0) ∙ ap (λ (x : Model). reading (x .parts) s) (half .is) ∙
+      ap (λ (x : Model). reading (x .parts) s) (half .is) ∙
       reading-same (changed-to g m i) ps s
       (λ k from. same-at (λ (p : Part). p .state .output) (changed-to g m i) ps k blank-part
       (partway-kept (by-reading g ps) (λ (p : Part). p .state .output) i ps (λ p. in-place .output (reading0 ps p) p))) ∙
@@ -93,8 +88,8 @@ module _
       let counted : i < m .count = rw (changed-count m (changed-to g m i) next half) at within in
       let inside : i < length ps = rw (← wired .counted) counted in
       record {
-        unchanged = next-part;
-        reads = λ k x index hears. heard0 (next .parts) p k x index hears ∙ next-reading;
+        wired = half-wired;
+        reads = next-reading;
         changes = λ x v reads changes.
             let is : trimmed-part v ≡ f (part-at ps i) =
             ap trimmed-part changes ∙ in-place .unread x p ∙ ap₂ g reads next-part in

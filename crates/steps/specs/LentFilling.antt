@@ -9,7 +9,6 @@ use mathlib.Core.List.{List}
 use lib.ListN.{length, getD, set}
 use Rattle.machine.specs.declared.time.Point.{Point}
 use Rattle.machine.specs.declared.signal.Signal.{Signal}
-use Rattle.machine.specs.declared.part.Source.{Source}
 use Rattle.machine.specs.declared.part.Part.{Part}
 use Rattle.machine.specs.Signal.{is-signal}
 use Rattle.machine.specs.Kind.{output}
@@ -22,8 +21,9 @@ use Rattle.store.specs.StoreFrame.{held-number, held-part}
 use Rattle.store.specs.Shown.{OutputPut, held-shown}
 use Rattle.steps.specs.Reading.{WiredBelow, source-index, index-below, heard, heard0, heard1}
 use Rattle.steps.specs.Trimmed.{Changed}
-use Rattle.steps.specs.Fillable.{Fillable, wired-at}
+use Rattle.steps.specs.Fillable.{Fillable}
 use Rattle.steps.specs.Showing.{partly, Showable, number-below, half-wired, showable, shown-next, all-filled, heard-shown}
+use Rattle.steps.specs.LentReading.{lent-heard, lent-wired}
 
 -- the words of each part are there
 pub table-room : (ts ss : List ℕ) → WordsThere ts ss → (j : ℕ) → j < parts-lent ts → table-words (j + 1) ≤ length ts
@@ -56,12 +56,6 @@ pub record LentTurn (ts os ns₀ ns : List ℕ) (i k : ℕ) (p : Part) : Type 0 
       out ≡ output p now x y before → OutputPut k out ns then →
       Changed (held ts ns₀) (partly (held ts os) (held ts ns₀) (i + 1)) (held ts then)
 
--- the output of a part in the words is that of the part in the model
-output-held : (ts ss : List ℕ) (s : Source) (k : ℕ) (out x : Signal) → k < parts-lent ts → out ≡ stored-state ss k .output → x ≡ heard s out →
-    x ≡ heard s (part-at (held ts ss .parts) k .state .output)
-unfolding stored-part
-output-held ts ss s k out x low e hears = hears ∙ ap (heard s) (e ∙ ap (λ (q : Part). q .state .output) (sym (held-part ts ss k low)))
-
 module _
     (ts os ns₀ ns : List ℕ)
     (fit : Fillable (trimmed (held ts os)) (trimmed (held ts ns₀)))
@@ -88,10 +82,8 @@ module _
   next-showable = subst (Showable (held ts ns .parts) i) next-number (showable (held ts os) (held ts ns₀) fit (held ts ns) i half within)
 
   next-wired : WiredBelow (parts-lent ts) (stored-part ts ns (stored-number ts i) .component)
-  unfolding held
-  next-wired =
-      subst (λ (q : Part). WiredBelow (parts-lent ts) (q .component)) next-part
-      (wired-at (held ts ns) (half-wired (held ts os) (held ts ns₀) fit (held ts ns) i half within) (stored-number ts i) number-low)
+  unfolding stored-part
+  next-wired = lent-wired ts ns (half-wired (held ts os) (held ts ns₀) fit (held ts ns) i half within) (stored-number ts i) number-low
 
   -- the part shown, and its output written, fills one output more
   next-filled :
@@ -134,15 +126,15 @@ module _
         source1 = below1;
         ranges = subst point.PartFits next-part (next-showable .ranges);
         signal0 = λ k0 out0 x e0 eo ex.
-            rw (heard0 qs p k0 x e0 (output-held ts ns (p .component .port0) k0 out0 x (rw e0 below0) eo ex)) signals0;
+            rw (heard0 qs p k0 x e0 (lent-heard ts ns (p .component .port0) k0 out0 x (rw e0 below0) eo ex)) signals0;
         signal1 = λ k1 out1 y e1 eo ey.
-            rw (heard1 qs p k1 y e1 (output-held ts ns (p .component .port1) k1 out1 y (rw e1 below1) eo ey)) signals1;
+            rw (heard1 qs p k1 y e1 (lent-heard ts ns (p .component .port1) k1 out1 y (rw e1 below1) eo ey)) signals1;
         fills = λ now k0 k1 out0 out1 earlier x y before out then en e0 e1 eo0 eo1 eoe ex ey eb eo put.
             next-filled out then
             (heard-shown (held ts os .parts) qs (held ts ns₀ .point) p k0 k1 x y before out e0 e1
-            (output-held ts ns (p .component .port0) k0 out0 x (rw e0 below0) eo0 ex)
-            (output-held ts ns (p .component .port1) k1 out1 y (rw e1 below1) eo1 ey)
-            (output-held ts os (p .component .port0) k0 earlier before (rw e0 below0) eoe eb)
+            (lent-heard ts ns (p .component .port0) k0 out0 x (rw e0 below0) eo0 ex)
+            (lent-heard ts ns (p .component .port1) k1 out1 y (rw e1 below1) eo1 ey)
+            (lent-heard ts os (p .component .port0) k0 earlier before (rw e0 below0) eoe eb)
             (eo ∙ ap (λ (q : Point). output p q x y before) en))
             put;
       }

@@ -22,48 +22,17 @@ use Rattle.machine.specs.Step.{moved, all-moved, settled, all-settled}
 use Rattle.machine.specs.Sound.{sound}
 use Rattle.laws.specs.Bools.{either}
 use Rattle.laws.specs.ListLaws.{getD-map-in}
-use Rattle.laws.specs.Partway.{mapped-length}
 use Rattle.store.specs.Held.{parts-lent, state-words-of, stored-component, stored-part, stored-point, stored-state, held}
 use Rattle.store.specs.Updated.{state-spelled, StatePut, Copied, SameBehind}
-use Rattle.store.specs.StoreFrame.{held-many, held-part, same-state, held-put, held-copied, copied-spelled, behind-put, behind-none, behind-through}
+use Rattle.store.specs.StoreFrame.{held-part, same-state, held-put, held-copied, copied-spelled, behind-put, behind-none, behind-through}
 use Rattle.store.specs.NumbersPut.{state-numbered, NumbersPut, state-unnumbered, point-unnumbered, behind-numbered}
-use Rattle.steps.specs.Reading.{SourceBelow, WiredBelow, source-index, heard, heard0, index-below, part-trimmed}
+use Rattle.steps.specs.Reading.{source-index, heard}
 use Rattle.steps.specs.Trimmed.{Changed, none-changed}
-use Rattle.steps.specs.Fillable.{Wired, part-in-use, wired-at, reading-in-use}
-use Rattle.steps.specs.WiredParts.{sound-wired}
+use Rattle.steps.specs.Fillable.{Wired}
+use Rattle.steps.specs.LentReading.{lent-many, lent-part, lent-kind, lent-reading}
 use Rattle.steps.specs.InPlace.{by-reading, changed-to, LoopTurn, turn, all-changed}
 use Rattle.steps.specs.Moving.{Movable, moving, movable, movable-untrimmed}
 use Rattle.steps.specs.Settling.{settles, settling, settled-same}
-
--- the parts that words mean, trimmed: as many as the table says, each that of its words
-pub lent-many : (ts ss : List ℕ) → length (trimmed (held ts ss) .parts) ≡ parts-lent ts
-unfolding trimmed held
-lent-many ts ss = mapped-length trimmed-part (parts-lent ts) (held ts ss .parts) (rw (held-many ts ss) (omega arith))
-
-pub lent-part : (ts ss : List ℕ) (i : ℕ) → i < parts-lent ts → part-at (trimmed (held ts ss) .parts) i ≡ trimmed-part (stored-part ts ss i)
-unfolding trimmed held
-lent-part ts ss i low =
-    part-trimmed (parts-lent ts) (held ts ss .parts) i low (rw (held-many ts ss) (omega arith)) ∙ ap trimmed-part (held-part ts ss i low)
-
--- where the model that words mean is wired to its own parts
-module _ (ts ss : List ℕ) (wired : Wired (trimmed (held ts ss))) (i : ℕ) (low : i < parts-lent ts) where
-  pub port-below : SourceBelow (parts-lent ts) (stored-component ts i .port0)
-  unfolding held stored-part
-  port-below = (subst (λ (p : Part). WiredBelow (parts-lent ts) (p .component)) (held-part ts ss i low) (wired-at (held ts ss) wired i low)) .port0
-
-  -- the part that port 0 of part i is wired to is one of them, whatever states are read with the table
-  pub lent-source : (now : List ℕ) (p : Part) (k : ℕ) → p ≡ stored-part ts now i → k ≡ source-index (p .component .port0) → k < parts-lent ts
-  unfolding stored-part
-  lent-source now p k is index =
-      rw (index, is) (index-below (parts-lent ts) (stored-component ts i .port0) (omega arith) port-below)
-
--- what a port is heard to read, of the words of its source, is heard of the model's part
-pub lent-heard :
-    (ts ss : List ℕ) (p : Part) (k : ℕ) (out x : Signal) → k < parts-lent ts → out ≡ stored-state ss k .output → x ≡ heard (p .component .port0) out →
-    x ≡ heard (p .component .port0) (part-at (held ts ss .parts) k .state .output)
-unfolding stored-part
-lent-heard ts ss p k out x low is hears =
-    hears ∙ ap (heard (p .component .port0)) (is ∙ sym (ap (λ (q : Part). q .state .output) (held-part ts ss k low)))
 
 -- of the words b, which were a, the first i parts are settled, each by its reading in the model of a
 pub record LentSettled (ts a : List ℕ) (i : ℕ) (b : List ℕ) : Type 0 where
@@ -89,13 +58,10 @@ module _
 
   -- it is passed over, where settling keeps parts of its kind
   pub settled-passes : (kind : Kind) → kind ≡ stored-component ts i .kind → settles kind ≡ false → LentSettled ts a (i + 1) b
-  unfolding stored-part trimmed-part trimmed-component
   settled-passes kind of none =
       let ps = trimmed (held ts a) .parts in
       let q = part-at ps i in
-      let kept : settles (q .component .kind) ≡ false =
-      ap (λ (r : Part). settles (r .component .kind)) (sym (at .unchanged)) ∙ ap (λ (r : Part). settles (r .component .kind)) (held-part ts b i low) ∙
-      ap settles (sym of) ∙ none in
+      let kept : settles (q .component .kind) ≡ false = ap settles (lent-kind ts a i low ∙ sym of) ∙ none in
       record { changed = at .passes (settled-same (reading0 ps q) q kept); behind = so-far .behind }
 
   -- or read, settled, and its state is written
@@ -105,11 +71,8 @@ module _
   unfolding settled
   settled-more p is k out x q c index from hears settles put =
       let same : p ≡ part-at (held ts b .parts) i = is ∙ sym (held-part ts b i low) in
-      let there = lent-source ts a wired i low b p k is index in
       let next = held ts b in
-      let reads =
-      at .reads k x (index ∙ ap (λ (r : Part). source-index (r .component .port0)) same)
-      (lent-heard ts b p k out x there from hears ∙ ap (λ (r : Part). heard (r .component .port0) (part-at (next .parts) k .state .output)) same) in
+      let reads = lent-reading ts b (at .wired) i low p k out x is index from hears ∙ ap (reading0 (trimmed next .parts)) same ∙ at .reads in
       let v = with-state (stored-part ts b i) (q .state) in
       let becomes : v ≡ settled x (part-at (next .parts) i) =
       ap (λ (r : Part). with-state (stored-part ts b i) (r .state)) (settles ∙ ap (settled x) is) ∙ ap (settled x) (sym (held-part ts b i low)) in
@@ -166,29 +129,15 @@ none-moved ts old t h a b copy spells =
     }
 
 -- the part i of the old words
-module _ (ts old : List ℕ) (is-sound : sound (trimmed (held ts old)) ≡ true) (i : ℕ) (low : i < parts-lent ts) (p : Part) (is : p ≡ stored-part ts old i) where
-  wires : Wired (trimmed (held ts old))
-  wires = sound-wired (trimmed (held ts old)) is-sound
-
+module _ (ts old : List ℕ) (i : ℕ) (low : i < parts-lent ts) (p : Part) (is : p ≡ stored-part ts old i) where
   -- it can be moved
-  pub lent-movable : (t h : ℕ) → t ≡ tick (held ts old .point) → h ≤ 1_000_000_000 → tick (held ts old .point) + h ≤ last-tick → Movable t h p
-  unfolding trimmed held
-  lent-movable t h now small far =
-      let m = held ts old in
-      let inside : i < length (trimmed m .parts) = rw (← wires .counted) low in
-      let can = movable (trimmed m) is-sound h i inside small far in
-      rw (now, is, ← held-part ts old i low) (movable-untrimmed (tick (m .point)) h (part-at (m .parts) i) (rw (part-in-use m wires i low) can))
-
-  -- what its port 0 is heard to read is its reading
-  pub lent-reading :
-      (k : ℕ) (out x : Signal) → k ≡ source-index (p .component .port0) → out ≡ stored-state old k .output →
-      x ≡ heard (p .component .port0) out → x ≡ reading0 (trimmed (held ts old) .parts) p
-  unfolding reading0 held stored-part
-  lent-reading k out x index from hears =
-      let m = held ts old in
-      let there = lent-source ts old wires i low old p k is index in
-      heard0 (m .parts) p k x index (lent-heard ts old p k out x there from hears) ∙
-      reading-in-use m wires (p .component .port0) (rw is (port-below ts old wires i low))
+  pub lent-movable :
+      sound (trimmed (held ts old)) ≡ true → (t h : ℕ) → t ≡ tick (held ts old .point) → h ≤ 1_000_000_000 → tick (held ts old .point) + h ≤ last-tick →
+      Movable t h p
+  unfolding trimmed
+  lent-movable is-sound t h now small far =
+      let can = movable (trimmed (held ts old)) is-sound h i (rw (lent-many ts old) low) small far in
+      rw (now, is) (movable-untrimmed (tick (held ts old .point)) h (stored-part ts old i) (rw (lent-part ts old i low) at can))
 
   -- moved, it differs in its three numbers, which are written
   pub moved-more :

@@ -8,6 +8,7 @@ pub mod Moving
 pub mod Settling
 pub mod FillingInOrder
 pub mod Showing
+pub mod LentReading
 pub mod LentFilling
 pub mod StepMade
 pub mod StepShown

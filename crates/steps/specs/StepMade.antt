@@ -17,7 +17,7 @@ use Rattle.machine.specs.Time.{in-time, last-microstep, last-tick, led-to, step
 use Rattle.machine.specs.Kind.{period}
 use Rattle.machine.specs.Model.{with-parts, reading0, trimmed}
 use Rattle.machine.specs.Table.{table-of, part-order}
-use Rattle.machine.specs.Step.{moved, all-moved, filled, all-settled, step-made}
+use Rattle.machine.specs.Step.{moved, all-moved, filled, all-settled}
 use Rattle.machine.specs.Sound.{sound}
 use Rattle.laws.specs.Alls.{map-kept, all-map, members-all}
 use Rattle.soundness.specs.Facts.{table-facts, sound-facts}
@@ -89,20 +89,6 @@ never-past p h within before past = let e = leads p h within before in let z : _
 
 pub leads-to : (p q : Point) (h : ℕ) → tick p + h ≤ last-tick → (h ≡ 0 → p .n < last-microstep) → stepped p h ≡ To q → q ≡ led-to p h
 leads-to p q h within before to = let e = leads p h within before in cc
-
--- moved, filled and settled, a model has made the step
-pub made-is :
-    (m a r : Model) (now : Point) (h : ℕ) → now ≡ led-to (m .point) h →
-    Changed m (all-moved (tick (m .point)) h (trimmed m .parts)) a →
-    Changed (at-point a now) (all-settled (filled (trimmed m .parts) now (trimmed (at-point a now) .order) (trimmed (at-point a now) .parts))) r →
-    trimmed r ≡ step-made (trimmed m) h
-unfolding step-made trimmed
-made-is m a r now h e moves settles =
-    let old = trimmed m .parts in
-    settles .is ∙
-    ap (λ (x : Model). with-parts x now (all-settled (filled old now (x .order) (x .parts))))
-    (moved-is m a now (all-moved (tick (m .point)) h old) moves) ∙
-    ap (λ (p : Point). with-parts (trimmed m) p (all-settled (filled old p (trimmed m .order) (all-moved (tick (m .point)) h old)))) e
 
 -- what filling asks of the moved model
 pub made-fillable :

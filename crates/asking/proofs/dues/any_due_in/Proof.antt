@@ -8,12 +8,13 @@ use lib.ListN.{drop}
 use Rattle.machine.specs.declared.part.Part.{Part}
 use Rattle.machine.specs.declared.model.Model.{Model}
 use Rattle.machine.specs.Lists.{any}
-use Rattle.machine.specs.Model.{part-at, reading0, trimmed, trimmed-part}
+use Rattle.machine.specs.Model.{part-at, reading0, trimmed}
 use Rattle.machine.specs.Accept.{due}
 use Rattle.machine.specs.Advance.{any-due}
 use Rattle.store.specs.Held.{parts-lent, held}
-use Rattle.asking.specs.Asked.{any-hit, any-miss, any-end}
-use Rattle.asking.specs.LentAsked.{Asks, source-lent, period-lent, due-lent}
+use Rattle.steps.specs.WiredParts.{sound-wired, sound-periods}
+use Rattle.steps.specs.LentReading.{lent-source, lent-reading}
+use Rattle.asking.specs.LentAsked.{any-hit, any-miss, any-end, period-here, due-here}
 use Rattle.asking.proofs.dues.any_due_in.Statement.{statement}
 use Rattle.asking.proofs.dues.any_due_in.Tie as tie
 
@@ -48,22 +49,6 @@ test-of hears = read-of (source-of hears) .before
 low : (test : tie.In-loop Inv-loop μ-loop) → test .before .loop .i < parts-lent (start-of test .args .table .now)
 low test = omega (arith, test .loop-test .taken, counted test .parts-of .ensures)
 
--- what is read of it
-asks :
-    (hears : tie.After-heard-of Inv-loop μ-loop) →
-    let source = source-of hears in
-    let s = start-of (test-of hears) in
-    Asks (s .args .table .now) (s .args .state .now) (test-of hears .before .loop .i) (read-of source .part-at .result) (source .source-index .result)
-    (hears .before .output-at .result) (hears .heard-of .result)
-asks hears =
-    let source = source-of hears in
-    record {
-      part = read-of source .part-at .ensures;
-      source = source .source-index .ensures;
-      shows = hears .before .output-at .ensures;
-      hears = hears .heard-of .ensures;
-    }
-
 parts-of-requires : tie.Need-parts-of-requires Inv-loop μ-loop
 parts-of-requires c κs = omega (arith, c .before .before .pre .0 .table)
 
@@ -88,8 +73,12 @@ output-at-requires c κs =
     let read = read-of c in
     let test = read .before in
     let s = start-of test in
-    let there = source-lent (s .args .table .now) (s .args .state .now) (s .pre .1) (test .before .loop .i) (read .part-at .result) (low test) (read .part-at .ensures) in
-    omega (arith, there, c .source-index .ensures, s .pre .0 .state)
+    let ts = s .args .table .now in
+    let ss = s .args .state .now in
+    let there =
+    lent-source ts ss (sound-wired (trimmed (held ts ss)) (s .pre .1)) (test .before .loop .i) (low test) ss _ _ (read .part-at .ensures)
+    (c .source-index .ensures) in
+    omega (arith, there, s .pre .0 .state)
 
 heard-of-requires : tie.Need-heard-of-requires Inv-loop μ-loop
 heard-of-requires c κs = tt
@@ -99,35 +88,41 @@ due-of-requires c κs =
     let read = read-of (source-of c) in
     let test = read .before in
     let s = start-of test in
-    period-lent (s .args .table .now) (s .args .state .now) (s .pre .1) (test .before .loop .i) (read .part-at .result) (low test) (read .part-at .ensures)
+    let ts = s .args .table .now in
+    let ss = s .args .state .now in
+    period-here ts ss (test .before .loop .i) (low test) (read .part-at .result) (read .part-at .ensures) (sound-periods (trimmed (held ts ss)) (s .pre .1))
 
 -- what the part answers is the definition's test of it
 answers :
     (asked : tie.After-due-of Inv-loop μ-loop) →
     let test = test-of (asked .before) in
     let s = start-of test in
-    let m = held (s .args .table .now) (s .args .state .now) in
-    is-due (trimmed m) (trimmed-part (part-at (m .parts) (test .before .loop .i))) ≡ asked .due-of .result
-unfolding trimmed
+    let m = trimmed (held (s .args .table .now) (s .args .state .now)) in
+    is-due m (part-at (m .parts) (test .before .loop .i)) ≡ asked .due-of .result
 answers asked =
     let hears = asked .before in
     let source = source-of hears in
+    let read = read-of source in
     let test = test-of hears in
     let s = start-of test in
     let point = test .before .before in
-    due-lent (s .args .table .now) (s .args .state .now) (s .pre .1) (test .before .loop .i) (read-of source .part-at .result)
-    (source .source-index .result) (hears .before .output-at .result) (hears .heard-of .result) (point .point-of .result) (low test) (asks hears)
-    (point .point-of .ensures) ∙
-    sym (asked .due-of .ensures)
+    let ts = s .args .table .now in
+    let ss = s .args .state .now in
+    let i = test .before .loop .i in
+    let reads =
+    lent-reading ts ss (sound-wired (trimmed (held ts ss)) (s .pre .1)) i (low test) _ _ _ _ (read .part-at .ensures) (source .source-index .ensures)
+    (hears .before .output-at .ensures) (hears .heard-of .ensures) in
+    due-here ts ss i (low test) (read .part-at .result) (read .part-at .ensures) (point .point-of .result) (hears .heard-of .result)
+    (point .point-of .ensures) reads ∙ sym (asked .due-of .ensures)
 
 returns : tie.Need-returns Inv-loop μ-loop
-unfolding held
 returns c =
     let asked = c .before in
     let test = test-of (asked .before) in
     let s = start-of test in
-    let m = held (s .args .table .now) (s .args .state .now) in
-    sym (any-hit m (s .pre .1) (is-due (trimmed m)) (test .before .loop .i) (low test) (answers asked ∙ c .if1 .taken)) ∙ test .before .loop .inv .1
+    let ts = s .args .table .now in
+    let ss = s .args .state .now in
+    sym (any-hit ts ss (test .before .loop .i) (low test) (is-due (trimmed (held ts ss))) (answers asked ∙ c .if1 .taken)) ∙ test .before .loop .inv .1
 
 add-i : tie.Need-add-i Inv-loop μ-loop
 add-i c =
@@ -138,24 +133,24 @@ loop-less : tie.Need-loop-less Inv-loop μ-loop
 loop-less c = omega (arith, test-of (c .before .before) .loop-test .taken)
 
 loop-again : tie.Need-loop-again Inv-loop μ-loop
-unfolding held
 loop-again c =
     let asked = c .before in
     let test = test-of (asked .before) in
     let s = start-of test in
-    let m = held (s .args .table .now) (s .args .state .now) in (
+    let ts = s .args .table .now in
+    let ss = s .args .state .now in (
       omega (arith, test .loop-test .taken),
-      sym (any-miss m (s .pre .1) (is-due (trimmed m)) (test .before .loop .i) (low test) (answers asked ∙ c .if1 .left)) ∙ test .before .loop .inv .1,
+      sym (any-miss ts ss (test .before .loop .i) (low test) (is-due (trimmed (held ts ss))) (answers asked ∙ c .if1 .left)) ∙ test .before .loop .inv .1,
     )
 
 returns-2 : tie.Need-returns-2 Inv-loop μ-loop
-unfolding held
 returns-2 c =
     let head = c .before in
     let counts = head .before .before in
     let s = counts .before .before .before in
-    let m = held (s .args .table .now) (s .args .state .now) in
-    sym (any-end m (s .pre .1) (is-due (trimmed m)) (head .loop .i) (omega (arith, c .loop-test .left, counts .parts-of .ensures))) ∙ head .loop .inv .1
+    let ts = s .args .table .now in
+    let ss = s .args .state .now in
+    sym (any-end ts ss (is-due (trimmed (held ts ss))) (head .loop .i) (omega (arith, c .loop-test .left, counts .parts-of .ensures))) ∙ head .loop .inv .1
 
 pub any-due-in-spec : {M : Type 1} → statement M
 any-due-in-spec =

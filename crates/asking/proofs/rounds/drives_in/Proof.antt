@@ -3,14 +3,12 @@
 use Prim.Native.Nat.{ℕ, _+_, _-_, _≤_, _<_}
 use native.Mathlib.Omega.{arith}
 use mathlib.Core.Path.{_≡_, refl, sym, ap, _∙_}
-use mathlib.Core.Bool.{false}
 use lib.ListN.{drop}
 use borrow.Author.Tests.{not-true, not-false}
 use Rattle.machine.specs.Model.{trimmed}
 use Rattle.machine.specs.Advance.{least, round}
 use Rattle.store.specs.Held.{parts-lent, held}
-use Rattle.asking.specs.Asked.{least-end}
-use Rattle.asking.specs.LentAsked.{askable-lent}
+use Rattle.asking.specs.LentAsked.{least-end, askable}
 use Rattle.asking.specs.LaterRounds.{later-passes, later-drive}
 use Rattle.asking.proofs.rounds.drives_in.Statement.{statement}
 use Rattle.asking.proofs.rounds.drives_in.Tie as tie
@@ -78,7 +76,7 @@ loop-again c =
     let none = sym (kinds .drives .ensures) ∙ not-true (kinds .drives .result) (c .if1 .taken) in (
       omega (arith, test .loop-test .taken),
       loop .inv .1,
-      sym (later-passes (s .args .table .now) (s .args .state .now) (s .pre .1 .0) (loop .i) (low test) (kinds .before .kind-in .result)
+      sym (later-passes (s .args .table .now) (s .args .state .now) (loop .i) (low test) (kinds .before .kind-in .result)
           (kinds .before .kind-in .ensures) (s .args .h .0) (loop .best .0) (loop .inv .1) none (s .pre .1 .1 .1)) ∙
           loop .inv .2,
     )
@@ -95,8 +93,8 @@ longest-of-drive-requires c κs =
     let test = test-of c in
     let s = start-of test in
     let point = point-read test in
-    askable-lent (s .args .table .now) (s .args .state .now) (s .pre .1 .0) (test .before .loop .i) (c .part-at .result) (point .point-of .result)
-    (s .args .h .0) (point .point-of .ensures) (s .pre .1 .1 .0) (low test) (c .part-at .ensures)
+    askable (s .args .table .now) (s .args .state .now) (test .before .loop .i) (low test) (c .part-at .result) (c .part-at .ensures)
+    (point .point-of .result) (s .args .h .0) (s .pre .1 .0) (point .point-of .ensures) (s .pre .1 .1 .0)
 
 smaller-requires : tie.Need-smaller-requires Inv-loop μ-loop
 smaller-requires c κs = tt
@@ -125,19 +123,18 @@ loop-again-2 c =
       omega (arith, test .loop-test .taken),
       omega (arith, c .smaller .ensures, loop .inv .1),
       ap (λ (z : ℕ). least (trimmed (held ts ss)) h z (drop (loop .i + 1) (trimmed (held ts ss) .parts))) (c .smaller .ensures) ∙
-          sym (later-drive ts ss (s .pre .1 .0) (loop .i) (low test) (kinds .before .kind-in .result) (kinds .before .kind-in .ensures)
+          sym (later-drive ts ss (loop .i) (low test) (kinds .before .kind-in .result) (kinds .before .kind-in .ensures)
           (read .part-at .result) (point .point-of .result) h (loop .best .0) (asked .longest-of-drive .result .0) (read .part-at .ensures)
           (point .point-of .ensures) some (asked .longest-of-drive .ensures)) ∙
           loop .inv .2,
     )
 
 returns : tie.Need-returns Inv-loop μ-loop
-unfolding held
 returns c =
     let head = c .before in
     let counts = head .before .before .before in
     let s = counts .before .before .before in
-    sym (least-end (held (s .args .table .now) (s .args .state .now)) (s .pre .1 .0) (s .args .h .0) (head .loop .best .0) (head .loop .i)
+    sym (least-end (s .args .table .now) (s .args .state .now) (s .args .h .0) (head .loop .best .0) (head .loop .i)
     (omega (arith, c .loop-test .left, counts .parts-of .ensures))) ∙
     head .loop .inv .2
 

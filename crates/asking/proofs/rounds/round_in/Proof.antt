@@ -7,8 +7,9 @@ use lib.ListN.{drop}
 use Rattle.machine.specs.Model.{trimmed}
 use Rattle.machine.specs.Advance.{least, round}
 use Rattle.store.specs.Held.{parts-lent, held}
-use Rattle.asking.specs.Asked.{least-end}
-use Rattle.asking.specs.LentAsked.{Asks, source-lent, askable-lent, least-lent}
+use Rattle.steps.specs.WiredParts.{sound-wired}
+use Rattle.steps.specs.LentReading.{lent-source, lent-reading}
+use Rattle.asking.specs.LentAsked.{least-end, askable, least-from}
 use Rattle.asking.proofs.rounds.round_in.Statement.{statement}
 use Rattle.asking.proofs.rounds.round_in.Tie as tie
 
@@ -39,22 +40,6 @@ test-of hears = read-of (source-of hears) .before
 low : (test : tie.In-loop Inv-loop μ-loop) → test .before .loop .i < parts-lent (start-of test .args .table .now)
 low test = omega (arith, test .loop-test .taken, counted test .parts-of .ensures)
 
--- what is read of it
-asks :
-    (hears : tie.After-heard-of Inv-loop μ-loop) →
-    let source = source-of hears in
-    let s = start-of (test-of hears) in
-    Asks (s .args .table .now) (s .args .state .now) (test-of hears .before .loop .i) (read-of source .part-at .result) (source .source-index .result)
-    (hears .before .output-at .result) (hears .heard-of .result)
-asks hears =
-    let source = source-of hears in
-    record {
-      part = read-of source .part-at .ensures;
-      source = source .source-index .ensures;
-      shows = hears .before .output-at .ensures;
-      hears = hears .heard-of .ensures;
-    }
-
 parts-of-requires : tie.Need-parts-of-requires Inv-loop μ-loop
 parts-of-requires c κs = omega (arith, c .before .before .pre .0 .table)
 
@@ -79,8 +64,12 @@ output-at-requires c κs =
     let read = read-of c in
     let test = read .before in
     let s = start-of test in
-    let there = source-lent (s .args .table .now) (s .args .state .now) (s .pre .1 .0) (test .before .loop .i) (read .part-at .result) (low test) (read .part-at .ensures) in
-    omega (arith, there, c .source-index .ensures, s .pre .0 .state)
+    let ts = s .args .table .now in
+    let ss = s .args .state .now in
+    let there =
+    lent-source ts ss (sound-wired (trimmed (held ts ss)) (s .pre .1 .0)) (test .before .loop .i) (low test) ss _ _ (read .part-at .ensures)
+    (c .source-index .ensures) in
+    omega (arith, there, s .pre .0 .state)
 
 heard-of-requires : tie.Need-heard-of-requires Inv-loop μ-loop
 heard-of-requires c κs = tt
@@ -91,8 +80,8 @@ longest-of-requires c κs =
     let test = read .before in
     let s = start-of test in
     let point = test .before .before in
-    askable-lent (s .args .table .now) (s .args .state .now) (s .pre .1 .0) (test .before .loop .i) (read .part-at .result) (point .point-of .result)
-    (s .args .h .0) (point .point-of .ensures) (s .pre .1 .1) (low test) (read .part-at .ensures)
+    askable (s .args .table .now) (s .args .state .now) (test .before .loop .i) (low test) (read .part-at .result) (read .part-at .ensures)
+    (point .point-of .result) (s .args .h .0) (s .pre .1 .0) (point .point-of .ensures) (s .pre .1 .1)
 
 smaller-requires : tie.Need-smaller-requires Inv-loop μ-loop
 smaller-requires c κs = tt
@@ -110,28 +99,30 @@ loop-again c =
     let asked = c .before in
     let hears = asked .before in
     let source = source-of hears in
+    let read = read-of source in
     let test = test-of hears in
     let s = start-of test in
     let loop = test .before .loop in
     let point = test .before .before in
     let ts = s .args .table .now in
     let ss = s .args .state .now in
-    let h = s .args .h .0 in (
+    let h = s .args .h .0 in
+    let reads =
+    lent-reading ts ss (sound-wired (trimmed (held ts ss)) (s .pre .1 .0)) (loop .i) (low test) _ _ _ _ (read .part-at .ensures)
+    (source .source-index .ensures) (hears .before .output-at .ensures) (hears .heard-of .ensures) in (
       omega (arith, test .loop-test .taken),
       ap (λ (z : ℕ). least (trimmed (held ts ss)) h z (drop (loop .i + 1) (trimmed (held ts ss) .parts))) (c .smaller .ensures) ∙
-          sym (least-lent ts ss (s .pre .1 .0) (loop .i) (read-of source .part-at .result) (source .source-index .result) (hears .before .output-at .result)
-          (hears .heard-of .result) (point .point-of .result) h (loop .best .0) (asked .longest-of .result .0) (low test) (asks hears)
-          (point .point-of .ensures) (asked .longest-of .ensures)) ∙
+          sym (least-from ts ss (loop .i) (low test) (read .part-at .result) (read .part-at .ensures) (point .point-of .result) (hears .heard-of .result)
+          (point .point-of .ensures) reads h (loop .best .0) (asked .longest-of .result .0) (asked .longest-of .ensures)) ∙
           loop .inv .1,
     )
 
 returns : tie.Need-returns Inv-loop μ-loop
-unfolding held
 returns c =
     let head = c .before in
     let counts = head .before .before in
     let s = counts .before .before .before in
-    sym (least-end (held (s .args .table .now) (s .args .state .now)) (s .pre .1 .0) (s .args .h .0) (head .loop .best .0) (head .loop .i)
+    sym (least-end (s .args .table .now) (s .args .state .now) (s .args .h .0) (head .loop .best .0) (head .loop .i)
     (omega (arith, c .loop-test .left, counts .parts-of .ensures))) ∙
     head .loop .inv .1
 

@@ -4,17 +4,15 @@ use Prim.Native.Nat.{_-_, _≤_, _<_}
 use native.Mathlib.Omega.{arith}
 use mathlib.Core.Path.{_≡_, refl, sym, ap, _∙_}
 use mathlib.Core.Bool.{false}
-use mathlib.Core.List.{List}
 use lib.ListN.{drop}
 use borrow.Author.Tests.{not-true}
-use Rattle.machine.specs.declared.part.Kind.{Kind}
 use Rattle.machine.specs.Lists.{any}
 use Rattle.machine.specs.Model.{part-at, trimmed}
-use Rattle.machine.specs.Advance.{objects}
 use Rattle.store.specs.Held.{parts-lent, held}
-use Rattle.asking.specs.LentAsked.{Asks}
+use Rattle.steps.specs.LentReading.{lent-kind, lent-source, lent-reading}
+use Rattle.asking.specs.LentAsked.{any-hit, any-miss, any-end}
 use Rattle.asking.specs.Trials.{objects-settled, any-objects-settled, detects, passes-trial}
-use Rattle.asking.specs.LentTrial.{trial-hit, trial-miss, trial-end, trial-source, trial-period, trial-objects, trial-kind}
+use Rattle.asking.specs.LentTrial.{trial-period, trial-objects}
 use Rattle.asking.proofs.trials.any_objects_in.Statement.{statement}
 use Rattle.asking.proofs.trials.any_objects_in.Tie as tie
 
@@ -53,22 +51,6 @@ test-of-heard hears = test-of (read-of (source-of hears))
 low : (test : tie.In-loop Inv-loop μ-loop) → test .before .loop .i < parts-lent (start-of test .args .table .now)
 low test = omega (arith, test .loop-test .taken, counted test .parts-of .ensures)
 
--- what is read of it
-asks :
-    (hears : tie.After-heard-of Inv-loop μ-loop) →
-    let source = source-of hears in
-    let s = start-of (test-of-heard hears) in
-    Asks (s .args .table .now) (s .args .trial .now) (test-of-heard hears .before .loop .i) (read-of source .part-at .result) (source .source-index .result)
-    (hears .before .output-at .result) (hears .heard-of .result)
-asks hears =
-    let source = source-of hears in
-    record {
-      part = read-of source .part-at .ensures;
-      source = source .source-index .ensures;
-      shows = hears .before .output-at .ensures;
-      hears = hears .heard-of .ensures;
-    }
-
 parts-of-requires : tie.Need-parts-of-requires Inv-loop μ-loop
 parts-of-requires c κs = omega (arith, c .before .before .pre .0 .table)
 
@@ -102,10 +84,10 @@ loop-again c =
     let ps = trimmed (held ts ss) .parts in
     let i = test .before .loop .i in
     let other : detects (part-at ps i .component .kind) ≡ false =
-    ap detects (trial-kind ts ss (s .pre .1) i (low test) ∙ sym (kinds .before .kind-in .ensures)) ∙ sym (kinds .detects .ensures) ∙
+    ap detects (lent-kind ts ss i (low test) ∙ sym (kinds .before .kind-in .ensures)) ∙ sym (kinds .detects .ensures) ∙
     not-true (kinds .detects .result) (c .if1 .taken) in (
       omega (arith, test .loop-test .taken),
-      sym (trial-miss ts ss (s .pre .1) (objects-settled (s .args .h .0) ps) i (low test) (passes-trial (s .args .h .0) ps (part-at ps i) other)) ∙
+      sym (any-miss ts ss i (low test) (objects-settled (s .args .h .0) ps) (passes-trial (s .args .h .0) ps (part-at ps i) other)) ∙
           test .before .loop .inv .1,
     )
 
@@ -125,7 +107,7 @@ output-at-requires c κs =
     let test = test-of read in
     let s = start-of test in
     let there =
-    trial-source (s .args .table .now) (s .args .trial .now) (s .pre .1) (test .before .loop .i) (read .part-at .result) (c .source-index .result) (low test)
+    lent-source (s .args .table .now) (s .args .trial .now) (s .pre .1 .wired) (test .before .loop .i) (low test) (s .args .trial .now) _ _
     (read .part-at .ensures) (c .source-index .ensures) in
     omega (arith, there, s .pre .0 .state)
 
@@ -141,8 +123,8 @@ objects-of-requires c κs =
     let read = read-of (source-of hears) in
     let test = test-of read in
     let s = start-of test in
-    trial-period (s .args .table .now) (s .args .trial .now) (s .pre .1) (test .before .loop .i) (read .part-at .result) (c .settled-part .result)
-    (hears .heard-of .result) (low test) (read .part-at .ensures) (c .settled-part .ensures)
+    trial-period (s .args .table .now) (s .args .trial .now) (test .before .loop .i) (low test) (read .part-at .result) (read .part-at .ensures)
+    (hears .heard-of .result) (c .settled-part .result) (c .settled-part .ensures) (s .pre .1)
 
 -- what the settled part answers is the definition's test of it
 answers :
@@ -155,12 +137,17 @@ answers asked =
     let settles = asked .before in
     let hears = settles .before in
     let source = source-of hears in
+    let read = read-of source in
     let test = test-of-heard hears in
     let s = start-of test in
-    trial-objects (s .args .table .now) (s .args .trial .now) (s .pre .1) (test .before .loop .i) (read-of source .part-at .result)
-    (source .source-index .result) (hears .before .output-at .result) (hears .heard-of .result) (settles .settled-part .result) (s .args .h .0) (low test)
-    (asks hears) (settles .settled-part .ensures) ∙
-    sym (asked .objects-of .ensures)
+    let ts = s .args .table .now in
+    let ss = s .args .trial .now in
+    let i = test .before .loop .i in
+    let reads =
+    lent-reading ts ss (s .pre .1 .wired) i (low test) _ _ _ _ (read .part-at .ensures) (source .source-index .ensures)
+    (hears .before .output-at .ensures) (hears .heard-of .ensures) in
+    trial-objects ts ss i (low test) (read .part-at .result) (read .part-at .ensures) (hears .heard-of .result) (settles .settled-part .result)
+    (settles .settled-part .ensures) (s .args .h .0) reads ∙ sym (asked .objects-of .ensures)
 
 returns : tie.Need-returns Inv-loop μ-loop
 returns c =
@@ -169,7 +156,7 @@ returns c =
     let s = start-of test in
     let ts = s .args .table .now in
     let ss = s .args .trial .now in
-    sym (trial-hit ts ss (s .pre .1) (objects-settled (s .args .h .0) (trimmed (held ts ss) .parts)) (test .before .loop .i) (low test)
+    sym (any-hit ts ss (test .before .loop .i) (low test) (objects-settled (s .args .h .0) (trimmed (held ts ss) .parts))
     (answers asked ∙ c .if2 .taken)) ∙
     test .before .loop .inv .1
 
@@ -189,20 +176,19 @@ loop-again-2 c =
     let ts = s .args .table .now in
     let ss = s .args .trial .now in (
       omega (arith, test .loop-test .taken),
-      sym (trial-miss ts ss (s .pre .1) (objects-settled (s .args .h .0) (trimmed (held ts ss) .parts)) (test .before .loop .i) (low test)
+      sym (any-miss ts ss (test .before .loop .i) (low test) (objects-settled (s .args .h .0) (trimmed (held ts ss) .parts))
           (answers asked ∙ c .if2 .left)) ∙
           test .before .loop .inv .1,
     )
 
 returns-2 : tie.Need-returns-2 Inv-loop μ-loop
-unfolding held
 returns-2 c =
     let head = c .before in
     let counts = head .before in
     let s = counts .before .before .before in
     let ts = s .args .table .now in
     let ss = s .args .trial .now in
-    sym (trial-end ts ss (s .pre .1) (objects-settled (s .args .h .0) (trimmed (held ts ss) .parts)) (head .loop .i)
+    sym (any-end ts ss (objects-settled (s .args .h .0) (trimmed (held ts ss) .parts)) (head .loop .i)
     (omega (arith, c .loop-test .left, counts .parts-of .ensures))) ∙
     head .loop .inv .1
 

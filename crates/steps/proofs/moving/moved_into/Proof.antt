@@ -16,7 +16,8 @@ use Rattle.store.specs.StoreFrame.{behind-copied, behind-through}
 use Rattle.steps.specs.WiredParts.{sound-wired}
 use Rattle.steps.specs.Fillable.{Wired}
 use Rattle.steps.specs.Moving.{movable-reading}
-use Rattle.steps.specs.LentMoving.{LentMoved, none-moved, lent-source, lent-tick, lent-movable, lent-reading, moved-more, moved-done}
+use Rattle.steps.specs.LentReading.{lent-source, lent-reading}
+use Rattle.steps.specs.LentMoving.{LentMoved, none-moved, lent-tick, lent-movable, moved-more, moved-done}
 use Rattle.steps.proofs.moving.moved_into.Statement.{statement}
 use Rattle.steps.proofs.moving.moved_into.Tie as tie
 
@@ -87,8 +88,7 @@ reads hears =
     let part = source .before .before in
     let test = test-of source in
     let s = start-of (point-read test) in
-    lent-reading (s .args .table .now) (s .args .old .now) (s .pre .1 .1 .0) (test .before .loop .i) (within test) (part .part-at .result)
-    (part .part-at .ensures) (source .source-index .result) (hears .before .output-at .result) (hears .heard-of .result)
+    lent-reading (s .args .table .now) (s .args .old .now) (wired s) (test .before .loop .i) (within test) _ _ _ _ (part .part-at .ensures)
     (source .source-index .ensures) (hears .before .output-at .ensures) (hears .heard-of .ensures)
 
 parts-of-requires : tie.Need-parts-of-requires Inv-loop μ-loop
@@ -127,8 +127,8 @@ output-at-requires c κs =
     let test = test-of c in
     let s = start-of (point-read test) in
     let below =
-    lent-source (s .args .table .now) (s .args .old .now) (wired s) (test .before .loop .i) (within test) (s .args .old .now)
-    (part .part-at .result) (c .source-index .result) (part .part-at .ensures) (c .source-index .ensures) in
+    lent-source (s .args .table .now) (s .args .old .now) (wired s) (test .before .loop .i) (within test) (s .args .old .now) _ _
+    (part .part-at .ensures) (c .source-index .ensures) in
     omega (arith, s .pre .0 .state, below)
 
 heard-of-requires : tie.Need-heard-of-requires Inv-loop μ-loop
@@ -141,8 +141,8 @@ moved-part-requires c κs =
     let point = point-read test in
     let s = start-of point in
     let can =
-    lent-movable (s .args .table .now) (s .args .old .now) (s .pre .1 .1 .0) (test .before .loop .i) (within test) (part .part-at .result)
-    (part .part-at .ensures) (point .point-of .result .t .0) (s .args .h .0) (ticks point) (s .pre .1 .1 .1 .0) (s .pre .1 .1 .1 .1 .0) in
+    lent-movable (s .args .table .now) (s .args .old .now) (test .before .loop .i) (within test) (part .part-at .result) (part .part-at .ensures)
+    (s .pre .1 .1 .0) (point .point-of .result .t .0) (s .args .h .0) (ticks point) (s .pre .1 .1 .1 .0) (s .pre .1 .1 .1 .1 .0) in
     (can .ranges, (can .fits, (can .gain, rw (reads c) (movable-reading (trimmed (old-of s)) (s .pre .1 .1 .0) (part .part-at .result)))))
 
 put-numbers-requires : tie.Need-put-numbers-requires Inv-loop μ-loop
@@ -173,7 +173,7 @@ loop-again c =
     let s = start-of point in
     let loop = test .before .loop in
     let state = moves .moved-part .result .state in
-    moved-more (s .args .table .now) (s .args .old .now) (s .pre .1 .1 .0) (loop .i) (within test) (part .part-at .result) (part .part-at .ensures)
+    moved-more (s .args .table .now) (s .args .old .now) (loop .i) (within test) (part .part-at .result) (part .part-at .ensures)
     (point .point-of .result .t .0) (s .args .h .0) (copied-of point) (loop .new) (put .put-numbers .last .0) (hears .heard-of .result)
     (moves .moved-part .result) (loop .inv) (reads hears) (moves .moved-part .ensures)
     (rw (

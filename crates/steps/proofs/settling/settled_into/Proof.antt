@@ -5,7 +5,8 @@ use native.Mathlib.Omega.{arith}
 use borrow.Author.Tests.{not-true}
 use mathlib.Core.Path.{sym, _∙_}
 use Rattle.store.specs.Held.{parts-lent}
-use Rattle.steps.specs.LentMoving.{LentSettled, none-settled, lent-source, settled-passes, settled-more, settled-done}
+use Rattle.steps.specs.LentReading.{lent-source}
+use Rattle.steps.specs.LentMoving.{LentSettled, none-settled, settled-passes, settled-more, settled-done}
 use Rattle.steps.proofs.settling.settled_into.Statement.{statement}
 use Rattle.steps.proofs.settling.settled_into.Tie as tie
 
@@ -85,8 +86,8 @@ output-at-requires c κs =
     let s = start-of test in
     let loop = test .before .loop in
     let below =
-    lent-source (s .args .table .now) (s .args .new .now) (s .pre .1) (loop .i) (within test) (loop .new) (part .part-at .result)
-    (source .source-index .result) (part .part-at .ensures) (source .source-index .ensures) in
+    lent-source (s .args .table .now) (s .args .new .now) (s .pre .1) (loop .i) (within test) (loop .new) _ _ (part .part-at .ensures)
+    (source .source-index .ensures) in
     omega (arith, s .pre .0 .state, below, loop .inv .behind .size)
 
 heard-of-requires : tie.Need-heard-of-requires Inv-loop μ-loop
