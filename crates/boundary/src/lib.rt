@@ -6,6 +6,8 @@
 use loading::load;
 use machine::model::Model;
 use master::advance_into;
+use store::lookup::state_size;
+use store::lookup::table_size;
 use transfer::intake::put_model;
 ghost use mathlib.Core.Path.{_≡_};
 ghost use mathlib.Core.List.{_∷_};
@@ -52,10 +54,10 @@ fn take_in(model: Model, number: u64, table: &mut [u64], state: &mut [u64]) -> u
         return number;
     }
     let count = model.count;
-    if table.len() < 18 * count + 2 {
+    if table.len() < table_size(count) {
         return TOO_SHORT;
     }
-    if state.len() < 9 * count + 2 {
+    if state.len() < state_size(count) {
         return TOO_SHORT;
     }
     put_model(model, table, state);

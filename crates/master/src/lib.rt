@@ -12,6 +12,7 @@ use store::lookup::STATE_ROOM;
 use store::lookup::TABLE_ROOM;
 use store::lookup::parts_of;
 use store::lookup::point_of;
+use store::lookup::state_size;
 use transfer::intake::put_model;
 use transfer::recall::recalled;
 ghost use mathlib.Core.Path.{_≡_};
@@ -103,7 +104,7 @@ pub fn advance_sound_into(table: &[u64], old: &[u64], w: u64, new: &mut [u64]) -
         return barred_verdict(number);
     }
     let count = parts_of(table);
-    if new.len() < 9 * count + 2 {
+    if new.len() < state_size(count) {
         return barred_verdict(25);
     }
     searched_into(table, old, w, new)

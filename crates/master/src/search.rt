@@ -11,7 +11,7 @@ use steps::settling::settled_into;
 use steps::step::shown_into;
 use store::lookup::parts_of;
 use store::lookup::point_of;
-use store::update::copy_words;
+use store::update::copy_state;
 ghost use mathlib.Core.Path.{_≡_};
 ghost use mathlib.Core.Bool.{true};
 ghost use lib.Dec.{eqb};
@@ -57,7 +57,7 @@ fn kept_in(table: &[u64], old: &[u64], new: &mut [u64])
     ensures { λ r. ⌜ Copied (state-words-of (parts-lent (now (table .entry)))) (now (old .entry)) (now (new .entry)) (now (new .exit)) ⌝ }
 {
     let count = parts_of(table);
-    copy_words(old, 9 * count + 2, new);
+    copy_state(old, count, new);
 }
 
 // How a call ends that nothing bars, its state left in `new`: rounds lower h under a ceiling until one changes nothing; the

@@ -4,6 +4,8 @@
 use crate::batch::MOST;
 use crate::batch::batch;
 use crate::batch::begun;
+use store::lookup::STATE_ROOM;
+use store::lookup::TABLE_ROOM;
 ghost use Prim.Native.Nat.{_≤_};
 ghost use lib.ListN.{length};
 ghost use Rattle.machine.specs.Rehearse.{most-read};
@@ -11,19 +13,13 @@ ghost use Rattle.machine.specs.Rehearse.{most-read};
 mod batch;
 mod play;
 
-// How many words have room for a table of 32 parts.
-const TABLE: usize = 578;
-
-// And how many for a state of it.
-const STATE: usize = 290;
-
 // All lines of an input, batch after batch, and whether they were written. A write that fails ends it. It owns the words
 // that the model is in: those of the table, and of two states.
 fn print_batches(input: &[u8]) -> bool {
     let mut lines = io::large_buffer();
-    let mut table = [0u64; TABLE];
-    let mut first = [0u64; STATE];
-    let mut second = [0u64; STATE];
+    let mut table = [0u64; TABLE_ROOM];
+    let mut first = [0u64; STATE_ROOM];
+    let mut second = [0u64; STATE_ROOM];
     let mut now = begun(input, &mut table, &mut first);
     loop {
         let next = batch(input, now, &table, &mut first, &mut second, &mut lines);

@@ -10,7 +10,7 @@ use store::lookup::output_at;
 use store::lookup::part_at;
 use store::lookup::parts_of;
 use store::lookup::point_of;
-use store::update::copy_words;
+use store::update::copy_state;
 use store::update::put_numbers;
 ghost use mathlib.Core.Path.{_≡_};
 ghost use mathlib.Core.Bool.{true};
@@ -37,7 +37,7 @@ pub(crate) fn moved_into(table: &[u64], old: &[u64], h: Ticks, new: &mut [u64])
     ensures { λ r. ⌜ SameBehind (parts-lent (now (table .entry))) (now (new .entry)) (now (new .exit)) ⌝ }
 {
     let count = parts_of(table);
-    copy_words(old, 9 * count + 2, new);
+    copy_state(old, count, new);
     let now = point_of(old);
     let t = now.t;
     let mut i: usize = 0;

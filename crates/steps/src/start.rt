@@ -4,9 +4,10 @@
 use crate::filling::filled_into;
 use crate::settling::settled_into;
 use machine::model::Model;
+use machine::model::PARTS;
 use store::lookup::STATE_ROOM;
 use store::lookup::TABLE_ROOM;
-use store::update::copy_words;
+use store::update::copy_state;
 use transfer::intake::put_model;
 use transfer::recall::recalled;
 ghost use mathlib.Core.Path.{_≡_};
@@ -25,7 +26,7 @@ pub fn started(m: Model) -> Model
     let mut old = [0u64; STATE_ROOM];
     let mut new = [0u64; STATE_ROOM];
     put_model(m, &mut table, &mut old);
-    copy_words(&old, STATE_ROOM, &mut new);
+    copy_state(&old, PARTS, &mut new);
     filled_into(&table, &old, &mut new);
     settled_into(&table, &mut new);
     recalled(m, &new)

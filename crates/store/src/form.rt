@@ -2,6 +2,8 @@
 //
 // The contracts cite `specs/Form.antt`.
 use crate::lookup::parts_of;
+use crate::lookup::state_size;
+use crate::lookup::table_size;
 use machine::model::PARTS;
 ghost use mathlib.Core.Path.{_≡_};
 ghost use Prim.Native.Nat.{_+_, _*_, _≤_};
@@ -119,10 +121,10 @@ pub fn spelled(table: &[u64], state: &[u64]) -> bool
     if count > PARTS {
         return false;
     }
-    if table.len() < TABLE_WORDS * count + 2 {
+    if table.len() < table_size(count) {
         return false;
     }
-    if state.len() < STATE_WORDS * count + 2 {
+    if state.len() < state_size(count) {
         return false;
     }
     parts_spelled(table, state, count)

@@ -1,7 +1,7 @@
-// A part, a point and a place of the part order, read from the words of a table and of a state. Each function asks
-// that the words of what it reads are there; what stands in them is free.
+// How many words a table and a state have, and a part, a point and a place of the part order, read from them. Each
+// function that reads asks that the words of what it reads are there; what stands in them is free.
 //
-// The contracts cite `specs/Held.antt`.
+// The contracts cite `specs/Held.antt`, and `specs/Form.antt` for the largest word.
 use codec::fields::kind_coded;
 use codec::fields::mark_coded;
 use codec::fields::side_coded;
@@ -21,11 +21,28 @@ ghost use mathlib.Core.Path.{_≡_};
 ghost use Prim.Native.Nat.{_+_, _*_, _%_, _≤_};
 ghost use lib.ListN.{length};
 ghost use Rattle.store.specs.Held.{lent, parts-lent, state-words-of, stored-component, stored-number, stored-part, stored-point, stored-spans, stored-state, table-words};
+ghost use Rattle.store.specs.Form.{any-word};
 
 // How many words the table of the most parts has, and a state of it: 18 and 9 for each part, and two.
 pub const TABLE_ROOM: usize = 578;
 
 pub const STATE_ROOM: usize = 290;
+
+// How many words the table of that many parts has.
+pub fn table_size(parts: usize) -> usize
+    requires { ⌜ table-words parts ≤ any-word ⌝ }
+    ensures { λ r. ⌜ r ≡ table-words parts ⌝ }
+{
+    18 * parts + 2
+}
+
+// And how many a state of it has.
+pub fn state_size(parts: usize) -> usize
+    requires { ⌜ state-words-of parts ≤ any-word ⌝ }
+    ensures { λ r. ⌜ r ≡ state-words-of parts ⌝ }
+{
+    9 * parts + 2
+}
 
 // How many parts a table has.
 pub fn parts_of(table: &[u64]) -> usize

@@ -2,6 +2,7 @@
 //
 // The contracts cite `specs/Updated.antt`, `specs/NumbersPut.antt` and `specs/Shown.antt`: what was written is read back, and
 // every other word is kept.
+use crate::lookup::state_size;
 use codec::fields::mark_code;
 use codec::fields::side_code;
 use codec::word::signed_word;
@@ -98,12 +99,13 @@ pub fn put_point(state: &mut [u64], to: Point)
     state[1] = to.n;
 }
 
-// The first `count` words of one state, copied into another.
-pub fn copy_words(old: &[u64], count: usize, new: &mut [u64])
-    requires { ⌜ count ≤ length (now old) ⌝ }
-    requires { ⌜ count ≤ length (now new) ⌝ }
-    ensures { λ r. ⌜ Copied count (now (old .entry)) (now (new .entry)) (now (new .exit)) ⌝ }
+// All words of a state of that many parts, copied into another's.
+pub fn copy_state(old: &[u64], parts: usize, new: &mut [u64])
+    requires { ⌜ state-words-of parts ≤ length (now old) ⌝ }
+    requires { ⌜ state-words-of parts ≤ length (now new) ⌝ }
+    ensures { λ r. ⌜ Copied (state-words-of parts) (now (old .entry)) (now (new .entry)) (now (new .exit)) ⌝ }
 {
+    let count = state_size(parts);
     let mut i: usize = 0;
     while i < count {
         new[i] = old[i];

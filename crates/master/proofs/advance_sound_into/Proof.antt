@@ -67,42 +67,43 @@ most counts =
     let s = start-of (counts .before .before) in
     omega (arith, spelled-few (s .args .table .now) (s .args .old .now) (s .pre .0), counts .parts-of .ensures)
 
--- and the words of the state as the code counts them
-few : (counts : tie.After-parts-of) → state-words-of (counts .parts-of .result) ≡ state-words-of (parts-lent (start-of (counts .before .before) .args .table .now))
-few counts = omega (arith, counts .parts-of .ensures)
+state-size-requires : tie.Need-state-size-requires
+state-size-requires c κs = omega (arith, most c)
 
-mul-if2 : tie.Need-mul-if2
-mul-if2 c = omega (arith, most c)
+-- the number that bars the call, seen from the size of the state
+abbrev bars-of : tie.After-state-size → tie.After-barred-number
+bars-of sized = sized .before .before .before
 
-add-if2 : tie.Need-add-if2
-add-if2 c = omega (arith, most c)
+-- the size as the code counts it
+counted : (sized : tie.After-state-size) → sized .state-size .result ≡ state-words-of (parts-lent (start-of (bars-of sized) .args .table .now))
+counted sized = omega (arith, sized .state-size .ensures, sized .before .parts-of .ensures)
 
 barred-verdict-requires-2 : tie.Need-barred-verdict-requires-2
 barred-verdict-requires-2 c κs = search needs
 
 returns-2 : tie.Need-returns-2
 returns-2 c =
-    let counts = c .before .before in
-    let s = start-of (counts .before .before) in
+    let sized = c .before .before in
+    let s = start-of (bars-of sized) in
     subst (CalledInto (outcome-with (s .args .table .now) (s .args .old .now) (s .args .w) _) (s .args .table .now) (s .args .old .now) (s .args .new .now) _)
     (sym (c .barred-verdict2 .ensures))
-    (short-call (s .args .table .now) (s .args .old .now) (s .args .new .now) (s .args .w) (free (counts .before))
-    (omega (arith, few counts, c .before .if2 .taken)))
+    (short-call (s .args .table .now) (s .args .old .now) (s .args .new .now) (s .args .w) (free (sized .before .before))
+    (omega (arith, counted sized, c .before .if2 .taken)))
 
 -- the words lent are enough
 enough : (c : tie.Else2) →
-    let s = start-of (c .before .before .before) in
+    let s = start-of (bars-of (c .before)) in
     state-words-of (parts-lent (s .args .table .now)) ≤ length (s .args .new .now)
-enough c = omega (arith, few (c .before), c .if2 .left)
+enough c = omega (arith, counted (c .before), c .if2 .left)
 
 searched-into-requires : tie.Need-searched-into-requires
 unfolding trimmed
 searched-into-requires c κs =
     let test = c .before in
-    let s = start-of (test .before .before .before) in
+    let s = start-of (bars-of (test .before)) in
     let ts = s .args .table .now in
     let os = s .args .old .now in
-    let met = not-barred (lent-model ts os) (s .args .w) (free (test .before .before)) in
+    let met = not-barred (lent-model ts os) (s .args .w) (free (test .before .before .before)) in
     let had = room s in
     let spare : WordsThere ts (s .args .new .now) = record { table = had .table; state = enough test } in
     (had, (spare, (s .pre .1, (met .at-most, (met .in-time, states-spelled ts os (s .pre .0))))))
@@ -114,9 +115,9 @@ returns-3 : tie.Need-returns-3
 returns-3 c =
     let searches = c .before .before in
     let test = searches .before .before in
-    let s = start-of (test .before .before .before) in
+    let s = start-of (bars-of (test .before)) in
     searched-call (s .args .table .now) (s .args .old .now) (s .args .new .now) (searches .searched-into .last .1 .1 .1 .0) (s .args .w)
-    (searches .searched-into .result) (s .pre .0) (free (test .before .before)) (enough test) (searches .searched-into .ensures)
+    (searches .searched-into .result) (s .pre .0) (free (test .before .before .before)) (enough test) (searches .searched-into .ensures)
 
 pub advance-sound-into-spec : {M : Type 1} → statement M
 advance-sound-into-spec =
@@ -127,8 +128,7 @@ advance-sound-into-spec =
     barred-verdict-requires
     returns
     parts-of-requires
-    mul-if2
-    add-if2
+    state-size-requires
     barred-verdict-requires-2
     returns-2
     searched-into-requires

@@ -10,14 +10,8 @@ use Rattle.master.proofs.search.kept_in.Tie as tie
 parts-of-requires : tie.Need-parts-of-requires
 parts-of-requires c κs = search needs
 
-mul-copy-words : tie.Need-mul-copy-words
-mul-copy-words c = search needs
-
-add-copy-words : tie.Need-add-copy-words
-add-copy-words c = search needs
-
-copy-words-requires : tie.Need-copy-words-requires
-copy-words-requires c κs = search needs
+copy-state-requires : tie.Need-copy-state-requires
+copy-state-requires c κs = search needs
 
 same-length : tie.Need-same-length
 same-length c = search needs
@@ -27,16 +21,14 @@ returns c =
     let copies = c .before .before in
     let counts = copies .before .before in
     let s = counts .before .before .before .before in
-    subst (λ (n : ℕ). Copied (state-words-of n) (s .args .old .now) (s .args .new .now) (copies .copy-words .last .1 .1 .0)) (counts .parts-of .ensures)
-    (copies .copy-words .ensures)
+    subst (λ (n : ℕ). Copied (state-words-of n) (s .args .old .now) (s .args .new .now) (copies .copy-state .last .1 .1 .0)) (counts .parts-of .ensures)
+    (copies .copy-state .ensures)
 
 pub kept-in-spec : {M : Type 1} → statement M
 kept-in-spec =
     tie.close
     (tie.spec
     parts-of-requires
-    mul-copy-words
-    add-copy-words
-    copy-words-requires
+    copy-state-requires
     same-length
     returns)

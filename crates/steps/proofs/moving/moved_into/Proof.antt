@@ -29,10 +29,10 @@ abbrev μ-loop : tie.MeasureT-loop
 
 -- the count, the copy, the function's start, the reading of the point, the loop's test, the call that finds the source and the one that hears it, each seen
 -- from a later one
-abbrev counts-of : tie.After-copy-words Inv-loop μ-loop → tie.After-parts-of Inv-loop μ-loop
+abbrev counts-of : tie.After-copy-state Inv-loop μ-loop → tie.After-parts-of Inv-loop μ-loop
 counts-of copies = copies .before .before
 
-abbrev copies-of : tie.After-point-of Inv-loop μ-loop → tie.After-copy-words Inv-loop μ-loop
+abbrev copies-of : tie.After-point-of Inv-loop μ-loop → tie.After-copy-state Inv-loop μ-loop
 copies-of point = point .before .before .before
 
 abbrev start-of : tie.After-point-of Inv-loop μ-loop → tie.Start Inv-loop μ-loop
@@ -63,7 +63,7 @@ ticks point = lent-tick (start-of point .args .table .now) (start-of point .args
 
 -- the words that were copied, and that all of the state's were
 abbrev copied-of : tie.After-point-of Inv-loop μ-loop → List ℕ
-copied-of point = copies-of point .copy-words .last .1 .1 .0
+copied-of point = copies-of point .copy-state .last .1 .1 .0
 
 copied :
     (point : tie.After-point-of Inv-loop μ-loop) → let s = start-of point in
@@ -72,7 +72,7 @@ copied point =
     let copies = copies-of point in
     let s = start-of point in
     subst (λ (n : ℕ). Copied (state-words-of n) (s .args .old .now) (s .args .new .now) (copied-of point)) (counts-of copies .parts-of .ensures)
-    (copies .copy-words .ensures)
+    (copies .copy-state .ensures)
 
 -- the part's number is below the count of the table
 within : (test : tie.In-loop Inv-loop μ-loop) → test .before .loop .i < parts-lent (start-of (point-read test) .args .table .now)
@@ -94,14 +94,8 @@ reads hears =
 parts-of-requires : tie.Need-parts-of-requires Inv-loop μ-loop
 parts-of-requires c κs = omega (arith, c .before .before .before .pre .0 .table)
 
-mul-copy-words : tie.Need-mul-copy-words Inv-loop μ-loop
-mul-copy-words c = search needs
-
-add-copy-words : tie.Need-add-copy-words Inv-loop μ-loop
-add-copy-words c = search needs
-
-copy-words-requires : tie.Need-copy-words-requires Inv-loop μ-loop
-copy-words-requires c κs = search needs
+copy-state-requires : tie.Need-copy-state-requires Inv-loop μ-loop
+copy-state-requires c κs = search needs
 
 point-of-requires : tie.Need-point-of-requires Inv-loop μ-loop
 point-of-requires c κs = omega (arith, counts-of (c .before .before) .before .before .before .before .pre .0 .state)
@@ -207,9 +201,7 @@ moved-into-spec =
     Inv-loop
     μ-loop
     parts-of-requires
-    mul-copy-words
-    add-copy-words
-    copy-words-requires
+    copy-state-requires
     point-of-requires
     loop-holds
     part-at-requires

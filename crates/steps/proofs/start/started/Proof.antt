@@ -18,10 +18,10 @@ use Rattle.steps.proofs.start.started.Tie as tie
 abbrev start-of : tie.After-put-model → tie.Start
 start-of puts = puts .before .before .before
 
-abbrev puts-of : tie.After-copy-words → tie.After-put-model
+abbrev puts-of : tie.After-copy-state → tie.After-put-model
 puts-of copies = copies .before .before .before .before .before
 
-abbrev copies-of : tie.After-filled-into → tie.After-copy-words
+abbrev copies-of : tie.After-filled-into → tie.After-copy-state
 copies-of fills = fills .before .before .before .before .before
 
 abbrev fills-of : tie.After-settled-into → tie.After-filled-into
@@ -34,8 +34,8 @@ table-of puts = puts .put-model .last .1 .0
 abbrev old-of : tie.After-put-model → List ℕ
 old-of puts = puts .put-model .last .1 .1 .0
 
-abbrev copy-of : tie.After-copy-words → List ℕ
-copy-of copies = copies .copy-words .last .1 .1 .0
+abbrev copy-of : tie.After-copy-state → List ℕ
+copy-of copies = copies .copy-state .last .1 .1 .0
 
 abbrev filled-of : tie.After-filled-into → List ℕ
 filled-of fills = fills .filled-into .last .1 .1 .0
@@ -44,15 +44,15 @@ filled-of fills = fills .filled-into .last .1 .1 .0
 old-size : (puts : tie.After-put-model) → length (old-of puts) ≡ 290
 old-size puts = search needs
 
-copy-size : (copies : tie.After-copy-words) → length (copy-of copies) ≡ 290
+copy-size : (copies : tie.After-copy-state) → length (copy-of copies) ≡ 290
 copy-size copies = search needs
 
 settled-size : (settles : tie.After-settled-into) → length (settles .settled-into .last .1 .0) ≡ 290
 settled-size settles = search needs
 
 -- so the copy is the whole of them
-copied : (copies : tie.After-copy-words) → copy-of copies ≡ old-of (puts-of copies)
-copied copies = copied-whole 290 (old-of (puts-of copies)) _ (copy-of copies) (copies .copy-words .ensures) (old-size (puts-of copies)) (copy-size copies)
+copied : (copies : tie.After-copy-state) → copy-of copies ≡ old-of (puts-of copies)
+copied copies = copied-whole 290 (old-of (puts-of copies)) _ (copy-of copies) (copies .copy-state .ensures) (old-size (puts-of copies)) (copy-size copies)
 
 slice-aggregate-put-model : tie.Need-slice-aggregate-put-model
 slice-aggregate-put-model c = search needs
@@ -66,14 +66,14 @@ put-model-requires c κs =
     let few = unfilled-few (s .args .m) (s .pre) in
     (few, (omega (arith, few), omega (arith, few)))
 
-slice-aggregate-copy-words : tie.Need-slice-aggregate-copy-words
-slice-aggregate-copy-words c = search needs
+slice-aggregate-copy-state : tie.Need-slice-aggregate-copy-state
+slice-aggregate-copy-state c = search needs
 
-slice-aggregate-copy-words-2 : tie.Need-slice-aggregate-copy-words-2
-slice-aggregate-copy-words-2 c = search needs
+slice-aggregate-copy-state-2 : tie.Need-slice-aggregate-copy-state-2
+slice-aggregate-copy-state-2 c = search needs
 
-copy-words-requires : tie.Need-copy-words-requires
-copy-words-requires c κs = search needs
+copy-state-requires : tie.Need-copy-state-requires
+copy-state-requires c κs = search needs
 
 slice-aggregate-filled-into : tie.Need-slice-aggregate-filled-into
 slice-aggregate-filled-into c = search needs
@@ -142,9 +142,9 @@ started-spec =
     slice-aggregate-put-model
     slice-aggregate-put-model-2
     put-model-requires
-    slice-aggregate-copy-words
-    slice-aggregate-copy-words-2
-    copy-words-requires
+    slice-aggregate-copy-state
+    slice-aggregate-copy-state-2
+    copy-state-requires
     slice-aggregate-filled-into
     slice-aggregate-filled-into-2
     slice-aggregate-filled-into-3

@@ -25,30 +25,32 @@ parts-of-requires c κs = search needs
 returns-3 : tie.Need-returns-3
 returns-3 c = sym (refuted _ (λ h. omega (arith, spelled-facts _ _ h .few, c .if3 .taken, c .before .parts-of .ensures)))
 
-mul-if4 : tie.Need-mul-if4
-mul-if4 c = search needs
-
-add-if4 : tie.Need-add-if4
-add-if4 c = search needs
+table-size-requires : tie.Need-table-size-requires
+table-size-requires c κs = search needs
 
 returns-4 : tie.Need-returns-4
-returns-4 c = sym (refuted _ (λ h. omega (arith, spelled-facts _ _ h .table, c .if4 .taken, c .before .before .parts-of .ensures)))
+returns-4 c =
+    let sized = c .before in
+    sym (refuted _ (λ h. omega (arith, spelled-facts _ _ h .table, c .if4 .taken, sized .table-size .ensures, sized .before .before .parts-of .ensures)))
 
-mul-if5 : tie.Need-mul-if5
-mul-if5 c = search needs
-
-add-if5 : tie.Need-add-if5
-add-if5 c = search needs
+state-size-requires : tie.Need-state-size-requires
+state-size-requires c κs = search needs
 
 returns-5 : tie.Need-returns-5
-returns-5 c = sym (refuted _ (λ h. omega (arith, spelled-facts _ _ h .state, c .if5 .taken, c .before .before .before .parts-of .ensures)))
+returns-5 c =
+    let sized = c .before in
+    let counted = sized .before .before .before .before in
+    sym (refuted _ (λ h. omega (arith, spelled-facts _ _ h .state, c .if5 .taken, sized .state-size .ensures, counted .parts-of .ensures)))
 
 parts-spelled-requires : tie.Need-parts-spelled-requires
 parts-spelled-requires c κs = search needs
 
 returns-6 : tie.Need-returns-6
 returns-6 c =
-    let counted = c .before .before .before .before in
+    let states = c .before in
+    let tables = states .before .before in
+    let counts = tables .before .before in
+    let counted = counts .before in
     let wide = counted .before in
     let start = wide .before .before .before .before .before in
     let ts = start .args .table .now in
@@ -59,9 +61,9 @@ returns-6 c =
     (record {
       two = wide .before .before .if1 .left;
       magnitude = wide .if2 .left;
-      few = omega (arith, c .before .before .before .if3 .left, many);
-      table = omega (arith, c .before .before .if4 .left, many);
-      state = omega (arith, c .before .if5 .left, many);
+      few = omega (arith, counts .if3 .left, many);
+      table = omega (arith, tables .if4 .left, tables .before .table-size .ensures, many);
+      state = omega (arith, states .if5 .left, states .before .state-size .ensures, many);
     }))
 
 pub spelled-spec : {M : Type 1} → statement M
@@ -73,11 +75,9 @@ spelled-spec =
     returns-2
     parts-of-requires
     returns-3
-    mul-if4
-    add-if4
+    table-size-requires
     returns-4
-    mul-if5
-    add-if5
+    state-size-requires
     returns-5
     parts-spelled-requires
     returns-6)
