@@ -5,13 +5,12 @@ use mathlib.Core.Path.{_≡_, refl, ap}
 use mathlib.Core.Bool.{Bool, true, false, true≢false, _||_}
 use mathlib.Core.List.{List, [], _∷_, map}
 use Rattle.machine.specs.declared.part.Kind.{Kind}
-use Rattle.machine.specs.declared.part.Kind.the-variants.{Constant, Gain, Adder, Square, Pulse, Delay, Integrator, ResetIntegrator, Detector, Hold, Sampler, Drive, Clapper}
 use Rattle.machine.specs.declared.part.Part.{Part}
 use Rattle.machine.specs.declared.model.Model.{Model}
 use Rattle.machine.specs.Lists.{any}
 use Rattle.machine.specs.Model.{reading0}
 use Rattle.machine.specs.Step.{settled, all-settled, step-made}
-use Rattle.machine.specs.Accept.{class}
+use Rattle.machine.specs.Accept.{Class, waiting, delaying, detecting, driving, free, class}
 use Rattle.machine.specs.Advance.{objects, objects-as, any-objects}
 use Rattle.steps.specs.StepShown.{step-shown}
 
@@ -34,39 +33,26 @@ pub objects-made : (m : Model) (h k : ℕ) → any-objects k (step-made m h) ≡
 unfolding any-objects any-objects-settled step-made step-shown all-settled
 objects-made m h k = any-map (objects k) (λ (p : Part). settled (reading0 (step-shown m h .parts) p) p) (step-shown m h .parts)
 
--- the kinds that can object
-abbrev pub detects : Kind → Bool
-detects Constant = false
-detects Gain = false
-detects Adder = false
-detects Square = false
-detects Pulse = false
-detects Delay = false
-detects Integrator = false
-detects ResetIntegrator = false
-detects Detector = true
-detects Hold = false
-detects Sampler = false
-detects Drive = false
-detects Clapper = false
+-- the class that can object, and no other does
+abbrev is-detecting : Class → Bool
+is-detecting waiting = false
+is-detecting delaying = false
+is-detecting detecting = true
+is-detecting driving = false
+is-detecting free = false
 
--- another does not
-never-objects : (k : Kind) (h : ℕ) (p : Part) → detects k ≡ false → objects-as (class k) h p ≡ false
+never-objects : (c : Class) (h : ℕ) (p : Part) → is-detecting c ≡ false → objects-as c h p ≡ false
 unfolding objects-as
-never-objects Constant h p e = refl
-never-objects Gain h p e = refl
-never-objects Adder h p e = refl
-never-objects Square h p e = refl
-never-objects Pulse h p e = refl
-never-objects Delay h p e = refl
-never-objects Integrator h p e = refl
-never-objects ResetIntegrator h p e = refl
-never-objects Detector h p e = absurd (true≢false e)
-never-objects Hold h p e = refl
-never-objects Sampler h p e = refl
-never-objects Drive h p e = refl
-never-objects Clapper h p e = refl
+never-objects waiting h p e = refl
+never-objects delaying h p e = refl
+never-objects detecting h p e = absurd (true≢false e)
+never-objects driving h p e = refl
+never-objects free h p e = refl
+
+-- the kinds of that class
+abbrev pub detects : Kind → Bool
+detects k = is-detecting (class k)
 
 pub passes-trial : (h : ℕ) (ps : List Part) (p : Part) → detects (p .component .kind) ≡ false → objects-settled h ps p ≡ false
 unfolding objects settled
-passes-trial h ps p e = never-objects (p .component .kind) h (settled (reading0 ps p) p) e
+passes-trial h ps p e = never-objects (class (p .component .kind)) h (settled (reading0 ps p) p) e

@@ -13,15 +13,13 @@ use Rattle.machine.specs.Model.{most-parts, trimmed, trimmed-loaded}
 use Rattle.machine.specs.Load.{load}
 use Rattle.machine.specs.Table.{table-of}
 use Rattle.machine.specs.Sound.{sound}
-use Rattle.machine.specs.Advance.{Outcome}
 use Rattle.soundness.specs.Facts.{sound-facts, table-facts}
 use Rattle.store.specs.Held.{table-words, state-words-of}
-use Rattle.store.specs.Form.{spelled}
 use Rattle.transfer.specs.ModelPut.{KeptBehind, ModelPut}
 use Rattle.loading.specs.LoadOwed.{accepted-is-a-table}
 use Rattle.master.specs.declared.verdict.Verdict.{Verdict}
-use Rattle.master.specs.Into.{lent-model, verdict-of, outcome-into, CalledInto}
-use Rattle.boundary.specs.Exported.{taken-number, TakenIn, loaded-number, LoadedWords, outcome-words, AdvancedWords}
+use Rattle.master.specs.Into.{outcome-into, CalledInto}
+use Rattle.boundary.specs.Exported.{taken-number, TakenIn, LoadedWords, outcome-words, AdvancedWords}
 
 -- two words written at the start of a list
 pub two-written : (o : List ℕ) (a b : ℕ) → 2 ≤ length o → set (set o 0 a) 1 b ≡ a ∷ b ∷ drop 2 o

@@ -1,6 +1,6 @@
 -- Laws of lists: `every`, `any`, `member` and `same` as statements, elements of mapped lists, what holds of all elements, and where an element
 -- stands. Assumes nothing.
-use Prim.Native.Nat.{ℕ, zero, suc, _*_, _≤_, _<_, min}
+use Prim.Native.Nat.{ℕ, zero, suc, _*_, _≤_, _<_}
 use native.Mathlib.Omega.{arith}
 use native.Mathlib.Nat.{mul-suc}
 use mathlib.Core.Path.{_≡_, refl, ap, ap₂, sym, subst, _∙_}
@@ -8,12 +8,11 @@ use mathlib.Core.Bool.{Bool, true, false, _&&_, false≢true}
 use mathlib.Core.Logic.{_⊎_, inl, inr, ⊎-elim}
 use mathlib.Core.List.{List, [], _∷_, _++_, append-nil, map, flatMap, List·Memᴰ, List·Memᴰ·head, List·Memᴰ·tail, List·Memᴰ·not-nil, List·Memᴰ·cases-cons, List·Memᴰ·eq-of-singleton, List·Memᴰ·append-cases}
 use lib.ListN.{length, getD, set, take, length-append}
-use lib.Seq.{append-snoc, take-all}
+use lib.Seq.{append-snoc}
 use lib.Dec.{eqb}
 use borrow.Author.Tests.{eqb-true, eq-eqb}
 use Rattle.machine.specs.Lists.{every, any, member, same, All}
 use Rattle.laws.specs.Bools.{either, and-left, and-right, and-intro, or-cases, or-left, or-right}
-use Rattle.laws.specs.Numbers.{min-one}
 
 module _ {ℓ} {A : Type ℓ} where
   -- what `every` says at each index, and back
@@ -82,11 +81,6 @@ pub every-map {ℓ ℓ′} : {A : Type ℓ} {B : Type ℓ′} (f : B → Bool) (
 unfolding every
 every-map f g [] = refl
 every-map f g (x ∷ xs) = ap (λ (b : Bool). f (g x) && b) (every-map f g xs)
-
--- the first n elements of at most k, by the smaller of the two numbers
-pub take-most {ℓ} : {A : Type ℓ} (n k : ℕ) (l : List A) → length l ≤ k → take (min n k) l ≡ take n l
-take-most n k l h =
-    ⊎-elim (λ e. rw e refl) (λ e. rw e (take-all k l h ∙ sym (take-all n l (omega arith)))) (min-one n k)
 
 -- lists of numbers that are the same are equal, and back
 pub same-equal : (xs ys : List ℕ) → same xs ys ≡ true → xs ≡ ys

@@ -1,6 +1,6 @@
 -- `kind_coded` is `kind-of`: each arm by its number, and the last by what is left, 0 and the numbers from 13 on.
 use Prim.Native.Nat.{ℕ, zero, suc}
-use mathlib.Core.Path.{_≡_, refl, sym}
+use mathlib.Core.Path.{_≡_, refl}
 use Rattle.machine.specs.declared.part.Kind.the-variants.{Constant}
 use Rattle.machine.specs.Kind.{kind-of}
 use Rattle.codec.proofs.fields.kind_coded.Statement.{statement}

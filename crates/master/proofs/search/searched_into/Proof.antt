@@ -11,7 +11,7 @@ use Rattle.steps.specs.StepShown.{settled-made}
 use Rattle.store.specs.Held.{parts-lent, held}
 use Rattle.store.specs.Updated.{SameBehind}
 use Rattle.store.specs.StoreFrame.{behind-none, behind-through, behind-copied, copied-spelled, held-copied}
-use Rattle.master.specs.Searching.{refusal, Left, left-start, lowered, halved, refused-answer, committed-answer, may-step}
+use Rattle.master.specs.Searching.{Left, left-start, lowered, halved, refused-answer, committed-answer, may-step}
 use Rattle.master.specs.Into.{lent-model}
 use Rattle.master.specs.IntoLaws.{searched-words}
 use Rattle.master.proofs.search.searched_into.Statement.{statement}

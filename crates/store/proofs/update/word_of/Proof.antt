@@ -5,7 +5,6 @@ use mir.Syntax.{w64}
 use mir.Val.{SFits}
 use mir.ValLaws.{toZ-ofZ}
 use borrow.Author.Needs.{needs}
-use Rattle.codec.specs.Words.{word-signed}
 use Rattle.codec.specs.Sized.{FitsSigned}
 use Rattle.codec.specs.Fields.{signed-same}
 use Rattle.store.proofs.update.word_of.Statement.{statement}

@@ -16,7 +16,7 @@ use Rattle.steps.specs.StepShown.{Settleable, shown-settleable}
 use Rattle.store.specs.Held.{parts-lent, held, WordsThere}
 use Rattle.store.specs.Updated.{SameBehind}
 use Rattle.store.specs.StoreFrame.{behind-through}
-use Rattle.master.specs.Searching.{refusal, Left, lowered, lower-below, halve-above}
+use Rattle.master.specs.Searching.{refusal, Left, lower-below, halve-above}
 use Rattle.asking.specs.Trials.{any-objects-settled, objects-made}
 use Rattle.master.specs.Into.{lent-model}
 use Rattle.master.proofs.search.searched_into.Tie as tie
