@@ -13,13 +13,15 @@ use Rattle.machine.specs.Model.{most-parts, trimmed, trimmed-loaded}
 use Rattle.machine.specs.Load.{load}
 use Rattle.machine.specs.Table.{table-of}
 use Rattle.machine.specs.Sound.{sound}
+use Rattle.machine.specs.Advance.{Outcome}
 use Rattle.soundness.specs.Facts.{sound-facts, table-facts}
 use Rattle.store.specs.Held.{table-words, state-words-of}
 use Rattle.transfer.specs.ModelPut.{KeptBehind, ModelPut}
 use Rattle.loading.specs.LoadOwed.{accepted-is-a-table}
 use Rattle.master.specs.declared.verdict.Verdict.{Verdict}
-use Rattle.master.specs.Into.{outcome-into, CalledInto}
-use Rattle.boundary.specs.Exported.{taken-number, TakenIn, LoadedWords, outcome-words, AdvancedWords}
+use Rattle.master.specs.Into.{verdict-of, outcome-into, CalledInto}
+use Rattle.preview.specs.PreviewedInto.{PreviewedInto}
+use Rattle.boundary.specs.Exported.{taken-number, TakenIn, LoadedWords, outcome-words, AdvancedWords, PreviewedWords}
 
 -- two words written at the start of a list
 pub two-written : (o : List ℕ) (a b : ℕ) → 2 ≤ length o → set (set o 0 a) 1 b ≡ a ∷ b ∷ drop 2 o
@@ -144,15 +146,39 @@ advanced-short table old w a o few =
       called = λ room. absurd (omega arith);
     }
 
+-- five numbers of how a call ended, written
+ended-words : (o p : List ℕ) (v : Verdict) (e : Outcome) → v ≡ verdict-of e →
+    p ≡ v .number ∷ v .step ∷ v .rounds ∷ v .revisions ∷ v .ceiling ∷ drop 5 o → p ≡ outcome-words e (drop 5 o)
+unfolding outcome-words
+ended-words o p v e ends written =
+    written ∙ ap (λ (x : Verdict). x .number ∷ x .step ∷ x .rounds ∷ x .revisions ∷ x .ceiling ∷ drop 5 o) ends
+
 pub advanced-words : (table old : List ℕ) (w : ℕ) (a b o p : List ℕ) (v : Verdict) → CalledInto (outcome-into table old w (length a)) table old a b v →
     5 ≤ length o → p ≡ v .number ∷ v .step ∷ v .rounds ∷ v .revisions ∷ v .ceiling ∷ drop 5 o → AdvancedWords table old w a b o p (v .number)
-unfolding outcome-words
 advanced-words table old w a b o p v found room written =
     record {
       short = λ less. absurd (omega arith);
       is = λ enough. ap (λ (x : Verdict). x .number) (found .ends);
-      answer =
-          λ enough.
-          written ∙ ap (λ (x : Verdict). x .number ∷ x .step ∷ x .rounds ∷ x .revisions ∷ x .ceiling ∷ drop 5 o) (found .ends);
+      answer = λ enough. ended-words o p v (outcome-into table old w (length a)) (found .ends) written;
       called = λ enough. subst (CalledInto (outcome-into table old w (length a)) table old a b) (found .ends) found;
+    }
+
+-- and what a preview comes to
+pub previewed-short : (table old : List ℕ) (w : ℕ) (a o : List ℕ) → length o < 5 → PreviewedWords table old w a a o o 25
+previewed-short table old w a o few =
+    record {
+      short = λ less. (refl, refl, refl);
+      is = λ room. absurd (omega arith);
+      answer = λ room. absurd (omega arith);
+      previewed = λ room. absurd (omega arith);
+    }
+
+pub previewed-words : (table old : List ℕ) (w : ℕ) (a b o p : List ℕ) (v : Verdict) → PreviewedInto table old w a b v →
+    5 ≤ length o → p ≡ v .number ∷ v .step ∷ v .rounds ∷ v .revisions ∷ v .ceiling ∷ drop 5 o → PreviewedWords table old w a b o p (v .number)
+previewed-words table old w a b o p v found room written =
+    record {
+      short = λ less. absurd (omega arith);
+      is = λ enough. ap (λ (x : Verdict). x .number) (found .ends);
+      answer = λ enough. ended-words o p v (outcome-into table old w (length a)) (found .ends) written;
+      previewed = λ enough. subst (PreviewedInto table old w a b) (found .ends) found;
     }

@@ -13,6 +13,7 @@ use Rattle.store.specs.Held.{table-words, state-words-of}
 use Rattle.store.specs.Form.{spelled}
 use Rattle.transfer.specs.ModelPut.{KeptBehind, ModelPut}
 use Rattle.master.specs.Into.{verdict-of, lent-model, outcome-into, CalledInto}
+use Rattle.preview.specs.PreviewedInto.{PreviewedInto}
 
 -- the number of a load that ended with a number and a model of so many parts, with so many words lent for the table and for the state: 25 where the
 -- table is accepted and there are too few of either
@@ -59,3 +60,10 @@ pub record AdvancedWords (table old : List ℕ) (w : ℕ) (a b o p : List ℕ) (
   pub answer : 5 ≤ length o → p ≡ outcome-words (outcome-into table old w (length a)) (drop 5 o)
   pub called : 5 ≤ length o →
       CalledInto (outcome-into table old w (length a)) table old a b (verdict-of (outcome-into table old w (length a)))
+
+-- The same of a preview by at most w, but for what it leaves in the words of the new state.
+pub record PreviewedWords (table old : List ℕ) (w : ℕ) (a b o p : List ℕ) (number : ℕ) : Type 0 where
+  pub short : length o < 5 → (number ≡ 25) × (b ≡ a) × (p ≡ o)
+  pub is : 5 ≤ length o → number ≡ outcome-into table old w (length a) .number
+  pub answer : 5 ≤ length o → p ≡ outcome-words (outcome-into table old w (length a)) (drop 5 o)
+  pub previewed : 5 ≤ length o → PreviewedInto table old w a b (verdict-of (outcome-into table old w (length a)))

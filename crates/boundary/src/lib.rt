@@ -1,4 +1,4 @@
-// The calls `load` and `advance` for programs in Rust and C, through a static library. A model lies in words of 64 bits that
+// The calls `load`, `advance` and `preview` for programs in Rust and C, through a static library. A model lies in words of 64 bits that
 // the caller lends, as the crate `store` lays down in its `specs/Held.antt`: those of a table, 18 for each part and 2 before them,
 // and those of a state, 9 for each part and 2 before them. The calls work in the caller's own memory, and the answer's
 // numbers are written into `out`. The contracts cite `specs/Exported.antt`; they ask nothing of the caller but that each slice is
@@ -6,6 +6,7 @@
 use loading::load;
 use machine::model::Model;
 use master::advance_into;
+use preview::preview_into;
 use store::lookup::state_size;
 use store::lookup::table_size;
 use transfer::intake::put_model;
@@ -13,12 +14,12 @@ ghost use mathlib.Core.Path.{_≡_};
 ghost use mathlib.Core.List.{_∷_};
 ghost use Prim.Native.Nat.{_≤_};
 ghost use lib.ListN.{drop, length};
-ghost use Rattle.boundary.specs.Exported.{AdvancedWords, LoadedWords, TakenIn};
+ghost use Rattle.boundary.specs.Exported.{AdvancedWords, LoadedWords, PreviewedWords, TakenIn};
 
 // The number of a call whose words are too few for what it has to write.
 const TOO_SHORT: u64 = 25;
 
-// How many words of `out` a load writes, and an advance.
+// How many words of `out` a load writes, and an advance or a preview.
 const LOADED: usize = 2;
 
 const ADVANCED: usize = 5;
@@ -32,7 +33,7 @@ fn put_found(out: &mut [u64], number: u64, position: u64)
     out[1] = position;
 }
 
-// An advance's numbers.
+// An advance's numbers, or a preview's.
 fn put_counts(out: &mut [u64], number: u64, step: u64, rounds: u64, revisions: u64, ceiling: u64)
     requires { ⌜ 5 ≤ length (now out) ⌝ }
     ensures { λ r. ⌜ now (out .exit) ≡ number ∷ step ∷ rounds ∷ revisions ∷ ceiling ∷ drop 5 (now (out .entry)) ⌝ }
@@ -104,6 +105,35 @@ pub extern "C" fn dozhumek_advance(
         return TOO_SHORT;
     }
     let verdict = advance_into(table, old, wanted, new);
+    put_counts(
+        out,
+        verdict.number,
+        verdict.step,
+        verdict.rounds,
+        verdict.revisions,
+        verdict.ceiling,
+    );
+    verdict.number
+}
+
+// What an advance by at most `wanted` would answer, of the model that the words spell, whatever they are. Written are the same five
+// words into `out`, and into `new` the state of the answer's model, which is the one handed in where the call is refused; no word
+// of `new` where the words spell no model or it is too short. The words handed in stay the caller's model whatever comes of it. The number is 25
+// as for an advance.
+#[no_mangle]
+pub extern "C" fn dozhumek_preview(
+    table: &[u64],
+    old: &[u64],
+    wanted: u64,
+    new: &mut [u64],
+    out: &mut [u64],
+) -> u64
+    ensures { λ n. ⌜ PreviewedWords (now (table .entry)) (now (old .entry)) wanted (now (new .entry)) (now (new .exit)) (now (out .entry)) (now (out .exit)) n ⌝ }
+{
+    if out.len() < ADVANCED {
+        return TOO_SHORT;
+    }
+    let verdict = preview_into(table, old, wanted, new);
     put_counts(
         out,
         verdict.number,

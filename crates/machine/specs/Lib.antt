@@ -14,6 +14,7 @@ pub mod Accept
 pub mod Advance
 pub mod Calls
 pub mod WholeList
+pub mod Previews
 pub mod Score
 pub mod Rehearse
 pub mod Played

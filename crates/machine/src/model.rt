@@ -32,6 +32,12 @@ pub struct Answer {
     pub ceiling: u64,
 }
 
+// What a preview returns: the model handed in, and the answer that an advance of it has.
+pub struct Preview {
+    pub given: Model,
+    pub answer: Answer,
+}
+
 // What the score holds at a position: its end, a wanted step with the position after it, or a refusal
 // with document 01's number and position.
 pub enum Score {

@@ -31,14 +31,14 @@ unfolding barred
 many-answer m w many full = barred-answer m w 24 (rw (unsound-many m many full) refl) (λ z. omega arith)
 
 -- an answer by how the call ends and the model of the machine's answer
-answered : (x z : Model) (o : Outcome) (v : Verdict) → z ≡ answer-with x o .model → v ≡ verdict-of o →
+pub answered : (x z : Model) (o : Outcome) (v : Verdict) → z ≡ answer-with x o .model → v ≡ verdict-of o →
     answer-of z (v .number) (v .step) (v .rounds) (v .revisions) (v .ceiling) ≡ answer-with x o
 unfolding answer-with
 answered x z o v same ends =
     ap₂ (λ (y : Model) (u : Verdict). answer-of y (u .number) (u .step) (u .rounds) (u .revisions) (u .ceiling)) same ends
 
 -- which of a refusal is the model handed in
-refused-model : (x : Model) (o : Outcome) → (o .number ≡ 0 → ⊥) → x ≡ answer-with x o .model
+pub refused-model : (x : Model) (o : Outcome) → (o .number ≡ 0 → ⊥) → x ≡ answer-with x o .model
 unfolding answer-with
 refused-model x o other = sym (cond-false (eqb (o .number) 0) (step-made x (o .step)) x (ne-eqb (o .number) 0 other))
 

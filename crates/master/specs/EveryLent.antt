@@ -113,7 +113,7 @@ module _
       }
 
   -- and spells it
-  spells-on : (eqb (c .verdict .number) 0 ≡ true) ⊎ (eqb (c .verdict .number) 0 ≡ false) → spelled ts (next-state c) ≡ true
+  pub spells-on : (eqb (c .verdict .number) 0 ≡ true) ⊎ (eqb (c .verdict .number) 0 ≡ false) → spelled ts (next-state c) ≡ true
   unfolding next-state
   spells-on (inl zero-number) = rw zero-number (called .form (called .asked (eqb-true (c .verdict .number) 0 zero-number)))
   spells-on (inr other) = rw other spells

@@ -46,14 +46,14 @@ searched-words ts os a b w r found asked holds form behind =
     }
 
 -- how a call ends that something bars, one whose words for the new state are too few, and one that is searched
-with-barred : (ts os : List ℕ) (w room k : ℕ) → k ≡ barred (lent-model ts os) w → (k ≡ 0 → ⊥) → outcome-with ts os w room ≡ barred-outcome k
+pub with-barred : (ts os : List ℕ) (w room k : ℕ) → k ≡ barred (lent-model ts os) w → (k ≡ 0 → ⊥) → outcome-with ts os w room ≡ barred-outcome k
 unfolding outcome-with unless-short
 with-barred ts os w room k e other =
     let m = lent-model ts os in
     let bars : barred m w ≡ 0 → ⊥ = λ z. other (e ∙ z) in
     rw (ne-eqb (barred m w) 0 bars) (outcome-barred m w bars ∙ ap barred-outcome (sym e))
 
-with-short : (ts os : List ℕ) (w room : ℕ) → barred (lent-model ts os) w ≡ 0 → room < state-words-of (parts-lent ts) →
+pub with-short : (ts os : List ℕ) (w room : ℕ) → barred (lent-model ts os) w ≡ 0 → room < state-words-of (parts-lent ts) →
     outcome-with ts os w room ≡ barred-outcome 25
 unfolding outcome-with unless-short
 with-short ts os w room none short =

@@ -1,9 +1,10 @@
 -- The claim about a whole list can be false: it refutes the calls of two imitations, each by one of its fields alone. A master that commits one tick
--- each time is refuted by the longest step, and one that moves in the first call and repeats that answer by the sum of the steps. The model is the
--- fresh one of a single constant, which accepts every step. Assumes nothing.
+-- each time is refuted by the longest step, and one that moves in the first call and repeats that answer by the sum of the steps. And that previews alter nothing
+-- can be false: it refutes a preview that hands on the model that it moved. The model is the fresh one of a single constant, which accepts every step.
+-- Assumes nothing.
 use Prim.Native.Nat.{ℕ, zero, suc, _≤_}
 use native.Mathlib.Omega.{arith}
-use mathlib.Core.Path.{_≡_, refl}
+use mathlib.Core.Path.{_≡_, refl, ap}
 use mathlib.Core.Logic.{inr}
 use mathlib.Core.List.{List, [], _∷_}
 use lib.IntN.{pos}
@@ -11,10 +12,12 @@ use Rattle.machine.specs.declared.part.Kind.the-variants.{Constant}
 use Rattle.machine.specs.declared.part.Source.the-variants.{Unwired}
 use Rattle.machine.specs.declared.model.Model.{Model}
 use Rattle.machine.specs.declared.model.Answer.{Answer}
+use Rattle.machine.specs.Time.{tick}
 use Rattle.machine.specs.Model.{trimmed}
 use Rattle.machine.specs.Step.{step-made}
 use Rattle.machine.specs.Accept.{AcceptsAs, Accepts}
 use Rattle.machine.specs.Calls.{Call}
+use Rattle.machine.specs.Previews.{AnyCall, Advancing, Previewing, advances, Unaltered}
 use Rattle.machine.specs.WholeList.{AllAccept, OfCall, sum, WholeList}
 use Rattle.machine.specs.Played.{plain, fresh-of}
 use Rattle.machine.proofs.Computing.{computing}
@@ -64,3 +67,14 @@ one-tick-refuted claim = one-tick-call-refuted (claim .calls .0)
 pub repeated-refuted : WholeList alone repeated-calls → ⊥
 unfolding computing sum
 repeated-refuted claim = let h : _≡_ {A = ℕ} 5 10 = claim .ticks in omega arith
+
+-- a preview, wanting 5, that hands on the model with the step made, and an advance behind it
+abbrev pub moving-calls : List AnyCall
+moving-calls =
+    Previewing (record { given = alone; wanted = 5; returned = record { given = step-made alone 5; answer = committing alone 5 } }) ∷
+    Advancing (wanting-5 (step-made alone 5) (committing (step-made alone 5) 5)) ∷ []
+
+-- that it altered nothing is false: the advance, alone, would have been given the model at tick 0
+pub moving-refuted : Unaltered alone moving-calls → ⊥
+unfolding computing advances
+moving-refuted claim = let h : _≡_ {A = ℕ} 5 0 = ap (λ (m : Model). tick (m .point)) (claim .chain .0) in omega arith

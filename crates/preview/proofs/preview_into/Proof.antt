@@ -1,0 +1,108 @@
+-- `preview_into` is the advance on words; where that made no round, and a state can be shown, the state handed in is copied, which is the answer's.
+use Prim.Native.Nat.{ℕ}
+use native.Mathlib.Omega.{arith}
+use mathlib.Core.Path.{_≡_, sym, subst, _∙_}
+use mathlib.Core.Bool.{true}
+use mathlib.Core.List.{List}
+use lib.ListN.{length}
+use borrow.Author.Needs.{needs}
+use borrow.Author.Tests.{not-true, not-false}
+use Rattle.store.specs.Held.{state-words-of}
+use Rattle.store.specs.Updated.{Copied}
+use Rattle.store.specs.Spelling.{spelled-room}
+use Rattle.preview.specs.PreviewedInto.{shows, shown-spelled, shown-room, searched-preview, unshown-preview, copied-preview}
+use Rattle.preview.proofs.preview_into.Statement.{statement}
+use Rattle.preview.proofs.preview_into.Tie as tie
+
+-- the start, seen from the advance, and the words that it left
+abbrev start-of : tie.After-advance-into → tie.Start
+start-of advances = advances .before .before .before .before .before
+
+abbrev left-of : tie.After-advance-into → List ℕ
+left-of advances = advances .advance-into .last .1 .1 .1 .0
+
+-- the advance, seen from the test of its rounds, and from the question whether a state can be shown
+abbrev asked-of : tie.Else1 → tie.After-advance-into
+asked-of test = test .before .before .before .before
+
+abbrev shown-of : tie.Else2 → tie.After-advance-into
+shown-of test = asked-of (test .before .before)
+
+advance-into-requires : tie.Need-advance-into-requires
+advance-into-requires c κs = search needs
+
+same-length : tie.Need-same-length
+same-length c = search needs
+
+returns : tie.Need-returns
+returns c =
+    let advances = c .before .before .before .before in
+    let s = start-of advances in
+    searched-preview (s .args .table .now) (s .args .old .now) (s .args .w) (s .args .new .now) (left-of advances) (advances .advance-into .result)
+    (advances .advance-into .ensures) (λ none. omega (arith, c .if1 .taken))
+
+can-show-requires : tie.Need-can-show-requires
+can-show-requires c κs = search needs
+
+same-length-2 : tie.Need-same-length-2
+same-length-2 c = search needs
+
+returns-2 : tie.Need-returns-2
+returns-2 c =
+    let asks = c .before in
+    let advances = asked-of (asks .before) in
+    let s = start-of advances in
+    unshown-preview (s .args .table .now) (s .args .old .now) (s .args .w) (s .args .new .now) (left-of advances) (advances .advance-into .result)
+    (advances .advance-into .ensures) (omega (arith, asks .before .if1 .left)) (sym (asks .can-show .ensures) ∙ not-true (asks .can-show .result) (c .if2 .taken))
+
+-- a state can be shown in the words that the advance left
+can : (c : tie.Else2) →
+    let s = start-of (shown-of c) in
+    shows (s .args .table .now) (s .args .old .now) (length (left-of (shown-of c))) ≡ true
+can c = sym (c .before .can-show .ensures) ∙ not-false (c .before .can-show .result) (c .if2 .left)
+
+parts-of-requires : tie.Need-parts-of-requires
+parts-of-requires c κs =
+    let s = start-of (shown-of c) in
+    omega (arith, spelled-room (s .args .table .now) (s .args .old .now) (shown-spelled (s .args .table .now) (s .args .old .now) _ (can c)) .table)
+
+copy-state-requires : tie.Need-copy-state-requires
+copy-state-requires c κs =
+    let counts = c .before in
+    let test = counts .before in
+    let s = start-of (shown-of test) in
+    let ts = s .args .table .now in
+    let os = s .args .old .now in
+    let room = shown-room ts os (length (left-of (shown-of test))) (can test) in
+    let there = spelled-room ts os (shown-spelled ts os _ (can test)) .state in
+    (omega (arith, there, counts .parts-of .ensures), omega (arith, room, counts .parts-of .ensures))
+
+same-length-3 : tie.Need-same-length-3
+same-length-3 c = search needs
+
+returns-3 : tie.Need-returns-3
+returns-3 c =
+    let copies = c .before .before in
+    let counts = copies .before .before in
+    let test = counts .before in
+    let advances = shown-of test in
+    let s = start-of advances in
+    let shown = copies .copy-state .last .1 .1 .0 in
+    copied-preview (s .args .table .now) (s .args .old .now) (s .args .w) (s .args .new .now) (left-of advances) (advances .advance-into .result)
+    (advances .advance-into .ensures) shown (omega (arith, test .before .before .if1 .left)) (can test)
+    (subst (λ (n : ℕ). Copied (state-words-of n) (s .args .old .now) (left-of advances) shown) (counts .parts-of .ensures) (copies .copy-state .ensures))
+
+pub preview-into-spec : {M : Type 1} → statement M
+preview-into-spec =
+    tie.close
+    (tie.spec
+    advance-into-requires
+    same-length
+    returns
+    can-show-requires
+    same-length-2
+    returns-2
+    parts-of-requires
+    copy-state-requires
+    same-length-3
+    returns-3)

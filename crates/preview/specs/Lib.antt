@@ -1,0 +1,3 @@
+-- What a preview on lent words promises, and lists of calls in which previews stand among advances.
+pub mod PreviewedInto
+pub mod EveryPreviewed

@@ -1,0 +1,55 @@
+// Previews: what an advance would answer, of a model that stays as it is. The calls are `preview_into` on lent words and `preview` by
+// value; both are the advance itself, made where nothing is taken up. Their contracts cite `machine`'s `specs/Previews.antt` and this crate's
+// `specs/PreviewedInto.antt`.
+use machine::model::Model;
+use machine::model::Preview;
+use master::advance;
+use master::advance_into;
+use master::verdict::Verdict;
+use store::form::spelled;
+use store::lookup::parts_of;
+use store::lookup::state_size;
+use store::update::copy_state;
+ghost use mathlib.Core.Path.{_≡_};
+ghost use Rattle.machine.specs.Previews.{Previewed};
+ghost use Rattle.preview.specs.PreviewedInto.{PreviewedInto, shows};
+
+// What an advance of a model by at most `w` would answer, whatever they are, beside the model handed in: the very struct.
+pub fn preview(m: Model, w: u64) -> Preview
+    ensures { λ r. ⌜ Previewed m w r ⌝ }
+{
+    let answer = advance(m, w);
+    Preview {
+        given: m,
+        answer: answer,
+    }
+}
+
+// Whether words spell a model, and a state of it fits into so many words.
+fn can_show(table: &[u64], old: &[u64], room: usize) -> bool
+    ensures { λ r. ⌜ r ≡ shows (now (table .entry)) (now (old .entry)) room ⌝ }
+{
+    if !spelled(table, old) {
+        return false;
+    }
+    let count = parts_of(table);
+    state_size(count) <= room
+}
+
+// What an advance by at most `w` would answer, on lent words, whatever they are: the numbers of `advance_into`, and in `new` the state of the answer's model,
+// which is the one handed in where the call is refused, for whatever reason. Where the words spell no model, or `new` is too short
+// for a state, no word of it is written. The words of the table and of the old state are kept, as their types say.
+pub fn preview_into(table: &[u64], old: &[u64], w: u64, new: &mut [u64]) -> Verdict
+    ensures { λ r. ⌜ PreviewedInto (now (table .entry)) (now (old .entry)) w (now (new .entry)) (now (new .exit)) r ⌝ }
+{
+    let verdict = advance_into(table, old, w, new);
+    if verdict.rounds != 0 {
+        return verdict;
+    }
+    if !can_show(table, old, new.len()) {
+        return verdict;
+    }
+    let count = parts_of(table);
+    copy_state(old, count, new);
+    verdict
+}
