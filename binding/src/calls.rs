@@ -22,6 +22,17 @@ extern "C" {
         out: *mut u64,
         out_length: usize,
     ) -> u64;
+    fn dozhumek_preview(
+        table: *const u64,
+        table_length: usize,
+        old: *const u64,
+        old_length: usize,
+        wanted: u64,
+        new: *mut u64,
+        new_length: usize,
+        out: *mut u64,
+        out_length: usize,
+    ) -> u64;
 }
 
 /// The table at the start of a stream, loaded into the words of a table and of a state. Written into `out` are the number,
@@ -42,12 +53,15 @@ pub fn load_into(stream: &[u8], table: &mut [u64], state: &mut [u64], out: &mut 
     }
 }
 
-/// One advance of the model of a table's and an old state's words, by at most `wanted`, into the words of a new state. Written
-/// into `out` are the number, which is the answer too, step, rounds, revisions and last ceiling.
-pub fn advance_into(table: &[u64], old: &[u64], wanted: u64, new: &mut [u64], out: &mut [u64]) -> u64 {
+/// An exported call on a table, an old state and a wanted step, into a new state and an answer.
+type Exported =
+    unsafe extern "C" fn(*const u64, usize, *const u64, usize, u64, *mut u64, usize, *mut u64, usize) -> u64;
+
+/// Such a call on slices.
+fn made(call: Exported, table: &[u64], old: &[u64], wanted: u64, new: &mut [u64], out: &mut [u64]) -> u64 {
     // SAFETY: the slices are whole, and those that are written overlap no other, by their types.
     unsafe {
-        dozhumek_advance(
+        call(
             table.as_ptr(),
             table.len(),
             old.as_ptr(),
@@ -59,4 +73,17 @@ pub fn advance_into(table: &[u64], old: &[u64], wanted: u64, new: &mut [u64], ou
             out.len(),
         )
     }
+}
+
+/// One advance of the model of a table's and an old state's words, by at most `wanted`, into the words of a new state. Written
+/// into `out` are the number, which is the answer too, step, rounds, revisions and last ceiling.
+pub fn advance_into(table: &[u64], old: &[u64], wanted: u64, new: &mut [u64], out: &mut [u64]) -> u64 {
+    made(dozhumek_advance, table, old, wanted, new, out)
+}
+
+/// One preview: what `advance_into` answers for the same words and the same wanted step, into `out`. Where the words spell a
+/// model and there is room for a state of it, `new` holds the state of the model that is then answered: that of the new point
+/// where the number is 0, and else the old one again.
+pub fn preview_into(table: &[u64], old: &[u64], wanted: u64, new: &mut [u64], out: &mut [u64]) -> u64 {
+    made(dozhumek_preview, table, old, wanted, new, out)
 }

@@ -1,11 +1,11 @@
-//! The rehearsal master's calls `load` and `advance`. The calls themselves are the proved ones of the static
-//! library, and work in words of 64 bits that they are lent (`load_into`, `advance_into`); here is the owner of
+//! The rehearsal master's calls `load`, `advance` and `preview`. The calls themselves are the proved ones of the static
+//! library, and work in words of 64 bits that they are lent (`load_into`, `advance_into`, `preview_into`); here is the owner of
 //! those words, and what they say as typed records. The crate `store` of the repository defines the words, in `specs/Held.antt` and
 //! `specs/Form.antt`.
 mod calls;
 mod part;
 
-pub use calls::{advance_into, load_into};
+pub use calls::{advance_into, load_into, preview_into};
 pub use part::{Kind, Mark, Part, Side, KINDS};
 
 /// How many parts a model has room for, and how many spans a part.
@@ -55,6 +55,14 @@ pub struct Answer {
     pub ceiling: u64,
 }
 
+/// What previewing answers: the answer that an advance would have, and the model that it would then stand at, which is the
+/// given one where it is refused.
+#[derive(Clone, Debug)]
+pub struct Preview {
+    pub answer: Answer,
+    pub model: Model,
+}
+
 /// The table at the start of a stream, loaded.
 pub fn load(stream: &[u8]) -> Loaded {
     let mut table = vec![0; table_words(PARTS)];
@@ -75,11 +83,18 @@ pub fn load(stream: &[u8]) -> Loaded {
 pub fn advance(model: &mut Model, wanted: u64) -> Answer {
     let mut out = [0; 5];
     advance_into(&model.table, &model.state, wanted, &mut model.next, &mut out);
-    let [number, step, rounds, revisions, ceiling] = out;
-    if number == 0 {
+    let answer = Answer::of_words(out);
+    if answer.number == 0 {
         std::mem::swap(&mut model.state, &mut model.next);
     }
-    Answer { number, step, rounds, revisions, ceiling }
+    answer
+}
+
+impl Answer {
+    /// The answer that a call wrote.
+    fn of_words([number, step, rounds, revisions, ceiling]: [u64; 5]) -> Answer {
+        Answer { number, step, rounds, revisions, ceiling }
+    }
 }
 
 impl Model {
@@ -87,6 +102,15 @@ impl Model {
     pub fn from_words(table: Vec<u64>, state: Vec<u64>) -> Model {
         let next = state.clone();
         Model { table, state, next }
+    }
+
+    /// What an advance by at most `wanted` would answer. The model is kept, whatever the number is.
+    pub fn preview(&self, wanted: u64) -> Preview {
+        // Where nothing is written, it is the given state still.
+        let mut state = self.state.clone();
+        let mut out = [0; 5];
+        preview_into(&self.table, &self.state, wanted, &mut state, &mut out);
+        Preview { answer: Answer::of_words(out), model: Model::from_words(self.table.clone(), state) }
     }
 
     /// The table's words.

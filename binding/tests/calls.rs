@@ -1,6 +1,6 @@
-//! Document 01's played examples and a clapper through the binding: what lies in the words comes back whole, and words that
-//! spell no model are refused.
-use dozhumek::{advance, load, state_words, table_words, Answer, Kind, Mark, Model, Part, Side};
+//! Document 01's played examples and a clapper through the binding, previewed and played: what lies in the words comes back
+//! whole, and words that spell no model are refused.
+use dozhumek::{advance, load, preview_into, state_words, table_words, Answer, Kind, Mark, Model, Part, Preview, Side};
 
 /// A Part command.
 fn part(kind: u8, a: i32, b: i32, p: u32) -> Vec<u8> {
@@ -41,12 +41,26 @@ fn words(model: &Model) -> (Vec<u64>, Vec<u64>) {
     (model.table().to_vec(), model.state().to_vec())
 }
 
-/// Fails unless an advance of these words is refused with 24, and leaves them.
+/// Fails unless a preview and an advance of these words are refused with 24, and leave them.
 fn refused(table: Vec<u64>, state: Vec<u64>) {
     let mut model = Model::from_words(table.clone(), state.clone());
-    let answer = advance(&mut model, 1);
+    let answer = previewed(&mut model, 1);
     assert_eq!(answer, Answer { number: 24, step: 0, rounds: 0, revisions: 0, ceiling: 0 });
     assert_eq!(words(&model), (table, state));
+}
+
+/// Previews a model and then advances it, and fails unless the preview leaves the model and has the advance's answer and model.
+fn previewed(model: &mut Model, wanted: u64) -> Answer {
+    // A preview that could move its model would have another type.
+    let preview: fn(&Model, u64) -> Preview = Model::preview;
+    let before = words(model);
+    let tried = preview(model, wanted);
+    assert_eq!(words(model), before);
+    let answer = advance(model, wanted);
+    assert_eq!((tried.answer, tried.model.outputs()), (answer, model.outputs()));
+    assert_eq!(words(&tried.model), words(model));
+    assert_eq!(words(model) == before, answer.number != 0);
+    answer
 }
 
 #[test]
@@ -154,6 +168,69 @@ fn refusals() {
 /// The words of a constant into a clapper.
 fn spelled() -> (Vec<u64>, Vec<u64>) {
     words(&load(&table(&[part(0, 3, 0, 0), part(12, 10, -2, 0), wire(0, 1, 0)])).model)
+}
+
+#[test]
+fn previews_before_their_advances() {
+    let drive = table(&[part(0, 1, 0, 0), part(11, 0, 0, 0), span(2), span(5), wire(0, 1, 0)]);
+    let mut model = load(&drive).model;
+    // Of other wanted steps: the advance behind them is the one that it is without them.
+    for (wanted, number, t) in [(4, 0, 2), (9, 0, 5), (4, 0, 2), (1, 22, 0), (0, 20, 0)] {
+        let tried = model.preview(wanted);
+        assert_eq!((tried.answer.number, tried.model.t(), model.t()), (number, t, 0));
+        assert_eq!(tried.model.outputs(), Some(vec![Some(1), Some(t as i64)]));
+    }
+    let first = previewed(&mut model, 7);
+    assert_eq!((first.number, line(&model, &first)), (0, [5, 0, 5, 2, 0]));
+    // The model that a preview answers can be played on, and so can the given one.
+    let mut other = model.preview(4).model;
+    assert_eq!((previewed(&mut other, 9).number, other.t(), model.t()), (0, 12, 5));
+    for (wanted, number) in [(4, 0), (1, 22), (0, 20), (1_000_000_001, 20), (u64::MAX, 20)] {
+        assert_eq!(previewed(&mut model, wanted).number, number);
+    }
+    assert_eq!((model.t(), model.outputs()), (7, Some(vec![Some(1), Some(7)])));
+}
+
+#[test]
+fn previews_of_a_detector() {
+    let stream = table(&[part(0, 2, 0, 0), part(6, -7, 0, 0), part(8, 0, 0, 1), wire(0, 1, 0), wire(1, 2, 0)]);
+    let mut model = load(&stream).model;
+    let answers = [8; 4].map(|wanted| previewed(&mut model, wanted));
+    assert_eq!(answers.map(|answer| (answer.step, answer.revisions)), [(2, 2), (1, 3), (1, 3), (0, 0)]);
+    assert_eq!((model.t(), model.n(), model.part(2).unwrap().output), (4, 1, Some(1)));
+}
+
+#[test]
+fn previews_near_the_last_point() {
+    let mut model = load(&table(&[part(0, 1, 0, 0), part(5, 0, 0, 0), wire(0, 1, 0)])).model;
+    let (table, mut state) = words(&model);
+    state[1] = 998;
+    model = Model::from_words(table.clone(), state.clone());
+    assert_eq!([3, 3].map(|wanted| previewed(&mut model, wanted).number), [0, 21]);
+    let last = 1_000_000_000_000_000_000;
+    for at in [0, state_words(0), state_words(1)] {
+        state[at] = last;
+    }
+    assert_eq!(previewed(&mut Model::from_words(table, state), 1).number, 23);
+}
+
+#[test]
+fn previews_into_lent_words() {
+    let (table, state) = spelled();
+    let needed = state.len();
+    // A spare word behind the state and behind the answer, which are kept.
+    let called = |wanted: u64, length: usize, room: usize| {
+        let (mut new, mut out) = (vec![9; length], vec![9; room]);
+        let number = preview_into(&table, &state, wanted, &mut new, &mut out);
+        (number, new, out)
+    };
+    let mut ahead = Model::from_words(table.clone(), state.clone());
+    advance(&mut ahead, 5);
+    assert_eq!(called(5, needed + 1, 6), (0, [ahead.state(), &[9]].concat(), vec![0, 5, 1, 0, 5, 9]));
+    assert_eq!(called(0, needed + 1, 6), (20, [&state[..], &[9]].concat(), vec![20, 0, 0, 0, 0, 9]));
+    assert_eq!(called(5, needed - 1, 5), (25, vec![9; needed - 1], vec![25, 0, 0, 0, 0]));
+    assert_eq!(called(0, needed - 1, 5), (20, vec![9; needed - 1], vec![20, 0, 0, 0, 0]));
+    assert_eq!(called(5, needed, 4), (25, vec![9; needed], vec![9; 4]));
 }
 
 #[test]

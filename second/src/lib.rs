@@ -5,6 +5,7 @@ pub mod advance;
 pub mod load;
 pub mod model;
 mod order;
+pub mod preview;
 pub mod rehearse;
 #[cfg(test)]
 mod tests;
@@ -12,4 +13,5 @@ mod tests;
 pub use advance::{advance, Answer};
 pub use load::{load, Accepted, Loaded, Refusal};
 pub use model::{Kind, Model, Part, Point, Side, Signal};
+pub use preview::preview;
 pub use rehearse::{rehearse, INPUT_LIMIT};

@@ -1,14 +1,14 @@
-//! What the program's output cannot show: refusals 23 and 24, last ceilings, speeds, and the two places where the
+//! What the program's output cannot show: refusals 23 and 24, last ceilings, speeds, previews, and the two places where the
 //! library does not follow the document word by word (a drive's longest step, the test of an order), against ones that do.
 
 #[allow(dead_code)]
 #[path = "bin/differ/random.rs"]
 mod random;
 
-use crate::advance::{local_step, longest_of_drive};
+use crate::advance::{local_step, longest_of_drive, LARGEST_WANTED};
 use crate::model::{LAST_TICK, MOST_PARTS};
 use crate::order::{is_the_order, order};
-use crate::{advance, load, rehearse, Answer, Kind, Model, Part, Point, Side};
+use crate::{advance, load, preview, rehearse, Answer, Kind, Model, Part, Point, Side};
 use random::Random;
 
 fn bytes(hexadecimal: &str) -> Vec<u8> {
@@ -309,6 +309,55 @@ fn a_dropped_trial_leaves_a_clappers_speed() {
     assert_eq!(counts(&answer), (0, 2, 3, 2, 2));
     assert_eq!(clapper(&answer.model), (-6, 2, Some(-6)));
     assert_eq!(clapper(&advance(answer.model, 1).model), (-3, 3, Some(-3)));
+}
+
+/// Fails unless a preview has this number and answers as an advance on a copy does, and the model stays as it was.
+fn previewed(model: &Model, w: u64, number: u8) {
+    let before = model.clone();
+    let answer = preview(model, w);
+    assert_eq!((answer.number, &answer), (number, &advance(before.clone(), w)));
+    assert_eq!(*model, before);
+    assert_eq!(answer.model == before, number != 0);
+}
+
+#[test]
+fn a_preview_answers_as_an_advance_on_a_copy() {
+    let good = everything();
+    previewed(&good, 10, 0);
+    previewed(&good, 0, 20);
+    previewed(&good, LARGEST_WANTED + 1, 20);
+    previewed(&at(good.clone(), LAST_TICK - 9), 10, 23);
+    let mut late = good.clone();
+    (late.point.n, late.parts[8].mark) = (999, Some(Side::Positive));
+    previewed(&late, 10, 21);
+    let drive = fresh(&[&[1, 0], &part(11, 0xFF, 0, 0, 0), &bytes("03 02 00 00 00")]);
+    previewed(&drive, 2, 0);
+    previewed(&drive, 1, 22);
+    for (_, edit) in UNSOUND {
+        let mut model = good.clone();
+        edit(&mut model);
+        for w in [0, 10, u64::MAX] {
+            previewed(&model, w, 24);
+        }
+    }
+}
+
+#[test]
+fn previews_anywhere_alter_no_answer_of_a_list() {
+    let mut random = Random::of_case(4, 0);
+    let (mut alone, mut tried) = (everything(), everything());
+    for _ in 0..500 {
+        let w = random.below(60) as u64;
+        let answer = advance(alone, w);
+        for _ in 0..random.below(3) {
+            preview(&tried, random.below(60) as u64);
+        }
+        assert_eq!(preview(&tried, w), answer);
+        let with = advance(tried, w);
+        assert_eq!(with, answer);
+        (alone, tried) = (answer.model, with.model);
+    }
+    assert!(alone.point.t > 500);
 }
 
 #[test]

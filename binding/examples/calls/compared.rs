@@ -1,7 +1,9 @@
-//! One load and one advance by both, compared: as it is, through the binding, and with too few words.
+//! One load and one advance by both, compared: as it is, through the binding, and with too few words. Each advance is previewed
+//! as well.
 
 use crate::alter::any;
-use crate::lent::{self, fewer, same_records, spare, state_words, table_words, TOO_SHORT};
+use crate::lent::{self, fewer, same_records, spare, state_words, table_words, Call, ADVANCE, TOO_SHORT};
+use crate::previewed::preview;
 use crate::random::Random;
 use crate::seen::Seen;
 use crate::words::*;
@@ -11,10 +13,27 @@ use second::Model;
 pub const NOT_SOUND: u64 = 24;
 
 /// An answer's number, step, rounds, revisions and last ceiling, and the words of its model.
-struct Expected {
-    counts: [u64; 5],
-    model: Words,
+pub struct Expected {
+    pub counts: [u64; 5],
+    pub model: Words,
     by_rule: bool,
+}
+
+impl Expected {
+    /// How many words a state of the model needs, of no more parts than there is room for.
+    pub fn needed(&self) -> usize {
+        state_words(self.model.0[COUNT].min(PARTS as u64) as usize)
+    }
+
+    /// The words of a model afterwards, whose table and state were these: the state of the new point where a step was
+    /// committed, with the old words behind it, and all as before where none was.
+    pub fn after(&self, table: &[u64], old: &[u64]) -> Words {
+        if self.counts[0] != 0 {
+            return Words::of_lent(table, old);
+        }
+        let needed = self.needed();
+        Words::of_lent(table, &[&self.model.state()[..needed], &old[needed..]].concat())
+    }
 }
 
 fn expected(given: &Words, w: u64) -> Result<Expected, String> {
@@ -144,26 +163,27 @@ fn lend(given: &Words, random: &mut Random, seen: &mut Seen) -> (Vec<u64>, Vec<u
     (table, state)
 }
 
-/// Advances a model with both. The number, and the model afterwards.
+/// Advances a model with both, and previews it. The number, and the model afterwards.
 pub fn advance(given: &Words, w: u64, random: &mut Random, seen: &mut Seen) -> Result<(u64, Words), String> {
     let want = expected(given, w)?;
     let fill = any(random);
     seen.advances += 1;
     let (table, old) = lend(given, random, seen);
-    let count = given.0[COUNT].min(PARTS as u64) as usize;
-    let got = lent::advance(&table, &old, w, [state_words(count) + spare(random), 5 + spare(random)], fill);
+    preview(&table, &old, w, &want, random, seen).map_err(|what| format!("preview: {what}"))?;
+    let needed = want.needed();
+    let got = ADVANCE.made(&table, &old, w, [needed + spare(random), 5 + spare(random)], fill);
     got.says(&want.counts, fill)?;
     let mut after = given.clone();
     if want.counts[2] == 0 {
-        if !got.kept(fill) {
+        if !got.kept_from(0, fill) {
             return Err("a call that is barred writes a state".to_string());
         }
     } else {
-        if got.new[state_words(count)..].iter().any(|&word| word != fill) {
+        if !got.kept_from(needed, fill) {
             return Err("advance writes behind the state".to_string());
         }
         let mut state = given.state();
-        state[..state_words(count)].copy_from_slice(&got.new[..state_words(count)]);
+        state[..needed].copy_from_slice(&got.new[..needed]);
         after = Words::of_lent(&given.table(), &state);
         same_words(&after.plain(), &want.model.plain())?;
     }
@@ -171,68 +191,68 @@ pub fn advance(given: &Words, w: u64, random: &mut Random, seen: &mut Seen) -> R
         advance_bound(&table, &old, w, &want)?;
         seen.count("advance through the binding");
     }
-    advance_short(&table, &old, w, &want, fill, random, seen)?;
+    short(&ADVANCE, &table, &old, w, &want, random, seen)?;
     seen.answer(given, w, &want.counts, &want.model, want.by_rule);
     Ok((want.counts[0], if want.counts[0] == 0 { after } else { given.clone() }))
 }
 
 /// The same advance through the binding.
 fn advance_bound(table: &[u64], old: &[u64], w: u64, want: &Expected) -> Result<(), String> {
-    let mut meant = Words::of_lent(table, old);
     let mut model = dozhumek::Model::from_words(table.to_vec(), old.to_vec());
-    same_records(&model, &meant)?;
-    let bound = dozhumek::advance(&mut model, w);
-    let its = [bound.number, bound.step, bound.rounds, bound.revisions, bound.ceiling];
+    same_records(&model, &Words::of_lent(table, old))?;
+    let answer = dozhumek::advance(&mut model, w);
     let after = Words::of_lent(model.table(), model.state());
-    if its[0] == 0 {
-        let needed = state_words(want.model.count());
-        meant = Words::of_lent(table, &[&want.model.state()[..needed], &old[needed..]].concat());
-    }
-    if its != want.counts || model.table() != table || after.plain() != meant.plain() {
+    if counts(&answer) != want.counts || model.table() != table || after.plain() != want.after(table, old).plain() {
         return Err("the binding's advance answers something else".to_string());
     }
     same_records(&model, &after)
 }
 
-/// The same advance with too few words.
-fn advance_short(
+/// The numbers of the binding's answer.
+pub fn counts(answer: &dozhumek::Answer) -> [u64; 5] {
+    [answer.number, answer.step, answer.rounds, answer.revisions, answer.ceiling]
+}
+
+/// The same call with too few words. Whether they were too few for its state alone, and the number was 25.
+pub fn short(
+    call: &Call,
     table: &[u64],
     old: &[u64],
     w: u64,
     want: &Expected,
-    fill: u64,
     random: &mut Random,
     seen: &mut Seen,
-) -> Result<(), String> {
-    let count = want.model.0[COUNT].min(PARTS as u64) as usize;
-    let needed = state_words(count);
+) -> Result<bool, String> {
+    let (fill, needed) = (any(random), want.needed());
+    let of_table = table_words(want.model.0[COUNT].min(PARTS as u64) as usize);
     if random.once_in(16) {
         let (cut_table, cut_old) = match random.below(3) {
-            0 => (fewer(table_words(count), random), old.len()),
+            0 => (fewer(of_table, random), old.len()),
             1 => (table.len(), fewer(needed, random)),
-            _ => (fewer(table_words(count), random), fewer(needed, random)),
+            _ => (fewer(of_table, random), fewer(needed, random)),
         };
-        let got = lent::advance(&table[..cut_table], &old[..cut_old], w, [needed, 5], fill);
+        let got = call.made(&table[..cut_table], &old[..cut_old], w, [needed, 5], fill);
         got.bars(NOT_SOUND, fill)?;
-        seen.count("advance of too few words");
-    }
-    if random.once_in(16) {
-        let got = lent::advance(table, old, w, [fewer(needed, random), 5], fill);
-        let barred = want.counts[2] == 0;
-        got.bars(if barred { want.counts[0] } else { TOO_SHORT }, fill)?;
-        seen.count(if barred { "barred advance into too few words" } else { "advance into too few words" });
+        seen.count(call.of_too_few);
     }
     if random.once_in(64) {
-        let got = lent::advance(table, old, w, [needed, random.below(5)], fill);
-        if got.code != TOO_SHORT || got.out.iter().any(|&word| word != fill) || !got.kept(fill) {
-            return Err(format!("advance with room for {} words of its answer answers {}", got.out.len(), got.code));
+        let got = call.made(table, old, w, [needed, random.below(5)], fill);
+        if got.code != TOO_SHORT || got.out.iter().any(|&word| word != fill) || !got.kept_from(0, fill) {
+            return Err(format!("room for {} words of the answer is answered {}", got.out.len(), got.code));
         }
-        seen.count("advance with too little room");
+        seen.count(call.with_too_little_room);
     }
-    Ok(())
+    if !random.once_in(16) {
+        return Ok(false);
+    }
+    let got = call.made(table, old, w, [fewer(needed, random), 5], fill);
+    let barred = want.counts[2] == 0;
+    got.bars(if barred { want.counts[0] } else { TOO_SHORT }, fill)?;
+    seen.count(if barred { call.barred_into_too_few } else { call.into_too_few });
+    Ok(!barred)
 }
 
-fn same_words(got: &Words, want: &Words) -> Result<(), String> {
+pub fn same_words(got: &Words, want: &Words) -> Result<(), String> {
     match (0..WORDS).find(|&at| got.0[at] != want.0[at]) {
         None => Ok(()),
         Some(at) => Err(format!("word {at} of the model is {} instead of {}", got.0[at], want.0[at])),

@@ -37,24 +37,54 @@ impl Load {
     }
 }
 
-/// What an advance leaves: its number, and the words of the new state and of the answer.
-pub struct Advance {
+/// An exported call on a table, an old state and a wanted step, into a new state and an answer.
+type Exported = fn(&[u64], &[u64], u64, &mut [u64], &mut [u64]) -> u64;
+
+/// Such a call, with the names of its tries on too few words.
+pub struct Call {
+    into: Exported,
+    pub of_too_few: &'static str,
+    pub into_too_few: &'static str,
+    pub barred_into_too_few: &'static str,
+    pub with_too_little_room: &'static str,
+}
+
+pub const ADVANCE: Call = Call {
+    into: dozhumek::advance_into,
+    of_too_few: "advance of too few words",
+    into_too_few: "advance into too few words",
+    barred_into_too_few: "barred advance into too few words",
+    with_too_little_room: "advance with too little room",
+};
+
+pub const PREVIEW: Call = Call {
+    into: dozhumek::preview_into,
+    of_too_few: "preview of too few words",
+    into_too_few: "preview into too few words",
+    barred_into_too_few: "barred preview into too few words",
+    with_too_little_room: "preview with too little room",
+};
+
+/// What such a call leaves: its number, and the words of the new state and of the answer.
+pub struct Left {
     pub code: u64,
     pub new: Vec<u64>,
     pub out: Vec<u64>,
 }
 
-/// Advances the model of these words into so many of each, all `fill` before.
-pub fn advance(table: &[u64], old: &[u64], wanted: u64, [new, out]: [usize; 2], fill: u64) -> Advance {
-    let [mut new, mut out] = [new, out].map(|length| vec![fill; length]);
-    let code = dozhumek::advance_into(table, old, wanted, &mut new, &mut out);
-    Advance { code, new, out }
+impl Call {
+    /// The call on the model of these words, into so many of each, all `fill` before.
+    pub fn made(&self, table: &[u64], old: &[u64], wanted: u64, [new, out]: [usize; 2], fill: u64) -> Left {
+        let [mut new, mut out] = [new, out].map(|length| vec![fill; length]);
+        let code = (self.into)(table, old, wanted, &mut new, &mut out);
+        Left { code, new, out }
+    }
 }
 
-impl Advance {
-    /// Whether the words of the new state are all `fill` still.
-    pub fn kept(&self, fill: u64) -> bool {
-        self.new.iter().all(|&word| word == fill)
+impl Left {
+    /// Whether the words of the new state from a place on are all `fill` still.
+    pub fn kept_from(&self, from: usize, fill: u64) -> bool {
+        self.new[from..].iter().all(|&word| word == fill)
     }
 
     /// Fails unless the answer is these numbers, with `fill` behind them.
@@ -67,7 +97,7 @@ impl Advance {
             ));
         }
         if behind.iter().any(|&word| word != fill) {
-            return Err("advance writes behind its answer".to_string());
+            return Err("a call writes behind its answer".to_string());
         }
         Ok(())
     }
@@ -75,7 +105,7 @@ impl Advance {
     /// Fails unless the call is barred by a number: counts of 0, and no word of the new state written.
     pub fn bars(&self, number: u64, fill: u64) -> Result<(), String> {
         self.says(&[number, 0, 0, 0, 0], fill)?;
-        if !self.kept(fill) {
+        if !self.kept_from(0, fill) {
             return Err("a call that is barred writes a state".to_string());
         }
         Ok(())

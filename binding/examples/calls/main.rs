@@ -1,4 +1,4 @@
-//! Compares the calls `load` and `advance` of the static library with the second implementation, on models that no
+//! Compares the calls `load`, `advance` and `preview` of the static library with the second implementation, on models that no
 //! stream leads to as well: at the last tick and microstep, with any wanted step, and unsound in every way.
 //!
 //!     calls [--calls N] [--seed S] [--only CASE] [--trace 1]
@@ -6,7 +6,9 @@
 //! The streams that `differ` sweeps are loaded with both. Then each case loads a generated stream, plays some steps, alters
 //! the model and plays on. Every answer is compared word for word: the places in use with the second implementation's
 //! model, what lies behind them, which is noise, with what was lent. Where words spell no model, or one that cannot be said in
-//! the second implementation's types, it is unsound, so the answer is by rule: 24, counts 0, and nothing written. What differs is
+//! the second implementation's types, it is unsound, so the answer is by rule: 24, counts 0, and nothing written. Each advance is
+//! previewed on the same words before it is made: the answer has to be the advance's, and the new state that of the answer's
+//! model, which is the old one where the call is refused; only words that spell no model leave none. What differs is
 //! printed with its seed, case and words; --only repeats one case, --trace tells each case's number before it is tried.
 //! The status is 0 only if nothing differs and all sorts were reached.
 
@@ -25,6 +27,7 @@ mod lent;
 mod malformed;
 #[path = "../../../second/src/bin/differ/options.rs"]
 mod options;
+mod previewed;
 #[allow(dead_code)]
 #[path = "../../../second/src/bin/differ/random.rs"]
 mod random;

@@ -13,6 +13,7 @@ pub struct Seen {
     /// By number.
     pub load_numbers: [u64; 32],
     numbers: [u64; 32],
+    preview_numbers: [u64; 32],
     /// Answers of 24 for models that the second implementation's types cannot say.
     by_rule: u64,
     /// By name: altered models that are sound, and that are not.
@@ -39,7 +40,7 @@ const WANTED: [(&str, fn(u64) -> bool); 10] = [
 ];
 
 /// What else has to be tried.
-const OTHERS: [&str; 25] = [
+const OTHERS: [&str; 30] = [
     "load through the binding",
     "load into too few words",
     "refused load into too few words",
@@ -49,6 +50,11 @@ const OTHERS: [&str; 25] = [
     "advance into too few words",
     "barred advance into too few words",
     "advance with too little room",
+    "preview through the binding",
+    "preview of too few words",
+    "preview into too few words",
+    "barred preview into too few words",
+    "preview with too little room",
     "words behind all places",
     "no word behind the model",
     "a word behind an absent signal",
@@ -74,6 +80,11 @@ impl Seen {
 
     pub fn sort(&mut self, name: &'static str, sound: bool) {
         self.sorts.entry(name).or_default()[usize::from(!sound)] += 1;
+    }
+
+    /// Counts a preview that agreed, by its number.
+    pub fn preview(&mut self, number: u64) {
+        self.preview_numbers[number as usize] += 1;
     }
 
     /// Counts the kinds of a model that was loaded and played.
@@ -152,6 +163,9 @@ impl Seen {
         for number in [0, 20, 21, 22, 23, 24] {
             must(self.numbers[number] > 0, format!("number {number} of an advance"));
         }
+        for number in [0, 20, 21, 22, 23, 24, 25] {
+            must(self.preview_numbers[number] > 0, format!("number {number} of a preview"));
+        }
         must(self.by_rule > 0, "models that the second implementation cannot say".to_string());
         for (name, then, _) in SORTS.iter().chain(MALFORMED) {
             let [sound, unsound] = self.sorts.get(name).copied().unwrap_or_default();
@@ -186,13 +200,15 @@ impl Seen {
             .collect();
         let others: Vec<String> = self.others.iter().map(|(name, count)| format!("{name} {count}")).collect();
         format!(
-            "{} loads{}; {} advances{}, {} of 24 by rule; at most {} rounds and {} revisions; altered (sound+unsound where \
-             both can be): {}; {}; kinds{}",
+            "{} loads{}; {} advances{}, {} of 24 by rule; {} previews{}; at most {} rounds and {} revisions; altered \
+             (sound+unsound where both can be): {}; {}; kinds{}",
             self.loads,
             numbers(&self.load_numbers),
             self.advances,
             numbers(&self.numbers),
             self.by_rule,
+            self.preview_numbers.iter().sum::<u64>(),
+            numbers(&self.preview_numbers),
             self.most_rounds,
             self.most_revisions,
             sorts.join(", "),

@@ -16,31 +16,73 @@ pub struct Answer {
     pub model: Words,
 }
 
+/// What previewing answers: the answer of an advance, and beside it the given model.
+pub struct Preview {
+    pub answer: Answer,
+    pub model: Words,
+}
+
 /// The calls that a script can make.
 pub trait Calls {
     fn load(stream: &[u8]) -> Loaded;
     fn advance(model: &Words, wanted: u64) -> Answer;
+    fn preview(model: &Words, wanted: u64) -> Preview;
 }
 
 /// The proved calls of the static library.
 pub struct Verified;
 
+/// The words of the binding's model.
+fn words_of(model: &dozhumek::Model) -> Words {
+    Words::of_lent(model.table(), model.state())
+}
+
+/// The binding's model in these words.
+fn model_in(words: &Words) -> dozhumek::Model {
+    dozhumek::Model::from_words(words.table(), words.state())
+}
+
+/// The binding's answer with its model.
+fn answer_of(answer: dozhumek::Answer, model: &dozhumek::Model) -> Answer {
+    let counts = [answer.number, answer.step, answer.rounds, answer.revisions, answer.ceiling];
+    Answer { counts, model: words_of(model) }
+}
+
 impl Calls for Verified {
     fn load(stream: &[u8]) -> Loaded {
         let dozhumek::Loaded { number, position, model } = dozhumek::load(stream);
-        Loaded { number, position, model: Words::of_lent(model.table(), model.state()) }
+        Loaded { number, position, model: words_of(&model) }
     }
 
     fn advance(model: &Words, wanted: u64) -> Answer {
-        let mut model = dozhumek::Model::from_words(model.table(), model.state());
-        let answer = dozhumek::advance(&mut model, wanted);
-        let counts = [answer.number, answer.step, answer.rounds, answer.revisions, answer.ceiling];
-        Answer { counts, model: Words::of_lent(model.table(), model.state()) }
+        let mut model = model_in(model);
+        answer_of(dozhumek::advance(&mut model, wanted), &model)
+    }
+
+    fn preview(model: &Words, wanted: u64) -> Preview {
+        let model = model_in(model);
+        let preview = model.preview(wanted);
+        Preview { answer: answer_of(preview.answer, &preview.model), model: words_of(&model) }
     }
 }
 
 /// The calls of the second implementation.
 pub struct Second;
+
+/// What a call of the second implementation answers for the model that these words mean.
+fn answered(words: &Words, call: impl FnOnce(second::Model) -> second::Answer) -> Answer {
+    let mut words = words.clone();
+    let Some(meant) = words.model() else {
+        // The words spell no model, or its types cannot say it, and then it is not sound.
+        return Answer { counts: [24, 0, 0, 0, 0], model: words };
+    };
+    let answer = call(meant);
+    words.put(&answer.model);
+    Answer {
+        counts: [answer.number.into(), answer.step, answer.rounds.into(), answer.revisions.into(), answer.ceiling],
+        model: words,
+    }
+}
 
 impl Calls for Second {
     fn load(stream: &[u8]) -> Loaded {
@@ -56,16 +98,16 @@ impl Calls for Second {
     }
 
     fn advance(model: &Words, wanted: u64) -> Answer {
-        let mut words = model.clone();
-        let Some(meant) = words.model() else {
-            // The words spell no model, or its types cannot say it, and then it is not sound.
-            return Answer { counts: [24, 0, 0, 0, 0], model: words };
-        };
-        let answer = second::advance(meant, wanted);
-        words.put(&answer.model);
-        Answer {
-            counts: [answer.number.into(), answer.step, answer.rounds.into(), answer.revisions.into(), answer.ceiling],
-            model: words,
-        }
+        answered(model, |meant| second::advance(meant, wanted))
+    }
+
+    fn preview(model: &Words, wanted: u64) -> Preview {
+        let mut given = model.clone();
+        let answer = answered(model, |meant| {
+            let answer = second::preview(&meant, wanted);
+            given.put(&meant);
+            answer
+        });
+        Preview { answer, model: given }
     }
 }

@@ -1,7 +1,7 @@
 //! The lines of a script: their words, the registers that they name, and the answers as they are printed.
 
 use crate::alterations::{alter, number};
-use crate::implementations::{Answer, Calls};
+use crate::implementations::{Answer, Calls, Preview};
 use crate::words::{Words, COUNT, N, OUTPUT, PARTS, T};
 use std::collections::BTreeMap;
 use std::fmt::Write;
@@ -47,6 +47,12 @@ impl<C: Calls> Registers<C> {
                 let said = format!("advance {}", said(&answer));
                 self.models.insert(name, answer.model);
                 Some(said)
+            }
+            ["preview", name, wanted] => {
+                let (name, wanted) = (register(name)?, number(wanted)?);
+                let Preview { answer, model } = C::preview(&self.model(&name), wanted);
+                self.models.insert(name, model);
+                Some(format!("preview {}", said(&answer)))
             }
             ["alter", name, ref field @ .., value] => {
                 let name = register(name)?;

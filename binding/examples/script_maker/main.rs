@@ -3,9 +3,10 @@
 //!     script_maker [--cases N] [--seed S]
 //!
 //! Each case loads a stream of `second/src/bin/differ` into one of a few registers, plays some steps, and then alters the
-//! model in the ways of `examples/calls`, plays on, and mostly takes the alteration back. The second implementation tells what
-//! the registers hold meanwhile. The bytes of unused places are free, so none comes into use that was not written by a line
-//! before. The status is 1, and what is missing is said, where a number, a field or a sort was not reached.
+//! model in the ways of `examples/calls`, plays on, and mostly takes the alteration back. Before some advances the model is
+//! previewed, by the same wanted step or by others. The second implementation tells what the registers hold meanwhile. The
+//! bytes of unused places are free, so none comes into use that was not written by a line before. The status is 1, and what is
+//! missing is said, where a number, a field or a sort was not reached.
 
 #[allow(dead_code)]
 #[path = "../calls/alter.rs"]
@@ -53,7 +54,7 @@ use words::Words;
 
 const NAMES: [&str; 4] = ["m0", "m1", "drum", "7"];
 
-/// The numbers of a load and of an advance.
+/// The numbers of a load, and those of an advance, which a preview has too.
 const LOADS: [u64; 12] = [0, 1, 2, 3, 5, 6, 7, 8, 9, 10, 11, 12];
 const ADVANCES: [u64; 6] = [0, 20, 21, 22, 23, 24];
 
@@ -66,7 +67,7 @@ struct Made {
 }
 
 impl Made {
-    /// Puts a line behind the others. The number that it is answered, of a load or an advance.
+    /// Puts a line behind the others. The number that it is answered, of a load, an advance or a preview.
     fn line(&mut self, line: &str) -> Option<u64> {
         self.script.push_str(line);
         self.script.push('\n');
@@ -82,11 +83,20 @@ impl Made {
         self.registers.model(name)
     }
 
-    /// Advances a model by some step, up to `most` times. The last number.
+    /// Previews a model some times or never: by the step that its next advance wants, or by another.
+    fn preview(&mut self, name: &str, next: u64, random: &mut Random) {
+        while random.once_in(3) {
+            let w = if random.once_in(2) { next } else { wanted(&self.words(name), random) };
+            self.line(&format!("preview {name} {w}"));
+        }
+    }
+
+    /// Advances a model by some step, up to `most` times, with previews before. The last number of an advance.
     fn play(&mut self, name: &str, most: usize, random: &mut Random) -> Option<u64> {
         let mut number = None;
         for _ in 0..1 + random.below(most) {
             let w = wanted(&self.words(name), random);
+            self.preview(name, w, random);
             number = self.line(&format!("advance {name} {w}"));
         }
         number
@@ -145,7 +155,8 @@ impl Made {
     /// What was not reached and should have been.
     fn missing(&self) -> Vec<String> {
         let loads = LOADS.iter().map(|number| format!("load {number}"));
-        let advances = ADVANCES.iter().map(|number| format!("advance {number}"));
+        let of_both = |number| ["advance", "preview"].map(|call| format!("{call} {number}"));
+        let advances = ADVANCES.iter().flat_map(of_both);
         let named = fields::NAMES.iter().map(|field| format!("field {field}"));
         let sorts = SORTS.iter().filter(|sort| sort.0 != "as it was").map(|sort| format!("sort {}", sort.0));
         loads.chain(advances).chain(named).chain(sorts).filter(|what| !self.reached.contains(what)).collect()

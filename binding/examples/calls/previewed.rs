@@ -1,0 +1,66 @@
+//! One preview beside an advance of the same words, compared: as it is, through the binding, and with too few words.
+
+use crate::alter::any;
+use crate::compared::{counts, same_words, short, Expected};
+use crate::lent::{same_records, spare, Left, PREVIEW, TOO_SHORT};
+use crate::random::Random;
+use crate::seen::Seen;
+use crate::words::*;
+
+/// Previews the model of these words, of which an advance is expected to answer `want`.
+pub fn preview(
+    table: &[u64],
+    old: &[u64],
+    w: u64,
+    want: &Expected,
+    random: &mut Random,
+    seen: &mut Seen,
+) -> Result<(), String> {
+    let fill = any(random);
+    let got = PREVIEW.made(table, old, w, [want.needed() + spare(random), 5 + spare(random)], fill);
+    got.says(&want.counts, fill)?;
+    leaves_state(&got, table, old, want, fill)?;
+    seen.preview(want.counts[0]);
+    if random.once_in(8) {
+        preview_bound(table, old, w, want)?;
+        seen.count("preview through the binding");
+    }
+    if short(&PREVIEW, table, old, w, want, random, seen)? {
+        seen.preview(TOO_SHORT);
+    }
+    Ok(())
+}
+
+/// Fails unless the new state's words are those of the answer's model, the old ones themselves where the call is refused, with
+/// `fill` behind them. Where the words spell no model none is written.
+fn leaves_state(got: &Left, table: &[u64], old: &[u64], want: &Expected, fill: u64) -> Result<(), String> {
+    let written = if want.model.spelled() { want.needed() } else { 0 };
+    if !got.kept_from(written, fill) {
+        return Err("a word is written that is none of the state".to_string());
+    }
+    let state = &got.new[..written];
+    if want.counts[0] == 0 {
+        let after = Words::of_lent(table, state);
+        return same_words(&after.plain(), &want.after(table, &old[..written]).plain());
+    }
+    match state.iter().zip(old).position(|(word, own)| word != own) {
+        None => Ok(()),
+        Some(at) => Err(format!("word {at} of the state is {} instead of {}", state[at], old[at])),
+    }
+}
+
+/// The same preview through the binding.
+fn preview_bound(table: &[u64], old: &[u64], w: u64, want: &Expected) -> Result<(), String> {
+    let model = dozhumek::Model::from_words(table.to_vec(), old.to_vec());
+    let preview = model.preview(w);
+    if model.table() != table || model.state() != old {
+        return Err("the binding's preview changes its model".to_string());
+    }
+    let after = Words::of_lent(preview.model.table(), preview.model.state());
+    let kept = want.counts[0] == 0 || preview.model.state() == old;
+    let same = preview.model.table() == table && after.plain() == want.after(table, old).plain();
+    if counts(&preview.answer) != want.counts || !kept || !same {
+        return Err("the binding's preview answers something else".to_string());
+    }
+    same_records(&preview.model, &after)
+}
