@@ -46,10 +46,9 @@ pub fn preview_into(table: &[u64], old: &[u64], w: u64, new: &mut [u64]) -> Verd
     if verdict.rounds != 0 {
         return verdict;
     }
-    if !can_show(table, old, new.len()) {
-        return verdict;
+    if can_show(table, old, new.len()) {
+        let count = parts_of(table);
+        copy_state(old, count, new);
     }
-    let count = parts_of(table);
-    copy_state(old, count, new);
     verdict
 }

@@ -6,7 +6,6 @@ use mathlib.Core.Bool.{true}
 use mathlib.Core.List.{List}
 use lib.ListN.{length}
 use borrow.Author.Needs.{needs}
-use borrow.Author.Tests.{not-true, not-false}
 use Rattle.store.specs.Held.{state-words-of}
 use Rattle.store.specs.Updated.{Copied}
 use Rattle.store.specs.Spelling.{spelled-room}
@@ -25,7 +24,7 @@ left-of advances = advances .advance-into .last .1 .1 .1 .0
 abbrev asked-of : tie.Else1 → tie.After-advance-into
 asked-of test = test .before .before .before .before
 
-abbrev shown-of : tie.Else2 → tie.After-advance-into
+abbrev shown-of : tie.Then2 → tie.After-advance-into
 shown-of test = asked-of (test .before .before)
 
 advance-into-requires : tie.Need-advance-into-requires
@@ -44,22 +43,11 @@ returns c =
 can-show-requires : tie.Need-can-show-requires
 can-show-requires c κs = search needs
 
-same-length-2 : tie.Need-same-length-2
-same-length-2 c = search needs
-
-returns-2 : tie.Need-returns-2
-returns-2 c =
-    let asks = c .before in
-    let advances = asked-of (asks .before) in
-    let s = start-of advances in
-    unshown-preview (s .args .table .now) (s .args .old .now) (s .args .w) (s .args .new .now) (left-of advances) (advances .advance-into .result)
-    (advances .advance-into .ensures) (omega (arith, asks .before .if1 .left)) (sym (asks .can-show .ensures) ∙ not-true (asks .can-show .result) (c .if2 .taken))
-
 -- a state can be shown in the words that the advance left
-can : (c : tie.Else2) →
+can : (c : tie.Then2) →
     let s = start-of (shown-of c) in
     shows (s .args .table .now) (s .args .old .now) (length (left-of (shown-of c))) ≡ true
-can c = sym (c .before .can-show .ensures) ∙ not-false (c .before .can-show .result) (c .if2 .left)
+can c = sym (c .before .can-show .ensures) ∙ c .if2 .taken
 
 parts-of-requires : tie.Need-parts-of-requires
 parts-of-requires c κs =
@@ -77,11 +65,11 @@ copy-state-requires c κs =
     let there = spelled-room ts os (shown-spelled ts os _ (can test)) .state in
     (omega (arith, there, counts .parts-of .ensures), omega (arith, room, counts .parts-of .ensures))
 
-same-length-3 : tie.Need-same-length-3
-same-length-3 c = search needs
+same-length-2 : tie.Need-same-length-2
+same-length-2 c = search needs
 
-returns-3 : tie.Need-returns-3
-returns-3 c =
+returns-2 : tie.Need-returns-2
+returns-2 c =
     let copies = c .before .before in
     let counts = copies .before .before in
     let test = counts .before in
@@ -92,6 +80,17 @@ returns-3 c =
     (advances .advance-into .ensures) shown (omega (arith, test .before .before .if1 .left)) (can test)
     (subst (λ (n : ℕ). Copied (state-words-of n) (s .args .old .now) (left-of advances) shown) (counts .parts-of .ensures) (copies .copy-state .ensures))
 
+same-length-3 : tie.Need-same-length-3
+same-length-3 c = search needs
+
+returns-3 : tie.Need-returns-3
+returns-3 c =
+    let asks = c .before in
+    let advances = asked-of (asks .before) in
+    let s = start-of advances in
+    unshown-preview (s .args .table .now) (s .args .old .now) (s .args .w) (s .args .new .now) (left-of advances) (advances .advance-into .result)
+    (advances .advance-into .ensures) (omega (arith, asks .before .if1 .left)) (sym (asks .can-show .ensures) ∙ c .if2 .left)
+
 pub preview-into-spec : {M : Type 1} → statement M
 preview-into-spec =
     tie.close
@@ -100,9 +99,9 @@ preview-into-spec =
     same-length
     returns
     can-show-requires
-    same-length-2
-    returns-2
     parts-of-requires
     copy-state-requires
+    same-length-2
+    returns-2
     same-length-3
     returns-3)
