@@ -1,4 +1,5 @@
--- The machine's own calls, two of the example that is revised, form a chain: what `Chain` asks can be met. Assumes nothing.
+-- The machine's own calls, two of the example that is revised, form a chain, and so do a preview and an advance of it: what `Chain` and `MixedChain` ask can be
+-- met. Assumes nothing.
 use Prim.Native.Nat.{ℕ, zero, suc, _<_}
 use mathlib.Core.Path.{_≡_, refl}
 use mathlib.Core.List.{[], _∷_}
@@ -7,6 +8,7 @@ use Rattle.machine.specs.declared.model.Model.{Model}
 use Rattle.machine.specs.Model.{spare-spans}
 use Rattle.machine.specs.Advance.{advance}
 use Rattle.machine.specs.Calls.{Advanced, Chain, machine-calls}
+use Rattle.machine.specs.Previews.{Advancing, Previewing, MixedChain}
 use Rattle.machine.specs.Played.{crossing}
 use Rattle.machine.proofs.Computing.{computing}
 
@@ -53,3 +55,9 @@ second-call =
 pub chained : Chain crossing (machine-calls crossing (8 ∷ 8 ∷ []))
 unfolding computing
 chained = (refl, first-call, (refl, second-call, tt))
+
+-- so do a preview and then the first call, which is given the model that the preview was given
+pub previewed-chain : MixedChain crossing
+    (Previewing (record { given = crossing; wanted = 8; returned = record { given = crossing; answer = advance crossing 8 } }) ∷
+    Advancing (record { given = crossing; wanted = 8; answer = advance crossing 8 }) ∷ [])
+previewed-chain = (refl, record { unchanged = refl; answer = first-call }, (refl, first-call, tt))

@@ -3,8 +3,8 @@
 -- specs/PreviewLists.antt) speak of every list of calls by value. `preview_into` promises `PreviewedInto`; here a list on words asks that of each preview, and
 -- gives the next call the state that the preview was given, which is kept, since nothing can write it. Assumes nothing.
 use Prim.Native.Nat.{ℕ, _≤_}
-use mathlib.Core.Path.{_≡_, ap, sym, subst, _∙_}
-use mathlib.Core.Bool.{true, _&&_}
+use mathlib.Core.Path.{_≡_, ap, subst, _∙_}
+use mathlib.Core.Bool.{true}
 use mathlib.Core.List.{List, [], _∷_}
 use lib.Dec.{eqb, leb}
 use lib.ListN.{length}

@@ -17,7 +17,7 @@ use Rattle.laws.specs.Bools.{and-false-cases, and-left, and-right, either}
 use Rattle.store.specs.Held.{parts-lent, state-words-of}
 use Rattle.store.specs.Form.{spelled}
 use Rattle.store.specs.Updated.{SameBehind, Copied}
-use Rattle.store.specs.StoreFrame.{held-copied, copied-spelled, behind-copied, behind-none}
+use Rattle.store.specs.StoreFrame.{held-copied, copied-spelled, behind-copied}
 use Rattle.store.specs.Respelled.{respelled, states-spelled}
 use Rattle.master.specs.declared.verdict.Verdict.{Verdict}
 use Rattle.master.specs.Searching.{answer-of}
@@ -25,7 +25,7 @@ use Rattle.master.specs.Into.{verdict-of, lent-model, outcome-into, CalledInto}
 use Rattle.master.specs.IntoLaws.{with-barred, with-short, into-machine}
 use Rattle.master.specs.ByValue.{answered, refused-model}
 
--- the words of a table and of an old state spell a model, and a state of it fits into so many words
+-- whether the words of a table and of an old state spell a model, and a state of it fits into so many words: only then is there an answer's state to show
 unfoldable pub shows : List ℕ → List ℕ → ℕ → Bool
 shows ts os room = spelled ts os && leb (state-words-of (parts-lent ts)) room
 
@@ -45,7 +45,7 @@ pub record PreviewedInto (ts os : List ℕ) (w : ℕ) (a b : List ℕ) (r : Verd
   -- the words behind the model's are kept
   pub behind : SameBehind (parts-lent ts) a b
 
--- its two facts
+-- the two facts that it is made of
 pub shown-spelled : (ts os : List ℕ) (room : ℕ) → shows ts os room ≡ true → spelled ts os ≡ true
 unfolding shows
 shown-spelled ts os room can = and-left (spelled ts os) (leb (state-words-of (parts-lent ts)) room) can
