@@ -66,6 +66,13 @@ unshown-rounds ts os w room (inr short) (inl spells) (yes free) =
 unshown-rounds ts os w room (inr short) (inl spells) (no other) =
     rw spells (ap (λ (o : Outcome). o .rounds) (with-barred ts os w room (barred (lent-model ts os) w) refl other))
 
+-- a call whose words spell no model ends with 24
+unspelled-number : (ts os : List ℕ) (w room : ℕ) → (outcome-into ts os w room .number ≡ 24 → ⊥) →
+    (spelled ts os ≡ true) ⊎ (spelled ts os ≡ false) → spelled ts os ≡ true
+unfolding outcome-into
+unspelled-number ts os w room other (inl spells) = spells
+unspelled-number ts os w room other (inr none) = absurd (other (rw none refl))
+
 -- an advance on words that ended with r and left b, which were a
 module _
     (ts os : List ℕ)
@@ -85,6 +92,11 @@ module _
       told ts c r ≡ advance (lent-model ts os) w
   unfolding advance
   tells c can same = answered (lent-model ts os) (lent-model ts c) o r same (called .ends) ∙ ap (answer-with (lent-model ts os)) (machine-ends can)
+
+  -- where it ended with another number than 24, the words spell a model
+  pub found-spelled : (r .number ≡ 24 → ⊥) → spelled ts os ≡ true
+  found-spelled other =
+      unspelled-number ts os w (length a) (λ e. other (ap (λ (v : Verdict). v .number) (called .ends) ∙ e)) (either (spelled ts os))
 
   -- a call that was searched is a preview as it is
   pub searched-preview : (r .rounds ≡ 0 → ⊥) → PreviewedInto ts os w a b r

@@ -11,7 +11,9 @@ use store::lookup::parts_of;
 use store::lookup::state_size;
 use store::update::copy_state;
 ghost use mathlib.Core.Path.{_≡_};
+ghost use mathlib.Core.Bool.{true};
 ghost use Rattle.machine.specs.Previews.{Previewed};
+ghost use Rattle.store.specs.Form.{spelled};
 ghost use Rattle.preview.specs.PreviewedInto.{PreviewedInto, shows};
 
 // What an advance of a model by at most `w` would answer, whatever they are, beside the model handed in: the very struct.
@@ -25,12 +27,16 @@ pub fn preview(m: Model, w: u64) -> Preview
     }
 }
 
-// Whether words spell a model, and a state of it fits into so many words.
-fn can_show(table: &[u64], old: &[u64], room: usize) -> bool
+// Whether words spell a model, and a state of it fits into so many words, asked behind a call that ended with a number: where that is not 24, the call
+// has found that they spell one.
+fn can_show(table: &[u64], old: &[u64], number: u64, room: usize) -> bool
+    requires { ⌜ ((number ≡ 24 → ⊥) → spelled (now table) (now old) ≡ true) ⌝ }
     ensures { λ r. ⌜ r ≡ shows (now (table .entry)) (now (old .entry)) room ⌝ }
 {
-    if !spelled(table, old) {
-        return false;
+    if number == 24 {
+        if !spelled(table, old) {
+            return false;
+        }
     }
     let count = parts_of(table);
     state_size(count) <= room
@@ -46,7 +52,7 @@ pub fn preview_into(table: &[u64], old: &[u64], w: u64, new: &mut [u64]) -> Verd
     if verdict.rounds != 0 {
         return verdict;
     }
-    if can_show(table, old, new.len()) {
+    if can_show(table, old, verdict.number, new.len()) {
         let count = parts_of(table);
         copy_state(old, count, new);
     }

@@ -1,7 +1,8 @@
--- `can_show` asks whether the words spell a model, and then counts those of a state of it.
+-- `can_show` asks whether the words spell a model where that is not known, and then counts those of a state of it.
 use native.Mathlib.Omega.{arith}
 use mathlib.Core.Path.{_≡_, sym, _∙_}
 use mathlib.Core.Bool.{true}
+use mathlib.Core.Logic.{⊎-elim}
 use borrow.Author.Needs.{needs}
 use borrow.Author.Tests.{not-true, not-false}
 use Rattle.store.specs.Form.{spelled}
@@ -10,29 +11,28 @@ use Rattle.preview.specs.PreviewedInto.{shows}
 use Rattle.preview.proofs.can_show.Statement.{statement}
 use Rattle.preview.proofs.can_show.Tie as tie
 
--- the words spell a model
-spells : (c : tie.Else1) →
-    let s = c .before .before .before .before in
-    spelled (s .args .table .now) (s .args .old .now) ≡ true
-spells c = sym (c .before .spelled .ensures) ∙ not-false (c .before .spelled .result) (c .if1 .left)
+-- the start, seen from where it is known that the words spell a model
+abbrev start-of : tie.Joined1 → tie.Start
+start-of c = c .before .before .before
+
+-- they do: they were found to, or the call before has
+spells : (c : tie.Joined1) → spelled (start-of c .args .table .now) (start-of c .args .old .now) ≡ true
+spells c = ⊎-elim (λ w. sym (w .1 .ensures) ∙ not-false (w .1 .result) (w .2 .left)) (λ w. start-of c .pre (w .left)) (c .if1 .came)
 
 spelled-requires : tie.Need-spelled-requires
 spelled-requires c κs = search needs
 
 returns : tie.Need-returns
 unfolding shows
-returns c = simp (sym (c .before .spelled .ensures) ∙ not-true (c .before .spelled .result) (c .if1 .taken))
+returns c = simp (sym (c .before .spelled .ensures) ∙ not-true (c .before .spelled .result) (c .if2 .taken))
 
 parts-of-requires : tie.Need-parts-of-requires
-parts-of-requires c κs =
-    let s = c .before .before .before .before in
-    omega (arith, spelled-room (s .args .table .now) (s .args .old .now) (spells c) .table)
+parts-of-requires c κs = omega (arith, spelled-room (start-of c .args .table .now) (start-of c .args .old .now) (spells c) .table)
 
 state-size-requires : tie.Need-state-size-requires
 state-size-requires c κs =
-    let test = c .before in
-    let s = test .before .before .before .before in
-    omega (arith, spelled-few (s .args .table .now) (s .args .old .now) (spells test), c .parts-of .ensures)
+    let known = c .before in
+    omega (arith, spelled-few (start-of known .args .table .now) (start-of known .args .old .now) (spells known), c .parts-of .ensures)
 
 returns-2 : tie.Need-returns-2
 unfolding shows

@@ -9,7 +9,7 @@ use borrow.Author.Needs.{needs}
 use Rattle.store.specs.Held.{state-words-of}
 use Rattle.store.specs.Updated.{Copied}
 use Rattle.store.specs.Spelling.{spelled-room}
-use Rattle.preview.specs.PreviewedInto.{shows, shown-spelled, shown-room, searched-preview, unshown-preview, copied-preview}
+use Rattle.preview.specs.PreviewedInto.{shows, shown-spelled, shown-room, found-spelled, searched-preview, unshown-preview, copied-preview}
 use Rattle.preview.proofs.preview_into.Statement.{statement}
 use Rattle.preview.proofs.preview_into.Tie as tie
 
@@ -41,7 +41,11 @@ returns c =
     (advances .advance-into .ensures) (λ none. omega (arith, c .if1 .taken))
 
 can-show-requires : tie.Need-can-show-requires
-can-show-requires c κs = search needs
+can-show-requires c κs =
+    let advances = asked-of c in
+    let s = start-of advances in
+    found-spelled (s .args .table .now) (s .args .old .now) (s .args .w) (s .args .new .now) (left-of advances) (advances .advance-into .result)
+    (advances .advance-into .ensures)
 
 -- a state can be shown in the words that the advance left
 can : (c : tie.Then2) →
