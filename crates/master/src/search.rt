@@ -9,9 +9,8 @@ use asking::trials::any_objects_in;
 use machine::time::Ticks;
 use steps::settling::settled_into;
 use steps::step::shown_into;
-use store::lookup::parts_of;
 use store::lookup::point_of;
-use store::update::copy_state;
+use store::update::kept_in;
 ghost use mathlib.Core.Path.{_≡_};
 ghost use mathlib.Core.Bool.{true};
 ghost use lib.Dec.{eqb};
@@ -19,8 +18,8 @@ ghost use Prim.Native.Nat.{ℕ, _+_, _≤_, _<_};
 ghost use Rattle.machine.specs.Time.{last-tick, tick};
 ghost use Rattle.machine.specs.Sound.{sound};
 ghost use Rattle.machine.specs.Advance.{searched};
-ghost use Rattle.store.specs.Held.{WordsThere, held, parts-lent, state-words-of};
-ghost use Rattle.store.specs.Updated.{Copied, state-spelled};
+ghost use Rattle.store.specs.Held.{WordsThere, held, parts-lent};
+ghost use Rattle.store.specs.Updated.{state-spelled};
 ghost use Rattle.master.specs.Into.{SearchedInto, lent-model};
 ghost use Rattle.master.specs.Searching.{refusal};
 
@@ -48,16 +47,6 @@ fn changed_nothing(least: Ticks, h: Ticks) -> bool
     ensures { λ r. ⌜ r ≡ eqb (least .0) (h .0) ⌝ }
 {
     least.0 == h.0
-}
-
-// The state of a table copied, for a call that is refused after its search.
-fn kept_in(table: &[u64], old: &[u64], new: &mut [u64])
-    requires { ⌜ WordsThere (now table) (now old) ⌝ }
-    requires { ⌜ WordsThere (now table) (now new) ⌝ }
-    ensures { λ r. ⌜ Copied (state-words-of (parts-lent (now (table .entry)))) (now (old .entry)) (now (new .entry)) (now (new .exit)) ⌝ }
-{
-    let count = parts_of(table);
-    copy_state(old, count, new);
 }
 
 // How a call ends that nothing bars, its state left in `new`: rounds lower h under a ceiling until one changes nothing; the

@@ -9,7 +9,7 @@ use master::verdict::Verdict;
 use store::form::spelled;
 use store::lookup::parts_of;
 use store::lookup::state_size;
-use store::update::copy_state;
+use store::update::kept_in;
 ghost use mathlib.Core.Path.{_≡_};
 ghost use mathlib.Core.Bool.{true};
 ghost use Rattle.machine.specs.Previews.{Previewed};
@@ -53,8 +53,7 @@ pub fn preview_into(table: &[u64], old: &[u64], w: u64, new: &mut [u64]) -> Verd
         return verdict;
     }
     if can_show(table, old, verdict.number, new.len()) {
-        let count = parts_of(table);
-        copy_state(old, count, new);
+        kept_in(table, old, new);
     }
     verdict
 }

@@ -2,6 +2,7 @@
 //
 // The contracts cite `specs/Updated.antt`, `specs/NumbersPut.antt` and `specs/Shown.antt`: what was written is read back, and
 // every other word is kept.
+use crate::lookup::parts_of;
 use crate::lookup::state_size;
 use codec::fields::mark_code;
 use codec::fields::side_code;
@@ -16,7 +17,7 @@ ghost use lib.ListN.{length};
 ghost use Rattle.codec.specs.Words.{word-signed};
 ghost use Rattle.codec.specs.Encoded.{signal-code};
 ghost use Rattle.codec.specs.Decoded.{signal-of};
-ghost use Rattle.store.specs.Held.{state-words-of};
+ghost use Rattle.store.specs.Held.{WordsThere, parts-lent, state-words-of};
 ghost use Rattle.store.specs.Updated.{Copied, PointPut, StatePut};
 ghost use Rattle.store.specs.NumbersPut.{NumbersPut};
 ghost use Rattle.store.specs.Shown.{OutputPut};
@@ -111,4 +112,14 @@ pub fn copy_state(old: &[u64], parts: usize, new: &mut [u64])
         new[i] = old[i];
         i += 1;
     }
+}
+
+// The state of a table copied, as a call leaves it that is refused.
+pub fn kept_in(table: &[u64], old: &[u64], new: &mut [u64])
+    requires { ⌜ WordsThere (now table) (now old) ⌝ }
+    requires { ⌜ WordsThere (now table) (now new) ⌝ }
+    ensures { λ r. ⌜ Copied (state-words-of (parts-lent (now (table .entry)))) (now (old .entry)) (now (new .entry)) (now (new .exit)) ⌝ }
+{
+    let count = parts_of(table);
+    copy_state(old, count, new);
 }

@@ -1,13 +1,12 @@
 -- `preview_into` is the advance on words; where that made no round, and a state can be shown, the state handed in is copied, which is the answer's.
 use Prim.Native.Nat.{ℕ}
 use native.Mathlib.Omega.{arith}
-use mathlib.Core.Path.{_≡_, sym, subst, _∙_}
+use mathlib.Core.Path.{_≡_, sym, _∙_}
 use mathlib.Core.Bool.{true}
 use mathlib.Core.List.{List}
 use lib.ListN.{length}
 use borrow.Author.Needs.{needs}
-use Rattle.store.specs.Held.{state-words-of}
-use Rattle.store.specs.Updated.{Copied}
+use Rattle.store.specs.Held.{WordsThere}
 use Rattle.store.specs.Spelling.{spelled-room}
 use Rattle.preview.specs.PreviewedInto.{shows, shown-spelled, shown-room, found-spelled, searched-preview, unshown-preview, copied-preview}
 use Rattle.preview.proofs.preview_into.Statement.{statement}
@@ -53,36 +52,27 @@ can : (c : tie.Then2) →
     shows (s .args .table .now) (s .args .old .now) (length (left-of (shown-of c))) ≡ true
 can c = sym (c .before .can-show .ensures) ∙ c .if2 .taken
 
-parts-of-requires : tie.Need-parts-of-requires
-parts-of-requires c κs =
-    let s = start-of (shown-of c) in
-    omega (arith, spelled-room (s .args .table .now) (s .args .old .now) (shown-spelled (s .args .table .now) (s .args .old .now) _ (can c)) .table)
-
-copy-state-requires : tie.Need-copy-state-requires
-copy-state-requires c κs =
-    let counts = c .before in
-    let test = counts .before in
+kept-in-requires : tie.Need-kept-in-requires
+kept-in-requires c κs =
+    let test = c .before in
     let s = start-of (shown-of test) in
     let ts = s .args .table .now in
     let os = s .args .old .now in
-    let room = shown-room ts os (length (left-of (shown-of test))) (can test) in
-    let there = spelled-room ts os (shown-spelled ts os _ (can test)) .state in
-    (omega (arith, there, counts .parts-of .ensures), omega (arith, room, counts .parts-of .ensures))
+    let there = spelled-room ts os (shown-spelled ts os _ (can test)) in
+    let spare : WordsThere ts (left-of (shown-of test)) = record { table = there .table; state = shown-room ts os _ (can test) } in
+    (there, spare)
 
 same-length-2 : tie.Need-same-length-2
 same-length-2 c = search needs
 
 returns-2 : tie.Need-returns-2
 returns-2 c =
-    let copies = c .before .before in
-    let counts = copies .before .before in
-    let test = counts .before in
+    let keeps = c .before .before in
+    let test = keeps .before .before in
     let advances = shown-of test in
     let s = start-of advances in
-    let shown = copies .copy-state .last .1 .1 .0 in
     copied-preview (s .args .table .now) (s .args .old .now) (s .args .w) (s .args .new .now) (left-of advances) (advances .advance-into .result)
-    (advances .advance-into .ensures) shown (omega (arith, test .before .before .if1 .left)) (can test)
-    (subst (λ (n : ℕ). Copied (state-words-of n) (s .args .old .now) (left-of advances) shown) (counts .parts-of .ensures) (copies .copy-state .ensures))
+    (advances .advance-into .ensures) (keeps .kept-in .last .1 .1 .0) (omega (arith, test .before .before .if1 .left)) (can test) (keeps .kept-in .ensures)
 
 same-length-3 : tie.Need-same-length-3
 same-length-3 c = search needs
@@ -103,8 +93,7 @@ preview-into-spec =
     same-length
     returns
     can-show-requires
-    parts-of-requires
-    copy-state-requires
+    kept-in-requires
     same-length-2
     returns-2
     same-length-3

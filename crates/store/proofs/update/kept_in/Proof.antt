@@ -1,11 +1,11 @@
 -- `kept_in` copies all words of the state of a table.
 use Prim.Native.Nat.{ℕ}
 use mathlib.Core.Path.{subst}
 use Rattle.store.specs.Held.{state-words-of}
 use Rattle.store.specs.Updated.{Copied}
 use borrow.Author.Needs.{needs}
-use Rattle.master.proofs.search.kept_in.Statement.{statement}
-use Rattle.master.proofs.search.kept_in.Tie as tie
+use Rattle.store.proofs.update.kept_in.Statement.{statement}
+use Rattle.store.proofs.update.kept_in.Tie as tie
 
 parts-of-requires : tie.Need-parts-of-requires
 parts-of-requires c κs = search needs
