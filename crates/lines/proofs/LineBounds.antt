@@ -2,10 +2,10 @@
 use Prim.Native.Nat.{ℕ, _≤_}
 use mathlib.Core.List.{List}
 use lib.ListN.{length}
-use Rattle.writing.specs.declared.written.Written.{Written}
-use Rattle.writing.specs.Written.{WrittenAs}
+use Rattle.machine.specs.declared.model.Written.{Written}
+use Rattle.machine.specs.Writing.{WrittenAs}
 
 -- a text that is written, with a bound of its length
-pub bounded : {text before after : List ℕ} {w : Written} (n : ℕ) → WrittenAs text before after w → length text ≤ n →
-    WrittenAs text before after w × (w .length ≤ n)
+pub bounded : {text before after : List ℕ} {w : Written} (n : ℕ) → WrittenAs 0 text before after w → length text ≤ n →
+    WrittenAs 0 text before after w × (w .length ≤ n)
 bounded n written short = (written, rw (written .answer) short)

@@ -1,19 +1,19 @@
 // The line of a call on lent words, written into a buffer that the caller lends: the numbers of the call, and the point and
-// the outputs of the state that it left. The promises cite the machine's `Rehearse.antt`, `store`'s `specs/Held.antt` and
-// `writing`'s `specs/Written.antt`.
+// the outputs of the state that it left. The promises cite the machine's `Rehearse.antt` and `Writing.antt`, and `store`'s
+// `specs/Held.antt`.
 use crate::line::put_numbers;
 use crate::line::write_refused;
 use crate::text::put_output;
+use machine::model::Written;
 use store::lookup::output_at;
 use store::lookup::parts_of;
 use store::lookup::point_of;
 use writing::put::put_byte;
-use writing::written::Written;
 use writing::written::write_text;
 ghost use Prim.Native.Nat.{ℕ, _≤_};
 ghost use Rattle.machine.specs.Rehearse.{answer-line};
 ghost use Rattle.store.specs.Held.{WordsThere, parts-lent};
-ghost use Rattle.writing.specs.Written.{WrittenAs};
+ghost use Rattle.machine.specs.Writing.{WrittenAs};
 ghost use Rattle.lines.specs.LentLines.{lent-answer};
 
 // How many bytes a line is built in. The longest line of a committed advance has 777: five numbers of
@@ -32,7 +32,7 @@ pub fn write_lent(
 ) -> Written
     requires { ⌜ WordsThere (now table) (now state) ⌝ }
     requires { ⌜ parts-lent (now table) ≤ 32 ⌝ }
-    ensures { λ w. ⌜ ((ceiling : ℕ) → WrittenAs (answer-line (lent-answer (now (table .entry)) (now (state .entry)) number step rounds revisions ceiling)) (now (buf .entry)) (now (buf .exit)) w) ⌝ }
+    ensures { λ w. ⌜ ((ceiling : ℕ) → WrittenAs 0 (answer-line (lent-answer (now (table .entry)) (now (state .entry)) number step rounds revisions ceiling)) (now (buf .entry)) (now (buf .exit)) w) ⌝ }
     ensures { λ w. ⌜ w .length ≤ 1024 ⌝ }
 {
     if number != 0 {

@@ -1,18 +1,18 @@
 // The lines of a rehearsal's refusals, each written into a buffer that the caller lends, and the numbers
 // that begin the line of a committed advance. A line is built in an array of its own, so that its length
-// is known before the buffer is touched. The promises cite the machine's `Rehearse.antt` and `writing`'s
-// `specs/Put.antt` and `specs/Written.antt`.
+// is known before the buffer is touched. The promises cite the machine's `Rehearse.antt` and `Writing.antt`, and `writing`'s
+// `specs/Put.antt`.
 use crate::text::put_decimal;
+use machine::model::Written;
 use writing::put::put_byte;
 use writing::put::put_text;
-use writing::written::Written;
 use writing::written::write_text;
 ghost use mathlib.Core.List.{_∷_, [], _++_};
 ghost use Prim.Native.Nat.{_+_, _≤_};
 ghost use lib.ListN.{length};
 ghost use Rattle.machine.specs.Rehearse.{blank, decimal, refused-at-line, refused-line, refused-text};
 ghost use Rattle.writing.specs.Put.{Put};
-ghost use Rattle.writing.specs.Written.{WrittenAs};
+ghost use Rattle.machine.specs.Writing.{WrittenAs};
 ghost use Rattle.lines.specs.LineNumbers.{numbers-text};
 
 // How many bytes the line of a refusal is built in. The longest has 53: `refused ` and ` at `, two
@@ -78,7 +78,7 @@ pub(crate) fn put_numbers(
 
 // The line of a refused advance.
 pub(crate) fn write_refused(number: u64, buf: &mut [u8]) -> Written
-    ensures { λ w. ⌜ WrittenAs (refused-line number) (now (buf .entry)) (now (buf .exit)) w ⌝ }
+    ensures { λ w. ⌜ WrittenAs 0 (refused-line number) (now (buf .entry)) (now (buf .exit)) w ⌝ }
     ensures { λ w. ⌜ w .length ≤ 64 ⌝ }
 {
     let mut line = [0u8; REFUSAL_ROOM];
@@ -88,7 +88,7 @@ pub(crate) fn write_refused(number: u64, buf: &mut [u8]) -> Written
 
 // The line of a load or score refusal, at a position of the whole stream.
 pub fn write_refused_at(number: u64, position: usize, buf: &mut [u8]) -> Written
-    ensures { λ w. ⌜ WrittenAs (refused-at-line number position) (now (buf .entry)) (now (buf .exit)) w ⌝ }
+    ensures { λ w. ⌜ WrittenAs 0 (refused-at-line number position) (now (buf .entry)) (now (buf .exit)) w ⌝ }
     ensures { λ w. ⌜ w .length ≤ 64 ⌝ }
 {
     let mut line = [0u8; REFUSAL_ROOM];

@@ -14,8 +14,8 @@ use Rattle.machine.specs.Table.{Table, table-of}
 use Rattle.machine.specs.Fresh.{fresh}
 use Rattle.machine.specs.Load.{accepted, load}
 use Rattle.machine.specs.Sound.{table-fits, sound}
+use Rattle.machine.specs.TableBytes.{table-bytes}
 use Rattle.soundness.specs.Octets.{Octet, table-octets}
-use Rattle.soundness.specs.TableBytes.{table-bytes}
 use Rattle.soundness.specs.Bytes.{loads-back}
 use Rattle.soundness.specs.Accepted.{load-fits}
 use Rattle.soundness.specs.FreshSound.{fresh-table, fresh-sound}

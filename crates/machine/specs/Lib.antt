@@ -10,6 +10,9 @@ pub mod Step
 pub mod Fresh
 pub mod Load
 pub mod Sound
+pub mod TableBytes
+pub mod Writing
+pub mod Save
 pub mod Accept
 pub mod Advance
 pub mod Calls

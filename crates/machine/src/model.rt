@@ -1,4 +1,4 @@
-// A model, and what loading, advancing and the score answer.
+// A model, and what loading, advancing, writing calls and the score answer.
 use crate::part::Part;
 use crate::time::Point;
 
@@ -36,6 +36,12 @@ pub struct Answer {
 pub struct Preview {
     pub given: Model,
     pub answer: Answer,
+}
+
+// What a call that writes into a lent buffer answers: its number (0: written) and its length, which with 25 is the one that the buffer needs.
+pub struct Written {
+    pub number: u64,
+    pub length: usize,
 }
 
 // What the score holds at a position: its end, a wanted step with the position after it, or a refusal

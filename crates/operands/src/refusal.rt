@@ -22,12 +22,14 @@ ghost use lib.Dec.{eqb};
 ghost use Rattle.machine.specs.Load.{begin-refusal, known-command};
 ghost use Rattle.operands.specs.Refusals.{command-number, operands-number, part-number, in-its-place, port-number, span-number};
 
-// The bytes of Begin, Part, Span, End and a wanted step; a Wire's, 04h, is the one left where these are told apart.
+// The bytes of Begin, Part, Span, Wire, End and a wanted step. A Wire's is the one left where the others are told apart.
 pub const BEGIN_BYTE: u8 = 0x01;
 
 pub const PART_BYTE: u8 = 0x02;
 
 pub const SPAN_BYTE: u8 = 0x03;
+
+pub const WIRE_BYTE: u8 = 0x04;
 
 pub const END_BYTE: u8 = 0x05;
 

@@ -19,25 +19,25 @@ use Rattle.machine.specs.Load.{byte-at}
 use Rattle.machine.specs.Rehearse.{answer-line, refused-at-line, lines-from}
 use Rattle.laws.specs.Bools.{cond-cases}
 use Rattle.printing.specs.LineFuel.{score-later, lines-enough}
-use Rattle.writing.specs.declared.written.Written.{Written}
+use Rattle.machine.specs.declared.model.Written.{Written}
 use Rattle.writing.specs.Put.{Put}
-use Rattle.writing.specs.Written.{WrittenAs}
+use Rattle.machine.specs.Writing.{WrittenAs}
 use Rattle.store.specs.Held.{held}
 use Rattle.rehearse.specs.declared.play.Rehearsing.{Rehearsing}
 use Rattle.rehearse.specs.declared.play.CommandPlayed.{CommandPlayed}
 use Rattle.rehearse.specs.Playing.{stands-in, Playable, lines-at, lines-left, PlayedWanted, PlayedOne, PlayedTurn}
 
 -- what a written text's answer and buffer are, where the text fits
-fits-length : {text before after : List ℕ} {w : Written} → WrittenAs text before after w → w .length ≡ length text
+fits-length : {text before after : List ℕ} {w : Written} → WrittenAs 0 text before after w → w .length ≡ length text
 fits-length written = rw (written .answer) refl
 
-fits-buffer : {text before after : List ℕ} {w : Written} → WrittenAs text before after w → length text ≤ length before →
+fits-buffer : {text before after : List ℕ} {w : Written} → WrittenAs 0 text before after w → length text ≤ length before →
     after ≡ text ++ drop (length text) before
 fits-buffer {text = text} {before = before} written h = written .buffer ∙ simp (le-leb (length text) (length before) h)
 
 -- a text written into what is left of a buffer, handed over as the rest of a list and as a part of it
 put-behind : {text xs ys : List ℕ} {w : Written} (used k : ℕ) → used + 1024 ≤ length xs → length xs ≤ used + k →
-    WrittenAs text (drop used xs) ys w → w .length ≤ 1024 → Put 1024 text used xs (take used xs ++ (ys ++ drop k (drop used xs))) (used + w .length)
+    WrittenAs 0 text (drop used xs) ys w → w .length ≤ 1024 → Put 1024 text used xs (take used xs ++ (ys ++ drop k (drop used xs))) (used + w .length)
 put-behind {text = text} {xs = xs} {ys = ys} {w = w} used k room rest written short =
     let size : w .length ≡ length text = fits-length written in
     let fits : length text ≤ length (drop used xs) = simp length-drop (omega arith) in
@@ -54,7 +54,7 @@ put-behind {text = text} {xs = xs} {ys = ys} {w = w} used k room rest written sh
     }
 
 pub put-part : {text xs ys : List ℕ} {w : Written} (used : ℕ) → used + 1024 ≤ length xs →
-    WrittenAs text (take (length xs - used) (drop used xs)) ys w → w .length ≤ 1024 →
+    WrittenAs 0 text (take (length xs - used) (drop used xs)) ys w → w .length ≤ 1024 →
     Put 1024 text used xs (take used xs ++ (ys ++ drop (length xs - used) (drop used xs))) (used + w .length)
 put-part {xs = xs} used room written short =
     let k = length xs - used in

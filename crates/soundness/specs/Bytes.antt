@@ -20,6 +20,7 @@ use Rattle.machine.specs.Table.{Table, table-of}
 use Rattle.machine.specs.Fresh.{fresh}
 use Rattle.machine.specs.Load.{wire-byte, end-byte, is-drive, source-of, wired, with-wire, end-refusal, accepted, load}
 use Rattle.machine.specs.Sound.{source-fits, spans-rise, table-fits}
+use Rattle.machine.specs.TableBytes.{operand-bytes, part-bytes, spans-bytes, parts-bytes, port-bytes, wires-bytes, table-bytes}
 use Rattle.laws.specs.Last.{length-added, last-of-added}
 use Rattle.soundness.specs.Facts.{ComponentFits, TableFits, table-facts}
 use Rattle.soundness.specs.FreshSound.{fresh-table}
@@ -27,7 +28,6 @@ use Rattle.soundness.specs.Accepted.{load-fits}
 use Rattle.soundness.specs.Octets.{Octet, table-octets}
 use Rattle.soundness.specs.Seams.{further, read-all}
 use Rattle.soundness.specs.Commands.{so-far, shaped, reads-begin, reads-part, reads-span, reads-wire, reads-end}
-unfoldable pub use Rattle.soundness.specs.TableBytes.{operand-bytes, signed-operand, part-bytes, spans-bytes, parts-bytes, port-bytes, wires-bytes, table-bytes}
 
 -- a component as the parts' sweep leaves it
 abbrev unwired : Component → Component

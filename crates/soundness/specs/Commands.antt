@@ -15,9 +15,9 @@ use Rattle.machine.specs.Kind.{ports, is-positive, operands-fit}
 use Rattle.machine.specs.Model.{most-parts, most-spans, blank-component}
 use Rattle.machine.specs.Table.{Table}
 use Rattle.machine.specs.Load.{begin-byte, part-byte, span-byte, wire-byte, end-byte, known-command, command-width, preference-known, is-drive, Reading, nothing-read, in-place, onward, ended, begin-refusal, begun-with, part-read, part-refusal, with-part, last-part, last-span, with-span, span-refusal, with-component, source-of, wired, with-wire, wire-refusal, end-refusal, accepted, begin-command, part-command, span-command, wire-command, end-command, whole-command}
+use Rattle.machine.specs.TableBytes.{operand-bytes, signed-operand, part-bytes}
 use Rattle.laws.specs.Last.{length-added, last-of-added, set-last-of-added}
 use Rattle.soundness.specs.Facts.{operand-values, operand-small}
-use Rattle.soundness.specs.TableBytes.{operand-bytes, signed-operand, part-bytes}
 use Rattle.soundness.specs.Seams.{kind-back, operand-back, further, byte-there, word-there, turn-there, read-all, after-turn}
 
 -- the reading of a table once begun, with the components given

@@ -11,8 +11,8 @@ pub mod ReadTurns
 pub mod ReadFuel
 pub mod CommandsPassed
 pub mod Accepted
-pub mod TableBytes
 pub mod Seams
 pub mod Octets
 pub mod Commands
 pub mod Bytes
+pub mod SavedBytes

@@ -19,10 +19,10 @@ use Rattle.machine.specs.Model.{most-parts}
 use Rattle.machine.specs.Table.{Table}
 use Rattle.machine.specs.Load.{end-byte, preference-known}
 use Rattle.machine.specs.Sound.{source-fits, table-fits}
+use Rattle.machine.specs.TableBytes.{operand-bytes, signed-operand, part-bytes, spans-bytes, parts-bytes, port-bytes, wires-bytes, table-bytes}
 use Rattle.laws.specs.Bools.{and-right, or-cases}
 use Rattle.laws.specs.Alls.{all-append}
 use Rattle.soundness.specs.Facts.{ComponentFits, table-facts}
-use Rattle.soundness.specs.TableBytes.{operand-bytes, signed-operand, part-bytes, spans-bytes, parts-bytes, port-bytes, wires-bytes, table-bytes}
 use Rattle.soundness.specs.Seams.{kind-back}
 
 -- a number that fits a byte

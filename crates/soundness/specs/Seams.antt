@@ -16,8 +16,8 @@ use Rattle.machine.specs.declared.model.Loaded.{Loaded}
 use Rattle.machine.specs.Signal.{is-value, largest-value}
 use Rattle.machine.specs.Kind.{kind-number, kind-known, kind-of}
 use Rattle.machine.specs.Load.{known-command, command-width, byte-at, word-at, signed, Reading, in-place, Read, whole-command, command-read, read-turn, read-on, read-from}
+use Rattle.machine.specs.TableBytes.{operand-bytes, signed-operand}
 use Rattle.soundness.specs.ReadFuel.{read-unrolled}
-use Rattle.soundness.specs.TableBytes.{operand-bytes, signed-operand}
 
 -- a kind is the one that its number was written for
 pub kind-back : (k : Kind) → (kind-known (kind-number k) ≡ true) × (kind-of (kind-number k) ≡ k)

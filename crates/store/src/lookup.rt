@@ -12,6 +12,7 @@ use machine::part::Component;
 use machine::part::Kind;
 use machine::part::Part;
 use machine::part::SPANS;
+use machine::part::Source;
 use machine::part::State;
 use machine::signal::Signal;
 use machine::time::LocalTicks;
@@ -118,6 +119,33 @@ pub fn component_at(table: &[u64], i: usize) -> Component
         port0: port0,
         port1: port1,
     }
+}
+
+// How many spans part `i` has, alone.
+pub fn span_count_in(table: &[u64], i: usize) -> usize
+    requires { ⌜ table-words (i + 1) ≤ length (now table) ⌝ }
+    ensures { λ r. ⌜ r ≡ stored-component (now (table .entry)) i .«span_count» ⌝ }
+{
+    let k = 18 * i;
+    table[k + 7] as usize
+}
+
+// What port 0 of part `i` is wired to, alone.
+pub fn port0_in(table: &[u64], i: usize) -> Source
+    requires { ⌜ table-words (i + 1) ≤ length (now table) ⌝ }
+    ensures { λ r. ⌜ r ≡ stored-component (now (table .entry)) i .port0 ⌝ }
+{
+    let k = 18 * i;
+    source_coded(table[k + 16])
+}
+
+// What its port 1 is, alone.
+pub fn port1_in(table: &[u64], i: usize) -> Source
+    requires { ⌜ table-words (i + 1) ≤ length (now table) ⌝ }
+    ensures { λ r. ⌜ r ≡ stored-component (now (table .entry)) i .port1 ⌝ }
+{
+    let k = 18 * i;
+    source_coded(table[k + 17])
 }
 
 // The kind of part `i`, alone.

@@ -1,4 +1,4 @@
--- What a writing call leaves in a lent buffer, what a piece put into one adds to it, and the laws of such pieces.
+-- What a piece put into a lent buffer adds to it, the laws of such pieces, and those of what a writing call leaves there.
 pub mod Put
 pub mod Pieces
-pub mod Written
+pub mod Fitting

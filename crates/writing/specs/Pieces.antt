@@ -2,9 +2,9 @@
 use Prim.Native.Nat.{ℕ, _+_, _-_, _≤_, _<_}
 use native.Mathlib.Numerals.{add-one}
 use native.Mathlib.Omega.{arith}
-use mathlib.Core.Path.{_≡_, refl, sym, _∙_}
+use mathlib.Core.Path.{_≡_, refl, sym, ap₂, _∙_}
 use mathlib.Core.List.{List, [], _∷_, _++_, append-assoc, append-nil}
-use lib.ListN.{length, take, drop, set, length-append}
+use lib.ListN.{length, take, drop, set, length-append, take-append-drop}
 use lib.Seq.{take-suc-set, drop-set-lt, drop-drop}
 use Rattle.writing.specs.Put.{Put}
 
@@ -37,6 +37,10 @@ put-then {t = t} {u = u} {p = p} {q = q} {l₀ = l₀} {l₁ = l₁} first secon
       behind = second .behind ∙ drop-more p q l₀ l₁ (omega arith) (first .behind);
       short = simp length-append (omega arith);
     }
+
+-- the line behind a piece, whole
+pub put-whole : {a : ℕ} {t : List ℕ} {at p : ℕ} {l₀ l₁ : List ℕ} → Put a t at l₀ l₁ p → l₁ ≡ (take at l₀ ++ t) ++ drop p l₀
+put-whole {p = p} {l₁ = l₁} put = sym (take-append-drop p l₁) ∙ ap₂ _++_ (put .line) (put .behind)
 
 -- an equal text, with another bound
 pub put-as : {a b : ℕ} {t u : List ℕ} {at p : ℕ} {l₀ l₁ : List ℕ} → Put a t at l₀ l₁ p → t ≡ u → length u ≤ b → Put b u at l₀ l₁ p

@@ -13,8 +13,8 @@ use Rattle.machine.specs.Time.{tick}
 use Rattle.machine.specs.Model.{blank-part}
 use Rattle.machine.specs.Rehearse.{answer-line, blank, line-feed, outputs-text, signal-text}
 use Rattle.writing.specs.Put.{Put}
-use Rattle.writing.specs.declared.written.Written.{Written}
-use Rattle.writing.specs.Written.{WrittenAs}
+use Rattle.machine.specs.declared.model.Written.{Written}
+use Rattle.machine.specs.Writing.{WrittenAs}
 use Rattle.writing.specs.Pieces.{put-nothing, put-then, put-as}
 use Rattle.store.specs.Held.{held, parts-lent, stored-point, stored-state}
 use Rattle.store.specs.StoreFrame.{held-many}
@@ -64,7 +64,7 @@ line-built ts ss step rounds revisions {number = number} committed same count nu
 
 -- a text that is written is written under each of its names
 written-line : {text before after : List ℕ} {w : Written} {line : ℕ → List ℕ} → ((ceiling : ℕ) → text ≡ line ceiling) →
-    WrittenAs text before after w × (w .length ≤ 1024) → ((ceiling : ℕ) → WrittenAs (line ceiling) before after w) × (w .length ≤ 1024)
+    WrittenAs 0 text before after w × (w .length ≤ 1024) → ((ceiling : ℕ) → WrittenAs 0 (line ceiling) before after w) × (w .length ≤ 1024)
 written-line same written = (λ ceiling. rw (← same ceiling) (written .0), written .1)
 
 write-refused-requires : tie.Need-write-refused-requires Inv-loop μ-loop

@@ -1,14 +1,14 @@
--- The bytes of a table: the commands that load it, in document 01's widths. Begin; each part by number with its spans behind it; the wires by
--- receiving part and then port; End. Assumes nothing.
+-- Document 02, request 4: the bytes of a table, which are the commands that load it, in document 01's widths. "Begin with the default magnitude, each part with
+-- its spans, the wires by receiving part and then port, and End". Assumes nothing.
 use Prim.Native.Nat.{ℕ, suc, _-_, _/_, _%_}
 use mathlib.Core.List.{List, [], _∷_, _++_}
 use lib.IntN.{ℤ, pos, negsuc}
 use Rattle.machine.specs.declared.part.Source.{Source}
 use Rattle.machine.specs.declared.part.Source.the-variants.{Unwired, From}
 use Rattle.machine.specs.declared.part.Component.{Component}
 use Rattle.machine.specs.Kind.{kind-number}
 use Rattle.machine.specs.Table.{Table}
 use Rattle.machine.specs.Load.{begin-byte, part-byte, span-byte, wire-byte, end-byte}
 
 -- operands "are little-endian": a number as four bytes
 unfoldable pub operand-bytes : ℕ → List ℕ

@@ -1,0 +1,3 @@
+-- Laws of a save, which its proofs cite.
+pub mod TableText
+pub mod TableSweep

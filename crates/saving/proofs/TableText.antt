@@ -1,0 +1,217 @@
+-- The bytes of a table part by part: what one part more adds to them, how long they are, and what a table that fits grants of the words of each part.
+-- Assumes nothing.
+use Prim.Native.Nat.{ℕ, zero, suc, _+_, _*_, _-_, _/_, _%_, _≤_, _<_}
+use native.Mathlib.Nat.{add-zero, add-suc}
+use native.Mathlib.Numerals.{add-one}
+use native.Mathlib.Omega.{arith}
+use mathlib.Core.Path.{_≡_, refl, sym, ap, _∙_}
+use mathlib.Core.Bool.{Bool, true, false, cond}
+use mathlib.Core.Logic.{_⊎_, inl, inr}
+use mathlib.Core.List.{List, [], _∷_, _++_, append-assoc, append-nil}
+use lib.ListN.{length, getD, length-append}
+use lib.IntN.{ℤ, pos, negsuc}
+use lib.Dec.{ltb}
+use borrow.Author.Tests.{leb-true, ltb-true}
+use Rattle.machine.specs.declared.part.Kind.{Kind}
+use Rattle.machine.specs.declared.part.Source.{Source}
+use Rattle.machine.specs.declared.part.Source.the-variants.{Unwired, From}
+use Rattle.machine.specs.declared.part.Component.{Component}
+use Rattle.machine.specs.Lists.{All}
+use Rattle.machine.specs.Signal.{is-value, largest-value}
+use Rattle.machine.specs.Kind.{operands-fit, ports}
+use Rattle.machine.specs.Model.{most-parts, most-spans, blank-component, trimmed-component}
+use Rattle.machine.specs.Table.{Table}
+use Rattle.machine.specs.Load.{end-byte, is-drive}
+use Rattle.machine.specs.Sound.{source-fits, table-fits}
+use Rattle.machine.specs.TableBytes.{operand-bytes, signed-operand, part-bytes, spans-bytes, parts-bytes, port-bytes, wires-bytes, table-bytes}
+use Rattle.laws.specs.Bools.{and-right}
+use Rattle.laws.specs.ListLaws.{all-at}
+use Rattle.soundness.specs.Facts.{ComponentFits, TableFits, table-facts}
+use Rattle.codec.specs.Words.{table, signed-word}
+use Rattle.codec.specs.Tables.{length-table, table-at}
+use Rattle.store.specs.Held.{parts-lent, stored-component}
+use Rattle.saving.specs.LentTable.{lent-component, lent-table, SourceBelow, part-text, wires-text}
+
+-- one part more
+parts-added : (cs : List Component) (c : Component) → parts-bytes (cs ++ (c ∷ [])) ≡ parts-bytes cs ++ part-text c
+unfolding parts-bytes part-text
+parts-added [] c = simp append-nil
+parts-added (d ∷ cs) c = simp (parts-added cs c, append-assoc)
+
+pub parts-bytes-more : (f : ℕ → Component) (i : ℕ) → parts-bytes (table f (i + 1)) ≡ parts-bytes (table f i) ++ part-text (f i)
+unfolding table
+parts-bytes-more f i = rw add-one (parts-added (table f i) (f i))
+
+-- and the wires into it, part numbers going on from k
+wires-added : (k : ℕ) (cs : List Component) (c : Component) → wires-bytes k (cs ++ (c ∷ [])) ≡ wires-bytes k cs ++ wires-text (k + length cs) c
+unfolding wires-bytes wires-text
+wires-added k [] c = simp (append-nil, add-zero)
+wires-added k (d ∷ cs) c =
+    let there : suc k + length cs ≡ k + length (d ∷ cs) = omega arith in
+    rw (wires-added (suc k) cs c, there) (simp append-assoc)
+
+pub wires-bytes-more : (f : ℕ → Component) (i : ℕ) → wires-bytes 0 (table f (i + 1)) ≡ wires-bytes 0 (table f i) ++ wires-text i (f i)
+unfolding table
+wires-bytes-more f i =
+    let here : 0 + length (table f i) ≡ i = omega (arith, length-table f i) in
+    rw add-one (wires-added 0 (table f i) (f i) ∙ ap (λ (n : ℕ). wires-bytes 0 (table f i) ++ wires-text n (f i)) here)
+
+-- how long they are
+spans-length : (vs : List ℕ) → length (spans-bytes vs) ≡ 5 * length vs
+unfolding spans-bytes operand-bytes
+spans-length [] = refl
+spans-length (v ∷ vs) = omega (arith, spans-length vs)
+
+pub part-length : (c : Component) → length (part-text c) ≡ 15 + 5 * length (c .spans)
+unfolding part-text part-bytes operand-bytes
+part-length c = omega (arith, spans-length (c .spans))
+
+pub port-length : (receiver port : ℕ) (s : Source) → length (port-bytes receiver port s) ≡ length (port-bytes 0 0 s)
+unfolding port-bytes
+port-length receiver port Unwired = refl
+port-length receiver port (From k) = refl
+
+pub port-short : (s : Source) → length (port-bytes 0 0 s) ≤ 4
+unfolding port-bytes
+port-short Unwired = omega arith
+port-short (From k) = omega arith
+
+pub wires-length : (i : ℕ) (c : Component) → length (wires-text i c) ≡ length (port-bytes 0 0 (c .port0)) + length (port-bytes 0 0 (c .port1))
+unfolding wires-text
+wires-length i c =
+    omega (
+      arith,
+      length-append (port-bytes i 0 (c .port0)) (port-bytes i 1 (c .port1)),
+      port-length i 0 (c .port0),
+      port-length i 1 (c .port1),
+    )
+
+-- a text that grows by a piece at each number is as long at a later one
+grown : (g h : ℕ → List ℕ) → ((i : ℕ) → g (i + 1) ≡ g i ++ h i) → (i k : ℕ) → length (g i) ≤ length (g (i + k))
+grown g h more i zero = rw add-zero (omega arith)
+grown g h more i (suc k) =
+    let step : g (i + suc k) ≡ g (i + k) ++ h (i + k) = rw (add-suc, ← add-one) (more (i + k)) in
+    rw step (omega (arith, length-append (g (i + k)) (h (i + k)), grown g h more i k))
+
+pub grows : (g h : ℕ → List ℕ) → ((i : ℕ) → g (i + 1) ≡ g i ++ h i) → (i n : ℕ) → i ≤ n → length (g i) ≤ length (g n)
+grows g h more i n low =
+    let sum : i + (n - i) ≡ n = omega arith in
+    rw sum at (grown g h more i (n - i))
+
+-- the lowest four bytes of a value's word are its signed operand's
+pub operand-low : (z : ℤ) → is-value z ≡ true → operand-bytes (signed-word z) ≡ operand-bytes (signed-operand z)
+unfolding is-value signed-word signed-operand operand-bytes
+operand-low (pos n) h = refl
+operand-low (negsuc n) h =
+    let small = leb-true (suc n) largest-value h in
+    let word : 18446744073709551615 - n ≡ 18446744069414584320 + (4294967295 - n) = omega arith in
+    simp (word, low (4294967295 - n))
+  where
+    low : (v : ℕ) → operand-bytes (18446744069414584320 + v) ≡ operand-bytes v
+    low v =
+        let first : (18446744069414584320 + v) / 256 ≡ 72057594021150720 + v / 256 = omega arith in
+        let second : (72057594021150720 + v / 256) / 256 ≡ 281474976645120 + v / 256 / 256 = omega arith in
+        let third : (281474976645120 + v / 256 / 256) / 256 ≡ 1099511627520 + v / 256 / 256 / 256 = omega arith in
+        let byte0 : (18446744069414584320 + v) % 256 ≡ v % 256 = omega arith in
+        let byte1 : (72057594021150720 + v / 256) % 256 ≡ v / 256 % 256 = omega arith in
+        let byte2 : (281474976645120 + v / 256 / 256) % 256 ≡ v / 256 / 256 % 256 = omega arith in
+        let byte3 : (1099511627520 + v / 256 / 256 / 256) % 256 ≡ v / 256 / 256 / 256 % 256 = omega arith in
+        rw (first, second, third, byte0, byte1, byte2, byte3) refl
+
+-- what holds of the words of part i where the table fits
+pub record PartFits (ts : List ℕ) (i : ℕ) : Type 0 where
+  pub operands : operands-fit (stored-component ts i .kind) (stored-component ts i .a) (stored-component ts i .b) (stored-component ts i .p) ≡ true
+  pub counted : stored-component ts i .«span_count» ≡ length (lent-component ts i .spans)
+  pub spans : stored-component ts i .«span_count» ≤ 8
+  pub port0 : SourceBelow 256 (stored-component ts i .port0)
+  pub port1 : SourceBelow 256 (stored-component ts i .port1)
+
+-- a source that fits into a table of at most 32 parts
+fitting-source : (n many port : ℕ) (s : Source) → n ≤ most-parts → source-fits n many port s ≡ true → SourceBelow 256 s
+unfolding source-fits
+fitting-source n many port Unwired few fits = tt
+fitting-source n many port (From k) few fits = omega (arith, ltb-true k n (and-right (ltb port many) (ltb k n) fits))
+
+-- as many spans as the kind has places for are at most eight
+few-spans : (c : Component) → length (c .spans) ≤ cond (is-drive (c .kind)) most-spans 0 → length (c .spans) ≤ 8
+few-spans c places = cases (is-drive (c .kind)) places
+  where
+    cases : (b : Bool) → length (c .spans) ≤ cond b most-spans 0 → length (c .spans) ≤ 8
+    cases true h = h
+    cases false h = omega arith
+
+module _ (ts : List ℕ) (fits : table-fits (lent-table ts) ≡ true) where
+  -- it has from 1 to 32 parts
+  pub some-parts : (1 ≤ parts-lent ts) × (parts-lent ts ≤ most-parts)
+  unfolding lent-table
+  some-parts =
+      let f = table-facts (lent-table ts) fits in
+      let many = length-table (lent-component ts) (parts-lent ts) in
+      (omega (arith, many, f .some), omega (arith, many, f .few))
+
+  -- and each is as its words' table asks
+  pub part-fits-at : (i : ℕ) → i < parts-lent ts → PartFits ts i
+  unfolding lent-table lent-component trimmed-component
+  part-fits-at i low =
+      let f = table-facts (lent-table ts) fits in
+      let n = length (lent-table ts .parts) in
+      let inside : i < n = omega (arith, length-table (lent-component ts) (parts-lent ts)) in
+      let here : ComponentFits n (lent-component ts i) =
+      rw (table-at (lent-component ts) (parts-lent ts) i blank-component low) at
+      (all-at (ComponentFits n) (lent-table ts .parts) blank-component i (f .components) inside) in
+      record {
+        operands = here .operands;
+        counted = here .counted;
+        spans = omega (arith, here .counted, few-spans (lent-component ts i) (here .places));
+        port0 = fitting-source n (ports (lent-component ts i .kind)) 0 (lent-component ts i .port0) (f .few) (here .port0);
+        port1 = fitting-source n (ports (lent-component ts i .kind)) 1 (lent-component ts i .port1) (f .few) (here .port1);
+      }
+
+-- the lengths with one part more, as its words tell them
+module _ (ts : List ℕ) (i : ℕ) (fit : PartFits ts i) where
+  pub parts-counted :
+      length (parts-bytes (table (lent-component ts) (i + 1))) ≡
+      length (parts-bytes (table (lent-component ts) i)) + (15 + 5 * stored-component ts i .«span_count»)
+  parts-counted =
+      rw (parts-bytes-more (lent-component ts) i)
+      (omega (
+        arith,
+        length-append (parts-bytes (table (lent-component ts) i)) (part-text (lent-component ts i)),
+        part-length (lent-component ts i),
+        fit .counted,
+      ))
+
+  pub wires-counted :
+      length (wires-bytes 0 (table (lent-component ts) (i + 1))) ≡
+      length (wires-bytes 0 (table (lent-component ts) i)) +
+      (length (port-bytes 0 0 (stored-component ts i .port0)) + length (port-bytes 0 0 (stored-component ts i .port1)))
+  unfolding lent-component trimmed-component
+  wires-counted =
+      rw (wires-bytes-more (lent-component ts) i)
+      (omega (
+        arith,
+        length-append (wires-bytes 0 (table (lent-component ts) i)) (wires-text i (lent-component ts i)),
+        wires-length i (lent-component ts i),
+      ))
+
+-- how long the whole table's bytes are
+pub table-length : (t : Table) → length (table-bytes t) ≡ length (parts-bytes (t .parts)) + 2 + length (wires-bytes 0 (t .parts)) + 1
+unfolding table-bytes
+table-length t =
+    let parts = parts-bytes (t .parts) in
+    let wires = wires-bytes 0 (t .parts) in
+    omega (arith, length-append parts (wires ++ (end-byte ∷ [])), length-append wires (end-byte ∷ []))
+
+-- with a part of the table and its wires, no more than those of all parts
+module _ (ts : List ℕ) (i : ℕ) (low : i < parts-lent ts) where
+  pub parts-within : length (parts-bytes (table (lent-component ts) (i + 1))) ≤ length (parts-bytes (lent-table ts .parts))
+  unfolding lent-table
+  parts-within =
+      grows (λ (n : ℕ). parts-bytes (table (lent-component ts) n)) (λ (n : ℕ). part-text (lent-component ts n)) (parts-bytes-more (lent-component ts)) (i + 1)
+      (parts-lent ts) (omega arith)
+
+  pub wires-within : length (wires-bytes 0 (table (lent-component ts) (i + 1))) ≤ length (wires-bytes 0 (lent-table ts .parts))
+  unfolding lent-table
+  wires-within =
+      grows (λ (n : ℕ). wires-bytes 0 (table (lent-component ts) n)) (λ (n : ℕ). wires-text n (lent-component ts n)) (wires-bytes-more (lent-component ts)) (i + 1)
+      (parts-lent ts) (omega arith)

@@ -1,0 +1,40 @@
+-- What a save on lent words promises, for every argument, and what follows for a caller. Assumes nothing.
+use Prim.Native.Nat.{ℕ}
+use mathlib.Core.Path.{_≡_, refl, sym, ap, _∙_}
+use mathlib.Core.Bool.{Bool, true, false, cond, _&&_}
+use mathlib.Core.Logic.{_⊎_, inl, inr}
+use mathlib.Core.List.{List, _++_}
+use lib.Dec.{eqb, leb}
+use lib.ListN.{length, take, drop}
+use lib.Seq.{take-at, drop-at}
+use Rattle.machine.specs.declared.model.Written.{Written}
+use Rattle.machine.specs.Model.{trimmed}
+use Rattle.machine.specs.Sound.{sound}
+use Rattle.machine.specs.Writing.{WrittenAs}
+use Rattle.machine.specs.Save.{saved-bytes, save-refusal}
+use Rattle.laws.specs.Bools.{either, and-false-cases}
+use Rattle.store.specs.Held.{held}
+use Rattle.store.specs.Form.{spelled}
+
+-- what refuses a save of words before 25 is tested: 24, if they spell no model, or one that is not sound
+unfoldable pub lent-refusal : List ℕ → List ℕ → ℕ
+lent-refusal ts ss = cond (spelled ts ss) (save-refusal (trimmed (held ts ss))) 24
+
+-- the words of a table and of a state, a buffer before and after a save of them, and its answer
+abbrev pub SavedInto : (ts ss before after : List ℕ) → Written → Type 0
+SavedInto ts ss before after w = WrittenAs (lent-refusal ts ss) (saved-bytes (trimmed (held ts ss))) before after w
+
+-- words of a sound model are not refused, and others are
+pub sound-saved : (ts ss : List ℕ) → spelled ts ss ≡ true → sound (trimmed (held ts ss)) ≡ true → lent-refusal ts ss ≡ 0
+unfolding lent-refusal save-refusal
+sound-saved ts ss spells sounds = rw (spells, sounds) refl
+
+pub unsound-refused : (ts ss : List ℕ) → (spelled ts ss && sound (trimmed (held ts ss))) ≡ false → lent-refusal ts ss ≡ 24
+unfolding lent-refusal save-refusal
+unsound-refused ts ss none = cases (and-false-cases (spelled ts ss) (sound (trimmed (held ts ss))) none) (either (spelled ts ss))
+  where
+    cases : (spelled ts ss ≡ false) ⊎ (sound (trimmed (held ts ss)) ≡ false) → (spelled ts ss ≡ true) ⊎ (spelled ts ss ≡ false) →
+        _≡_ {A = ℕ} (cond (spelled ts ss) (cond (sound (trimmed (held ts ss))) 0 24) 24) 24
+    cases (inl no-model) known = rw no-model refl
+    cases (inr unsound) (inl spells) = rw (spells, unsound) refl
+    cases (inr unsound) (inr no-model) = rw no-model refl
