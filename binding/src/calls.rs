@@ -33,6 +33,16 @@ extern "C" {
         out: *mut u64,
         out_length: usize,
     ) -> u64;
+    fn dozhumek_save(
+        table: *const u64,
+        table_length: usize,
+        state: *const u64,
+        state_length: usize,
+        buffer: *mut u8,
+        buffer_length: usize,
+        out: *mut u64,
+        out_length: usize,
+    ) -> u64;
 }
 
 /// The table at the start of a stream, loaded into the words of a table and of a state. Written into `out` are the number,
@@ -86,4 +96,22 @@ pub fn advance_into(table: &[u64], old: &[u64], wanted: u64, new: &mut [u64], ou
 /// where the number is 0, and else the old one again.
 pub fn preview_into(table: &[u64], old: &[u64], wanted: u64, new: &mut [u64], out: &mut [u64]) -> u64 {
     made(dozhumek_preview, table, old, wanted, new, out)
+}
+
+/// The table of the model of these words, saved as bytes at the front of a buffer. Written into `out` are the number, which is
+/// the answer too, and the length: with number 0 that of the bytes, with 25 that of the buffer needed, else 0.
+pub fn save_into(table: &[u64], state: &[u64], buffer: &mut [u8], out: &mut [u64]) -> u64 {
+    // SAFETY: the slices are whole, and those that are written overlap no other, by their types.
+    unsafe {
+        dozhumek_save(
+            table.as_ptr(),
+            table.len(),
+            state.as_ptr(),
+            state.len(),
+            buffer.as_mut_ptr(),
+            buffer.len(),
+            out.as_mut_ptr(),
+            out.len(),
+        )
+    }
 }

@@ -1,11 +1,11 @@
-//! The rehearsal master's calls `load`, `advance` and `preview`. The calls themselves are the proved ones of the static
-//! library, and work in words of 64 bits that they are lent (`load_into`, `advance_into`, `preview_into`); here is the owner of
-//! those words, and what they say as typed records. The crate `store` of the repository defines the words, in `specs/Held.antt` and
+//! The rehearsal master's calls `load`, `advance`, `preview` and `save`. The calls themselves are the proved ones of the static
+//! library, and work in words of 64 bits that they are lent (`load_into`, `advance_into`, `preview_into`, `save_into`); here is
+//! the owner of those words, and what they say as typed records. The crate `store` of the repository defines the words, in `specs/Held.antt` and
 //! `specs/Form.antt`.
 mod calls;
 mod part;
 
-pub use calls::{advance_into, load_into, preview_into};
+pub use calls::{advance_into, load_into, preview_into, save_into};
 pub use part::{Kind, Mark, Part, Side, KINDS};
 
 /// How many parts a model has room for, and how many spans a part.
@@ -111,6 +111,27 @@ impl Model {
         let mut out = [0; 5];
         preview_into(&self.table, &self.state, wanted, &mut state, &mut out);
         Preview { answer: Answer::of_words(out), model: Model::from_words(self.table.clone(), state) }
+    }
+
+    /// The bytes of the model's table, from which `load` makes the fresh model again, wherever this one stands. Where it is not
+    /// sound it has none, and the number, 24, is told.
+    ///
+    /// ```
+    /// // A constant of 3.
+    /// let stream = [1, 0, 2, 0, 255, 3, 0, 0, 0, 0, 0, 0, 0, 0, 0, 0, 0, 5];
+    /// let mut model = dozhumek::load(&stream).model;
+    /// dozhumek::advance(&mut model, 7);
+    /// assert_eq!(model.save(), Ok(stream.to_vec()));
+    /// ```
+    pub fn save(&self) -> Result<Vec<u8>, u64> {
+        // With no room at all the length is told, unless something else bars the call.
+        let mut out = [0; 2];
+        save_into(&self.table, &self.state, &mut [], &mut out);
+        let mut bytes = vec![0; out[1] as usize];
+        match save_into(&self.table, &self.state, &mut bytes, &mut out) {
+            0 => Ok(bytes),
+            number => Err(number),
+        }
     }
 
     /// The table's words.

@@ -1,6 +1,7 @@
-//! Document 01's played examples and a clapper through the binding, previewed and played: what lies in the words comes back
-//! whole, and words that spell no model are refused.
-use dozhumek::{advance, load, preview_into, state_words, table_words, Answer, Kind, Mark, Model, Part, Preview, Side};
+//! Document 01's played examples and a clapper through the binding, previewed, played and saved: what lies in the words comes
+//! back whole, and words that spell no model are refused.
+use dozhumek::{advance, load, preview_into, save_into, state_words, table_words};
+use dozhumek::{Answer, Kind, Mark, Model, Part, Preview, Side};
 
 /// A Part command.
 fn part(kind: u8, a: i32, b: i32, p: u32) -> Vec<u8> {
@@ -41,9 +42,20 @@ fn words(model: &Model) -> (Vec<u64>, Vec<u64>) {
     (model.table().to_vec(), model.state().to_vec())
 }
 
-/// Fails unless a preview and an advance of these words are refused with 24, and leave them.
+/// The number of a save into so many bytes and so many words of an answer, each 9 before, and what they hold then.
+fn saved_into(table: &[u64], state: &[u64], room: usize, words: usize) -> (u64, Vec<u8>, Vec<u64>) {
+    let (mut buffer, mut out) = (vec![9; room], vec![9; words]);
+    let number = save_into(table, state, &mut buffer, &mut out);
+    (number, buffer, out)
+}
+
+/// Fails unless a save, a preview and an advance of these words are refused with 24, and leave them.
 fn refused(table: Vec<u64>, state: Vec<u64>) {
+    for room in [0, 100] {
+        assert_eq!(saved_into(&table, &state, room, 3), (24, vec![9; room], vec![24, 0, 9]));
+    }
     let mut model = Model::from_words(table.clone(), state.clone());
+    assert_eq!(model.save(), Err(24));
     let answer = previewed(&mut model, 1);
     assert_eq!(answer, Answer { number: 24, step: 0, rounds: 0, revisions: 0, ceiling: 0 });
     assert_eq!(words(&model), (table, state));
@@ -234,15 +246,63 @@ fn previews_into_lent_words() {
 }
 
 #[test]
+fn tables_saved() {
+    let parts =
+        [part(2, 0, 0, 0), part(11, -1, 0, 0), span(2), span(1_000_000_000), part(3, 1, -1, 6), part(8, 0, 0, 5)];
+    let wires = [wire(3, 0, 0), wire(2, 0, 1), wire(1, 1, 0), wire(0, 3, 0)];
+    let due = table(&[&parts[..], &wires[..]].concat());
+    // The wires in the opposite order, and one of them as soon as its parts are there.
+    let early = [&parts[..4], &wires[2..3], &parts[4..]].concat();
+    let stream = table(&[&early[..], &[wires[3].clone(), wires[1].clone(), wires[0].clone()]].concat());
+    let mut model = load(&stream).model;
+    let fresh = words(&model);
+    for _ in 0..3 {
+        assert_eq!(model.save(), Ok(due.clone()));
+        assert_eq!(advance(&mut model, 5).number, 0);
+    }
+    let again = load(&model.save().unwrap());
+    assert_eq!((again.number, again.position, words(&again.model)), (0, due.len() as u64, fresh.clone()));
+    assert_ne!(words(&model), fresh);
+}
+
+#[test]
+fn the_default_magnitude_saved() {
+    // The master's is 3.
+    let mut stream = table(&[part(0, 1, 0, 0), part(0, 2, 0, 0)]);
+    (stream[1], stream[4]) = (1, 3);
+    assert_eq!(load(&stream).model.save(), Ok(stream));
+}
+
+#[test]
+fn saves_into_lent_bytes() {
+    let stream = table(&[part(0, 3, 0, 0), part(12, 10, -2, 0), wire(0, 1, 0)]);
+    let length = stream.len();
+    let (table, state) = spelled();
+    let saved = |room: usize, words: usize| saved_into(&table, &state, room, words);
+    for room in [0, 1, length - 1] {
+        assert_eq!(saved(room, 2), (25, vec![9; room], vec![25, length as u64]));
+    }
+    for behind in [0, 1, 1000] {
+        let bytes = [&stream[..], &vec![9; behind]].concat();
+        assert_eq!(saved(length + behind, 3), (0, bytes, vec![0, length as u64, 9]));
+    }
+    for words in [0, 1] {
+        assert_eq!(saved(length, words), (25, vec![9; length], vec![9; words]));
+    }
+}
+
+#[test]
 fn words_that_mean_nothing() {
     let (table, state) = spelled();
     // Words behind the model's, and any word behind an absent signal.
     let mut model = Model::from_words([&table[..], &[9; 7]].concat(), [&state[..], &[9; 7]].concat());
     assert_eq!(advance(&mut model, 1).number, 0);
     assert_eq!(model.state()[state_words(2)..], [9; 7]);
+    assert_eq!(model.save(), Model::from_words(table.clone(), state.clone()).save());
     let mut absent = state;
     absent[state_words(1) + 4] = 9;
-    assert_eq!(advance(&mut Model::from_words(table, absent), 1).number, 0);
+    let mut model = Model::from_words(table, absent);
+    assert_eq!((model.save().is_ok(), advance(&mut model, 1).number), (true, 0));
 }
 
 #[test]

@@ -7,6 +7,7 @@ pub mod model;
 mod order;
 pub mod preview;
 pub mod rehearse;
+pub mod save;
 #[cfg(test)]
 mod tests;
 
@@ -14,4 +15,5 @@ pub use advance::{advance, Answer};
 pub use load::{load, Accepted, Loaded, Refusal};
 pub use model::{Kind, Model, Part, Point, Side, Signal};
 pub use preview::preview;
-pub use rehearse::{rehearse, INPUT_LIMIT};
+pub use rehearse::{input, rehearse, INPUT_LIMIT};
+pub use save::{save, saved, Written};

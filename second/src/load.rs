@@ -1,14 +1,24 @@
 //! Reading a table's bytes into a model.
 
 use crate::advance::fill_start;
-use crate::model::{is_count, is_value, ratio, Kind, Model, Part, Point, LARGEST_MAGNITUDE, MOST_PARTS, MOST_SPANS};
+use crate::model::{
+    is_count, is_value, ratio, Kind, Model, Part, Point, LARGEST_MAGNITUDE, MOST_PARTS, MOST_SPANS, NO_PREFERENCE,
+};
 use crate::order::order;
+use std::fmt;
 
 /// Why a stream was refused, and the position of the command at fault.
 #[derive(Clone, Copy, Debug, PartialEq, Eq)]
 pub struct Refusal {
     pub number: u8,
     pub position: usize,
+}
+
+impl fmt::Display for Refusal {
+    /// As the programs say it.
+    fn fmt(&self, f: &mut fmt::Formatter) -> fmt::Result {
+        write!(f, "refused {} at {}", self.number, self.position)
+    }
 }
 
 /// A fresh model, and the position after End, where the score begins.
@@ -21,11 +31,11 @@ pub struct Accepted {
 pub type Loaded = Result<Accepted, Refusal>;
 
 // The bytes of the commands.
-const BEGIN: u8 = 1;
-const PART: u8 = 2;
-const SPAN: u8 = 3;
-const WIRE: u8 = 4;
-const END: u8 = 5;
+pub(crate) const BEGIN: u8 = 1;
+pub(crate) const PART: u8 = 2;
+pub(crate) const SPAN: u8 = 3;
+pub(crate) const WIRE: u8 = 4;
+pub(crate) const END: u8 = 5;
 const WANTED: u8 = 6;
 
 // The numbers of the refusals.
@@ -98,7 +108,7 @@ fn part(kind: u8, preference: u8, a: i32, b: i32, p: u32) -> Option<Part> {
         _ => return None,
     };
     let preference = match preference {
-        0xFF => None,
+        NO_PREFERENCE => None,
         own if own <= LARGEST_MAGNITUDE => Some(own),
         _ => return None,
     };

@@ -10,6 +10,8 @@ pub const OPERAND_LIMIT: u32 = 1_000_000_000;
 pub const LARGEST_MAGNITUDE: u8 = 15;
 pub const MOST_PARTS: usize = 32;
 pub const MOST_SPANS: usize = 8;
+/// The byte of a part that prefers no magnitude.
+pub const NO_PREFERENCE: u8 = 0xFF;
 
 const POWERS_OF_TEN: [u64; LARGEST_MAGNITUDE as usize + 1] = {
     let mut powers = [1; LARGEST_MAGNITUDE as usize + 1];
@@ -105,6 +107,25 @@ impl Kind {
             Kind::Adder | Kind::Sampler => port < 2,
             Kind::ResetIntegrator { .. } => port == 1,
             _ => false,
+        }
+    }
+
+    /// The kind's number, and its operands a, b and p, 0 where it does not name one.
+    pub fn operands(&self) -> (u8, i32, i32, u32) {
+        match *self {
+            Kind::Constant { a } => (0, a, 0, 0),
+            Kind::Gain { a } => (1, a, 0, 0),
+            Kind::Adder => (2, 0, 0, 0),
+            Kind::Square { a, b, p } => (3, a, b, p),
+            Kind::Pulse { a, p } => (4, a, 0, p),
+            Kind::Delay => (5, 0, 0, 0),
+            Kind::Integrator { a } => (6, a, 0, 0),
+            Kind::ResetIntegrator { a } => (7, a, 0, 0),
+            Kind::Detector { p } => (8, 0, 0, p),
+            Kind::Hold => (9, 0, 0, 0),
+            Kind::Sampler => (10, 0, 0, 0),
+            Kind::Drive { a, .. } => (11, a, 0, 0),
+            Kind::Clapper { a, b } => (12, a, b, 0),
         }
     }
 

@@ -3,16 +3,24 @@
 use crate::advance::Outcome;
 use crate::load::{load, wanted, Refusal};
 use crate::model::Model;
-use std::io::{self, Write};
+use std::io::{self, Read, Write};
 
-/// The program reads no more than this of its input.
+/// A program reads no more than this of its input.
 pub const INPUT_LIMIT: usize = 65_536;
+
+/// What a program reads of its standard input.
+pub fn input() -> Vec<u8> {
+    let mut stream = Vec::with_capacity(INPUT_LIMIT);
+    // A read error ends the input; what came before it is kept.
+    let _ = io::stdin().lock().take(INPUT_LIMIT as u64).read_to_end(&mut stream);
+    stream
+}
 
 /// Writes what the program prints for `stream`.
 pub fn rehearse(stream: &[u8], out: &mut impl Write) -> io::Result<()> {
     match play(stream, out) {
         Ok(()) => Ok(()),
-        Err(Stop::Refused(Refusal { number, position })) => writeln!(out, "refused {number} at {position}"),
+        Err(Stop::Refused(refusal)) => writeln!(out, "{refusal}"),
         Err(Stop::Failed(error)) => Err(error),
     }
 }

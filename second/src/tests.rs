@@ -1,5 +1,6 @@
-//! What the program's output cannot show: refusals 23 and 24, last ceilings, speeds, previews, and the two places where the
-//! library does not follow the document word by word (a drive's longest step, the test of an order), against ones that do.
+//! What the programs' output cannot show: refusals 23 to 25, last ceilings, speeds, previews, saving from any state and
+//! into any room, and the two places where the library does not follow the document word by word (a drive's longest
+//! step, the test of an order), against ones that do.
 
 #[allow(dead_code)]
 #[path = "bin/differ/random.rs"]
@@ -8,7 +9,7 @@ mod random;
 use crate::advance::{local_step, longest_of_drive, LARGEST_WANTED};
 use crate::model::{LAST_TICK, MOST_PARTS};
 use crate::order::{is_the_order, order};
-use crate::{advance, load, preview, rehearse, Answer, Kind, Model, Part, Point, Side};
+use crate::{advance, load, preview, rehearse, save, Answer, Kind, Model, Part, Point, Side, Written};
 use random::Random;
 
 fn bytes(hexadecimal: &str) -> Vec<u8> {
@@ -224,23 +225,25 @@ fn unsound_models_get_24_and_come_back_unchanged() {
     }
 }
 
+/// Edits of `everything`, each of which leads to a state that no run reaches, and leaves it sound.
+const UNREACHED: &[fn(&mut Model)] = &[
+    |m| m.parts[0].output = Some(-1_000_000_000),
+    |m| m.parts[3].output = None,
+    |m| m.parts[0].mark = Some(Side::Negative),
+    |m| m.parts[8].mark = Some(Side::Negative),
+    |m| m.parts[8].side = None,
+    |m| m.parts[9].kept = Some(1_000_000_000),
+    |m| m.parts[0].held = -1_000_000_000,
+    |m| m.parts[12].speed = 1_000_000_000,
+    |m| m.parts[12].speed = -1_000_000_000,
+    |m| (m.parts[12].held, m.parts[12].output) = (1_000_000_000, None),
+    |m| *m = at(m.clone(), LAST_TICK - 10),
+    |m| m.point.n = 999,
+];
+
 #[test]
 fn sound_models_that_no_run_reaches_are_accepted() {
-    let edits: &[fn(&mut Model)] = &[
-        |m| m.parts[0].output = Some(-1_000_000_000),
-        |m| m.parts[3].output = None,
-        |m| m.parts[0].mark = Some(Side::Negative),
-        |m| m.parts[8].mark = Some(Side::Negative),
-        |m| m.parts[8].side = None,
-        |m| m.parts[9].kept = Some(1_000_000_000),
-        |m| m.parts[0].held = -1_000_000_000,
-        |m| m.parts[12].speed = 1_000_000_000,
-        |m| m.parts[12].speed = -1_000_000_000,
-        |m| (m.parts[12].held, m.parts[12].output) = (1_000_000_000, None),
-        |m| *m = at(m.clone(), LAST_TICK - 10),
-        |m| m.point.n = 999,
-    ];
-    for edit in edits {
+    for edit in UNREACHED {
         let mut model = everything();
         edit(&mut model);
         let answer = advance(model, 10);
@@ -358,6 +361,128 @@ fn previews_anywhere_alter_no_answer_of_a_list() {
         (alone, tried) = (answer.model, with.model);
     }
     assert!(alone.point.t > 500);
+}
+
+/// Saves a model into so much room, and fails unless what lies behind the length is kept, and all of it where refused.
+fn saved_into(model: &Model, room: usize) -> (Written, Vec<u8>) {
+    let mut buffer = vec![0xAA; room];
+    let written = save(model, &mut buffer);
+    let taken = if written.number == 0 { written.length } else { 0 };
+    assert!(buffer[taken..].iter().all(|&byte| byte == 0xAA));
+    (written, buffer)
+}
+
+/// The bytes of a sound model.
+fn saved(model: &Model) -> Vec<u8> {
+    let (Written { number, length }, mut buffer) = saved_into(model, 4000);
+    assert_eq!(number, 0);
+    buffer.truncate(length);
+    buffer
+}
+
+#[test]
+fn a_table_is_saved_from_begin_to_end_in_the_writers_order() {
+    // The last wire of the stream goes to the first part, an adder, whose port 1 is wired before its port 0.
+    let stream = bytes(
+        "01 03 02 02 00 00 00 00 00 00 00 00 00 00 00 00 00 02 00 FF FE FF FF FF 00 00 00 00 00 00 00 00 \
+         04 01 00 01 02 0B 05 07 00 00 00 00 00 00 00 00 00 00 00 03 01 00 00 00 03 00 CA 9A 3B \
+         02 03 FF 00 01 00 00 00 00 02 00 03 00 00 00 04 01 02 00 04 03 00 00 05 06 01 00 00 00",
+    );
+    let table = bytes(
+        "01 03 02 02 00 00 00 00 00 00 00 00 00 00 00 00 00 02 00 FF FE FF FF FF 00 00 00 00 00 00 00 00 \
+         02 0B 05 07 00 00 00 00 00 00 00 00 00 00 00 03 01 00 00 00 03 00 CA 9A 3B \
+         02 03 FF 00 01 00 00 00 00 02 00 03 00 00 00 04 03 00 00 04 01 00 01 04 01 02 00 05",
+    );
+    let model = load(&stream).unwrap().model;
+    // The default magnitude is 3, and the master's is 5.
+    assert_eq!((model.magnitude(), saved(&model)), (5, table.clone()));
+    assert_eq!(load(&table).unwrap().model, model);
+}
+
+#[test]
+fn every_room_short_of_a_table_is_refused_and_told_its_length() {
+    let good = everything();
+    let table = saved(&good);
+    let length = table.len();
+    for room in 0..length {
+        assert_eq!(saved_into(&good, room).0, Written { number: 25, length });
+    }
+    for room in [length, length + 1, length + 1000] {
+        let (written, buffer) = saved_into(&good, room);
+        assert_eq!((written, &buffer[..length]), (Written { number: 0, length }, &table[..]));
+    }
+}
+
+#[test]
+fn unsound_models_are_not_saved_whatever_the_room_is() {
+    for (name, edit) in UNSOUND {
+        let mut model = everything();
+        edit(&mut model);
+        for room in [0, 1, 4000] {
+            assert_eq!(saved_into(&model, room).0, Written { number: 24, length: 0 }, "{name}");
+        }
+    }
+}
+
+#[test]
+fn a_model_anywhere_is_saved_as_its_fresh_one() {
+    let good = everything();
+    let table = saved(&good);
+    let again = load(&table).unwrap();
+    assert_eq!((again.model, again.end), (good.clone(), table.len()));
+    let mut random = Random::of_case(5, 0);
+    let mut played = good.clone();
+    for _ in 0..200 {
+        played = advance(played, 1 + random.below(60) as u64).model;
+        assert_eq!(saved(&played), table);
+    }
+    assert_ne!(played, good);
+    for edit in UNREACHED {
+        let mut model = good.clone();
+        edit(&mut model);
+        assert_eq!(saved(&model), table);
+    }
+}
+
+#[test]
+fn another_table_has_other_bytes() {
+    let edits: &[fn(&mut Model)] = &[
+        |m| m.default_magnitude = 0,
+        |m| m.default_magnitude = 2,
+        // Ratio 1, as without a preference.
+        |m| m.parts[0].preference = Some(2),
+        |m| m.parts[1].preference = None,
+        |m| m.parts[0].kind = Kind::Constant { a: -3 },
+        |m| m.parts[3].kind = Kind::Square { a: 5, b: 5, p: 4 },
+        |m| m.parts[3].kind = Kind::Square { a: 5, b: -5, p: 1_000_000_000 },
+        |m| m.parts[12].kind = Kind::Clapper { a: -8, b: 1_000_000_000 },
+        |m| m.parts[11].kind = Kind::Drive { a: 1, spans: vec![] },
+        |m| m.parts[11].kind = Kind::Drive { a: 1, spans: vec![1, 2, 17] },
+        |m| m.parts[6].kind = Kind::Drive { a: 9, spans: vec![] },
+        |m| m.parts[6].inputs[0] = None,
+        |m| m.parts[6].inputs[0] = Some(6),
+        |m| m.parts[2].inputs.swap(0, 1),
+    ];
+    let mut all = vec![saved(&everything())];
+    for edit in edits {
+        let mut model = everything();
+        edit(&mut model);
+        let bytes = saved(&model);
+        assert!(!all.contains(&bytes), "{model:?}");
+        assert_eq!(saved(&load(&bytes).unwrap().model), bytes);
+        all.push(bytes);
+    }
+}
+
+#[test]
+fn the_longest_table_is_saved() {
+    let drive =
+        [part(11, 15, -1_000_000_000, 0, 0), (1..9).flat_map(|s: u32| [&[3], &s.to_le_bytes()[..]].concat()).collect()];
+    let mut commands = vec![1, 15];
+    commands.extend(drive.concat().repeat(MOST_PARTS));
+    commands.extend((0..MOST_PARTS as u8).flat_map(|number| [4, 31 - number, number, 0]));
+    commands.push(5);
+    assert_eq!((saved(&load(&commands).unwrap().model), commands.len()), (commands, 1891));
 }
 
 #[test]

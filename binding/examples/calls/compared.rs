@@ -1,10 +1,11 @@
 //! One load and one advance by both, compared: as it is, through the binding, and with too few words. Each advance is previewed
-//! as well.
+//! as well, and each model's table saved.
 
 use crate::alter::any;
-use crate::lent::{self, fewer, same_records, spare, state_words, table_words, Call, ADVANCE, TOO_SHORT};
+use crate::lent::{self, cut, fewer, same_records, spare, state_words, table_words, Call, Load, ADVANCE, TOO_SHORT};
 use crate::previewed::preview;
 use crate::random::Random;
+use crate::saved::{save, save_fresh};
 use crate::seen::Seen;
 use crate::words::*;
 use second::Model;
@@ -51,10 +52,9 @@ fn expected(given: &Words, w: u64) -> Result<Expected, String> {
     Ok(Expected { counts, model, by_rule: false })
 }
 
-/// Loads a stream with both. The second implementation's model, if it is accepted.
-pub fn load(stream: &[u8], random: &mut Random, seen: &mut Seen) -> Result<Option<Model>, String> {
+/// Loads a stream with both. What the call leaves, and the second implementation's model, if it is accepted.
+pub fn load_both(stream: &[u8], random: &mut Random) -> Result<(Load, Option<Model>), String> {
     let fill = any(random);
-    seen.loads += 1;
     let (number, position, loaded) = match second::load(stream) {
         Ok(accepted) => (0, accepted.end as u64, Some(accepted.model)),
         Err(refusal) => (u64::from(refusal.number), refusal.position as u64, None),
@@ -65,7 +65,6 @@ pub fn load(stream: &[u8], random: &mut Random, seen: &mut Seen) -> Result<Optio
     if got.code != number || got.out[..2] != [number, position] || got.out[2..].iter().any(|&word| word != fill) {
         return Err(format!("load answers {} and {:?} instead of {number} at {position}", got.code, got.out));
     }
-    seen.load_numbers[number as usize] += 1;
     let words = Words::of_lent(&got.table, &got.state);
     match &loaded {
         Some(model) => {
@@ -81,11 +80,23 @@ pub fn load(stream: &[u8], random: &mut Random, seen: &mut Seen) -> Result<Optio
         None if !got.kept(fill) => return Err("a refused load writes a model".to_string()),
         None => {}
     }
+    Ok((got, loaded))
+}
+
+/// Loads a stream with both, and saves what is accepted. The second implementation's model, if it is.
+pub fn load(stream: &[u8], random: &mut Random, seen: &mut Seen) -> Result<Option<Model>, String> {
+    seen.loads += 1;
+    let (got, loaded) = load_both(stream, random)?;
+    let (said, count) = ([got.out[0], got.out[1]], loaded.as_ref().map_or(0, |model| model.parts.len()));
+    seen.load_numbers[said[0] as usize] += 1;
     if random.once_in(8) {
-        load_bound(stream, [number, position], count)?;
+        load_bound(stream, said, count)?;
         seen.count("load through the binding");
     }
-    load_short(stream, [number, position], count, fill, random, seen)?;
+    load_short(stream, said, count, random, seen)?;
+    if let Some(model) = &loaded {
+        save_fresh(&got.table, &got.state, model, random, seen).map_err(|what| format!("save: {what}"))?;
+    }
     Ok(loaded)
 }
 
@@ -105,11 +116,10 @@ fn load_short(
     stream: &[u8],
     [number, position]: [u64; 2],
     count: usize,
-    fill: u64,
     random: &mut Random,
     seen: &mut Seen,
 ) -> Result<(), String> {
-    let (table, state) = (table_words(count), state_words(count));
+    let (fill, table, state) = (any(random), table_words(count), state_words(count));
     if random.once_in(8) {
         let lengths = match random.below(3) {
             0 => [fewer(table, random), state, 2],
@@ -163,13 +173,14 @@ fn lend(given: &Words, random: &mut Random, seen: &mut Seen) -> (Vec<u64>, Vec<u
     (table, state)
 }
 
-/// Advances a model with both, and previews it. The number, and the model afterwards.
+/// Advances a model with both, previews it and saves its table. The number, and the model afterwards.
 pub fn advance(given: &Words, w: u64, random: &mut Random, seen: &mut Seen) -> Result<(u64, Words), String> {
     let want = expected(given, w)?;
     let fill = any(random);
     seen.advances += 1;
     let (table, old) = lend(given, random, seen);
     preview(&table, &old, w, &want, random, seen).map_err(|what| format!("preview: {what}"))?;
+    save(&table, &old, given, random, seen).map_err(|what| format!("save: {what}"))?;
     let needed = want.needed();
     let got = ADVANCE.made(&table, &old, w, [needed + spare(random), 5 + spare(random)], fill);
     got.says(&want.counts, fill)?;
@@ -224,14 +235,10 @@ pub fn short(
     seen: &mut Seen,
 ) -> Result<bool, String> {
     let (fill, needed) = (any(random), want.needed());
-    let of_table = table_words(want.model.0[COUNT].min(PARTS as u64) as usize);
     if random.once_in(16) {
-        let (cut_table, cut_old) = match random.below(3) {
-            0 => (fewer(of_table, random), old.len()),
-            1 => (table.len(), fewer(needed, random)),
-            _ => (fewer(of_table, random), fewer(needed, random)),
-        };
-        let got = call.made(&table[..cut_table], &old[..cut_old], w, [needed, 5], fill);
+        let parts = want.model.0[COUNT].min(PARTS as u64) as usize;
+        let (table, old) = cut(table, old, parts, random);
+        let got = call.made(table, old, w, [needed, 5], fill);
         got.bars(NOT_SOUND, fill)?;
         seen.count(call.of_too_few);
     }

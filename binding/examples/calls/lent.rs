@@ -123,6 +123,14 @@ pub fn fewer(needed: usize, random: &mut Random) -> usize {
     random.pick(&[0, 1.min(needed - 1), needed - 1, needed - 1, any])
 }
 
+/// The words of a table and of a state of so many parts, too few of either or of both.
+pub fn cut<'a>(table: &'a [u64], state: &'a [u64], parts: usize, random: &mut Random) -> (&'a [u64], &'a [u64]) {
+    let which = random.below(3);
+    let table = if which == 1 { table } else { &table[..fewer(table_words(parts), random)] };
+    let state = if which == 0 { state } else { &state[..fewer(state_words(parts), random)] };
+    (table, state)
+}
+
 /// The words of a part, by the binding's record of it.
 fn part_words(part: &dozhumek::Part) -> [u64; PART_WORDS] {
     let mut words = [0; PART_WORDS];

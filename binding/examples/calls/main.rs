@@ -1,5 +1,5 @@
-//! Compares the calls `load`, `advance` and `preview` of the static library with the second implementation, on models that no
-//! stream leads to as well: at the last tick and microstep, with any wanted step, and unsound in every way.
+//! Compares the calls `load`, `advance`, `preview` and `save` of the static library with the second implementation, on models
+//! that no stream leads to as well: at the last tick and microstep, with any wanted step, and unsound in every way.
 //!
 //!     calls [--calls N] [--seed S] [--only CASE] [--trace 1]
 //!
@@ -8,7 +8,9 @@
 //! model, what lies behind them, which is noise, with what was lent. Where words spell no model, or one that cannot be said in
 //! the second implementation's types, it is unsound, so the answer is by rule: 24, counts 0, and nothing written. Each advance is
 //! previewed on the same words before it is made: the answer has to be the advance's, and the new state that of the answer's
-//! model, which is the old one where the call is refused; only words that spell no model leave none. What differs is
+//! model, which is the old one where the call is refused; only words that spell no model leave none. Every model that is loaded
+//! or advanced is saved, into room of every sort, and compared byte for byte, with what lies behind. Of every accepted stream,
+//! and of some models that were moved or altered, the saved bytes are loaded again by both, and saved again. What differs is
 //! printed with its seed, case and words; --only repeats one case, --trace tells each case's number before it is tried.
 //! The status is 0 only if nothing differs and all sorts were reached.
 
@@ -31,6 +33,7 @@ mod previewed;
 #[allow(dead_code)]
 #[path = "../../../second/src/bin/differ/random.rs"]
 mod random;
+mod saved;
 mod seen;
 #[allow(dead_code)]
 #[path = "../../../second/src/bin/differ/swept.rs"]

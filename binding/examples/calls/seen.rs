@@ -14,6 +14,7 @@ pub struct Seen {
     pub load_numbers: [u64; 32],
     numbers: [u64; 32],
     preview_numbers: [u64; 32],
+    save_numbers: [u64; 32],
     /// Answers of 24 for models that the second implementation's types cannot say.
     by_rule: u64,
     /// By name: altered models that are sound, and that are not.
@@ -40,7 +41,7 @@ const WANTED: [(&str, fn(u64) -> bool); 10] = [
 ];
 
 /// What else has to be tried.
-const OTHERS: [&str; 30] = [
+const OTHERS: [&str; 43] = [
     "load through the binding",
     "load into too few words",
     "refused load into too few words",
@@ -55,6 +56,19 @@ const OTHERS: [&str; 30] = [
     "preview into too few words",
     "barred preview into too few words",
     "preview with too little room",
+    "save into no room",
+    "save into room short by a byte",
+    "save into exact room",
+    "save into longer room",
+    "barred save into no room",
+    "barred save into a byte",
+    "barred save into some room",
+    "barred save into room for any table",
+    "save through the binding",
+    "save of too few words",
+    "save with too little room",
+    "a fresh model's table loaded again",
+    "any model's table loaded again",
     "words behind all places",
     "no word behind the model",
     "a word behind an absent signal",
@@ -85,6 +99,11 @@ impl Seen {
     /// Counts a preview that agreed, by its number.
     pub fn preview(&mut self, number: u64) {
         self.preview_numbers[number as usize] += 1;
+    }
+
+    /// Counts a save that agreed, by its number.
+    pub fn save(&mut self, number: u64) {
+        self.save_numbers[number as usize] += 1;
     }
 
     /// Counts the kinds of a model that was loaded and played.
@@ -166,6 +185,9 @@ impl Seen {
         for number in [0, 20, 21, 22, 23, 24, 25] {
             must(self.preview_numbers[number] > 0, format!("number {number} of a preview"));
         }
+        for number in [0, 24, 25] {
+            must(self.save_numbers[number] > 0, format!("number {number} of a save"));
+        }
         must(self.by_rule > 0, "models that the second implementation cannot say".to_string());
         for (name, then, _) in SORTS.iter().chain(MALFORMED) {
             let [sound, unsound] = self.sorts.get(name).copied().unwrap_or_default();
@@ -200,7 +222,7 @@ impl Seen {
             .collect();
         let others: Vec<String> = self.others.iter().map(|(name, count)| format!("{name} {count}")).collect();
         format!(
-            "{} loads{}; {} advances{}, {} of 24 by rule; {} previews{}; at most {} rounds and {} revisions; altered \
+            "{} loads{}; {} advances{}, {} of 24 by rule; {} previews{}; {} saves{}; at most {} rounds and {} revisions; altered \
              (sound+unsound where both can be): {}; {}; kinds{}",
             self.loads,
             numbers(&self.load_numbers),
@@ -209,6 +231,8 @@ impl Seen {
             self.by_rule,
             self.preview_numbers.iter().sum::<u64>(),
             numbers(&self.preview_numbers),
+            self.save_numbers.iter().sum::<u64>(),
+            numbers(&self.save_numbers),
             self.most_rounds,
             self.most_revisions,
             sorts.join(", "),

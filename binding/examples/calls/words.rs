@@ -178,28 +178,9 @@ fn side_code(side: Option<Side>) -> u64 {
     }
 }
 
-/// A kind's number, and its operands a, b and p.
-fn operands(kind: &Kind) -> (u64, i32, i32, u32) {
-    match *kind {
-        Kind::Constant { a } => (0, a, 0, 0),
-        Kind::Gain { a } => (1, a, 0, 0),
-        Kind::Adder => (2, 0, 0, 0),
-        Kind::Square { a, b, p } => (3, a, b, p),
-        Kind::Pulse { a, p } => (4, a, 0, p),
-        Kind::Delay => (5, 0, 0, 0),
-        Kind::Integrator { a } => (6, a, 0, 0),
-        Kind::ResetIntegrator { a } => (7, a, 0, 0),
-        Kind::Detector { p } => (8, 0, 0, p),
-        Kind::Hold => (9, 0, 0, 0),
-        Kind::Sampler => (10, 0, 0, 0),
-        Kind::Drive { a, .. } => (11, a, 0, 0),
-        Kind::Clapper { a, b } => (12, a, b, 0),
-    }
-}
-
 fn put_part(words: &mut [u64], part: &Part) {
-    let (kind, a, b, p) = operands(&part.kind);
-    words[KIND] = kind;
+    let (kind, a, b, p) = part.kind.operands();
+    words[KIND] = kind.into();
     words[PREFERENCE] = part.preference.map_or(NO_PREFERENCE, u64::from);
     (words[A], words[B], words[P]) = (signed(a), signed(b), p.into());
     let spans = if let Kind::Drive { spans, .. } = &part.kind { &spans[..] } else { &[] };

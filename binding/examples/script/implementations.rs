@@ -22,11 +22,18 @@ pub struct Preview {
     pub model: Words,
 }
 
+/// What a writing call answers: the number and the length.
+pub struct Written {
+    pub number: u64,
+    pub length: u64,
+}
+
 /// The calls that a script can make.
 pub trait Calls {
     fn load(stream: &[u8]) -> Loaded;
     fn advance(model: &Words, wanted: u64) -> Answer;
     fn preview(model: &Words, wanted: u64) -> Preview;
+    fn save(model: &Words, buffer: &mut [u8]) -> Written;
 }
 
 /// The proved calls of the static library.
@@ -64,17 +71,26 @@ impl Calls for Verified {
         let preview = model.preview(wanted);
         Preview { answer: answer_of(preview.answer, &preview.model), model: words_of(&model) }
     }
+
+    fn save(model: &Words, buffer: &mut [u8]) -> Written {
+        let mut out = [0; 2];
+        dozhumek::save_into(&model.table(), &model.state(), buffer, &mut out);
+        let [number, length] = out;
+        Written { number, length }
+    }
 }
 
 /// The calls of the second implementation.
 pub struct Second;
 
+/// The number of words that spell no model, or one that its types cannot say and that is then not sound.
+const NOT_SOUND: u64 = 24;
+
 /// What a call of the second implementation answers for the model that these words mean.
 fn answered(words: &Words, call: impl FnOnce(second::Model) -> second::Answer) -> Answer {
     let mut words = words.clone();
     let Some(meant) = words.model() else {
-        // The words spell no model, or its types cannot say it, and then it is not sound.
-        return Answer { counts: [24, 0, 0, 0, 0], model: words };
+        return Answer { counts: [NOT_SOUND, 0, 0, 0, 0], model: words };
     };
     let answer = call(meant);
     words.put(&answer.model);
@@ -109,5 +125,13 @@ impl Calls for Second {
             answer
         });
         Preview { answer, model: given }
+    }
+
+    fn save(model: &Words, buffer: &mut [u8]) -> Written {
+        let Some(meant) = model.model() else {
+            return Written { number: NOT_SOUND, length: 0 };
+        };
+        let written = second::save(&meant, buffer);
+        Written { number: written.number.into(), length: written.length as u64 }
     }
 }

@@ -1,11 +1,15 @@
 //! The lines of a script: their words, the registers that they name, and the answers as they are printed.
 
 use crate::alterations::{alter, number};
-use crate::implementations::{Answer, Calls, Preview};
+use crate::implementations::{Answer, Calls, Preview, Written};
 use crate::words::{Words, COUNT, N, OUTPUT, PARTS, T};
 use std::collections::BTreeMap;
 use std::fmt::Write;
 use std::marker::PhantomData;
+
+/// The most bytes that a line can lend, and each of them before the call.
+const MOST_ROOM: usize = 1 << 20;
+const LENT: u8 = 0xAA;
 
 /// The models by the names of their registers; a register that was never set holds no model.
 pub struct Registers<C> {
@@ -54,6 +58,11 @@ impl<C: Calls> Registers<C> {
                 self.models.insert(name, model);
                 Some(format!("preview {}", said(&answer)))
             }
+            ["save", name, room] => {
+                let (name, mut buffer) = (register(name)?, lent(room)?);
+                let written = C::save(&self.model(&name), &mut buffer);
+                Some(format!("save {}", left(written, &buffer)))
+            }
             ["alter", name, ref field @ .., value] => {
                 let name = register(name)?;
                 let mut model = self.model(&name);
@@ -88,6 +97,24 @@ fn bytes(word: &str) -> Option<Vec<u8>> {
         return None;
     }
     pairs.iter().map(|&[high, low]| Some(16 * digit(high)? + digit(low)?)).collect()
+}
+
+/// Bytes as a script spells them.
+pub fn hexadecimal(bytes: &[u8]) -> String {
+    if bytes.is_empty() {
+        return ".".to_string();
+    }
+    bytes.iter().map(|byte| format!("{byte:02x}")).collect()
+}
+
+/// The buffer of so many bytes that a line lends; none where they are more than a line can.
+fn lent(room: &str) -> Option<Vec<u8>> {
+    number(room).filter(|&room| room <= MOST_ROOM).map(|room| vec![LENT; room])
+}
+
+/// What a writing call leaves, as a script prints it: its answer and the whole buffer.
+fn left(Written { number, length }: Written, buffer: &[u8]) -> String {
+    format!("{number} {length} {}", hexadecimal(buffer))
 }
 
 /// An answer as a script prints it: outputs by part number, none of them where there are more parts than room for them.

@@ -4,9 +4,10 @@
 //!
 //! Each case loads a stream of `second/src/bin/differ` into one of a few registers, plays some steps, and then alters the
 //! model in the ways of `examples/calls`, plays on, and mostly takes the alteration back. Before some advances the model is
-//! previewed, by the same wanted step or by others. The second implementation tells what the registers hold meanwhile. The
-//! bytes of unused places are free, so none comes into use that was not written by a line before. The status is 1, and what is
-//! missing is said, where a number, a field or a sort was not reached.
+//! previewed, by the same wanted step or by others, or its table is saved, into room that is exact, short by a byte, longer or
+//! none; so is at times what a register holds before its load. The second implementation tells what the registers hold
+//! meanwhile. The bytes of unused places are free, so none comes into use that was not written by a line before. The status is
+//! 1, and what is missing is said, where a number, a field, a sort or a room was not reached.
 
 #[allow(dead_code)]
 #[path = "../calls/alter.rs"]
@@ -46,17 +47,23 @@ mod words;
 use alter::{Then, SORTS, SOUND};
 use implementations::Second;
 use random::Random;
-use registers::Registers;
+use registers::{hexadecimal, Registers};
 use std::collections::BTreeSet;
 use std::process::ExitCode;
 use wanted::wanted;
-use words::Words;
+use words::{Words, T};
 
 const NAMES: [&str; 4] = ["m0", "m1", "drum", "7"];
 
 /// The numbers of a load, and those of an advance, which a preview has too.
 const LOADS: [u64; 12] = [0, 1, 2, 3, 5, 6, 7, 8, 9, 10, 11, 12];
 const ADVANCES: [u64; 6] = [0, 20, 21, 22, 23, 24];
+
+/// What a save's room is, and the number of a save of a sound model into it.
+const ROOMS: [(&str, u64); 4] = [("exact", 0), ("a byte short", 25), ("longer", 0), ("none", 25)];
+
+/// What a save is of.
+const SAVED: [&str; 3] = ["no model", "a model at tick 0", "a model at a later tick"];
 
 /// A script, what its registers hold at its end, and what it reached.
 #[derive(Default)]
@@ -67,7 +74,7 @@ struct Made {
 }
 
 impl Made {
-    /// Puts a line behind the others. The number that it is answered, of a load, an advance or a preview.
+    /// Puts a line behind the others. The number that it is answered, of a call.
     fn line(&mut self, line: &str) -> Option<u64> {
         self.script.push_str(line);
         self.script.push('\n');
@@ -91,12 +98,33 @@ impl Made {
         }
     }
 
-    /// Advances a model by some step, up to `most` times, with previews before. The last number of an advance.
+    /// Saves a model's table into some room. One that is not sound has no length, and is given one.
+    fn save(&mut self, name: &str, random: &mut Random) {
+        let words = self.words(name);
+        let sound = words.model().filter(|model| model.sound());
+        let length = sound.map_or_else(|| random.pick(&[1, 18, 400]), |model| second::saved(&model).len());
+        let (kind, _) = random.pick(&ROOMS);
+        let room = match kind {
+            "exact" => length,
+            "a byte short" => length - 1,
+            "longer" => length + 1 + random.pick(&[0, 0, 1, 7, 60]),
+            _ => 0,
+        };
+        let number = self.line(&format!("save {name} {room}")).unwrap_or(0);
+        self.reached.insert(format!("room {kind}, {number}"));
+        let what = if words.count() == 0 { 0 } else { 1 + usize::from(words.0[T] > 0) };
+        self.reached.insert(format!("save {number} of {}", SAVED[what]));
+    }
+
+    /// Advances a model by some step, up to `most` times, with previews and saves before. The last number of an advance.
     fn play(&mut self, name: &str, most: usize, random: &mut Random) -> Option<u64> {
         let mut number = None;
         for _ in 0..1 + random.below(most) {
             let w = wanted(&self.words(name), random);
             self.preview(name, w, random);
+            if random.once_in(6) {
+                self.save(name, random);
+            }
             number = self.line(&format!("advance {name} {w}"));
         }
         number
@@ -139,8 +167,10 @@ impl Made {
             // The score is played by the lines, and its bytes are seldom needed.
             stream.truncate(accepted.end + random.pick(&[0, 0, 0, 1, 10]));
         }
-        let hex: String = stream.iter().map(|byte| format!("{byte:02x}")).collect();
-        let number = self.line(&format!("load {name} {}", if hex.is_empty() { "." } else { &hex }));
+        if random.once_in(20) {
+            self.save(name, random);
+        }
+        let number = self.line(&format!("load {name} {}", hexadecimal(&stream)));
         if number != Some(0) && !random.once_in(4) {
             return;
         }
@@ -157,9 +187,20 @@ impl Made {
         let loads = LOADS.iter().map(|number| format!("load {number}"));
         let of_both = |number| ["advance", "preview"].map(|call| format!("{call} {number}"));
         let advances = ADVANCES.iter().flat_map(of_both);
+        let rooms =
+            ROOMS.iter().flat_map(|(kind, number)| [*number, 24].map(|number| format!("room {kind}, {number}")));
+        let of_none = [format!("save 24 of {}", SAVED[0])];
+        let of_some = SAVED[1..].iter().flat_map(|what| [0, 24, 25].map(|number| format!("save {number} of {what}")));
+        let saves = rooms.chain(of_none).chain(of_some);
         let named = fields::NAMES.iter().map(|field| format!("field {field}"));
         let sorts = SORTS.iter().filter(|sort| sort.0 != "as it was").map(|sort| format!("sort {}", sort.0));
-        loads.chain(advances).chain(named).chain(sorts).filter(|what| !self.reached.contains(what)).collect()
+        loads
+            .chain(advances)
+            .chain(saves)
+            .chain(named)
+            .chain(sorts)
+            .filter(|what| !self.reached.contains(what))
+            .collect()
     }
 }
 

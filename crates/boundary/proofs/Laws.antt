@@ -1,27 +1,26 @@
--- Laws behind the exported calls: words written at the start of a list, when a load is accepted, and what a loaded model is. Assumes nothing.
+-- Laws behind the exported calls: words written at the start of a list, when a load is accepted, and what each call comes to. Assumes nothing.
 use Prim.Native.Nat.{ℕ, zero, suc, _≤_, _<_}
 use native.Mathlib.Omega.{arith}
 use mathlib.Core.Path.{_≡_, refl, sym, ap, subst, _∙_}
 use mathlib.Core.Bool.{true}
 use mathlib.Core.List.{List, [], _∷_}
-use lib.ListN.{length, set, drop, length-map}
+use lib.ListN.{length, set, drop}
 use borrow.Author.Tests.{eq-eqb, ne-eqb, le-leb, lt-leb}
-use Rattle.machine.specs.declared.part.Part.{Part}
 use Rattle.machine.specs.declared.model.Model.{Model}
 use Rattle.machine.specs.declared.model.Loaded.{Loaded}
-use Rattle.machine.specs.Model.{most-parts, trimmed, trimmed-loaded}
+use Rattle.machine.specs.declared.model.Written.{Written}
+use Rattle.machine.specs.Model.{trimmed, trimmed-loaded}
 use Rattle.machine.specs.Load.{load}
-use Rattle.machine.specs.Table.{table-of}
 use Rattle.machine.specs.Sound.{sound}
 use Rattle.machine.specs.Advance.{Outcome}
-use Rattle.soundness.specs.Facts.{sound-facts, table-facts}
 use Rattle.store.specs.Held.{table-words, state-words-of}
 use Rattle.transfer.specs.ModelPut.{KeptBehind, ModelPut}
 use Rattle.loading.specs.LoadOwed.{accepted-is-a-table}
 use Rattle.master.specs.declared.verdict.Verdict.{Verdict}
 use Rattle.master.specs.Into.{verdict-of, outcome-into, CalledInto}
 use Rattle.preview.specs.PreviewedInto.{PreviewedInto}
-use Rattle.boundary.specs.Exported.{taken-number, TakenIn, LoadedWords, outcome-words, AdvancedWords, PreviewedWords}
+use Rattle.saving.specs.SavedInto.{SavedInto}
+use Rattle.boundary.specs.Exported.{taken-number, TakenIn, LoadedWords, outcome-words, AdvancedWords, PreviewedWords, SavedWords}
 
 -- two words written at the start of a list
 pub two-written : (o : List ℕ) (a b : ℕ) → 2 ≤ length o → set (set o 0 a) 1 b ≡ a ∷ b ∷ drop 2 o
@@ -84,19 +83,6 @@ taken-put m number a b s t none room spare put behind =
       behind = λ zero. behind;
       kept = λ other. absurd (other refl);
     }
-
--- a sound model has no more parts than there is room for
-sound-few : (m : Model) → sound m ≡ true → m .count ≤ most-parts
-unfolding table-of
-sound-few m is-sound =
-    let facts = sound-facts m is-sound in
-    let few = table-facts (table-of m) (facts .table) .few in
-    omega (arith, facts .counted, few, length-map (m .parts) (λ (p : Part). p .component))
-
--- so a loaded one has none
-pub loaded-few : (stream : List ℕ) (r : Loaded) → trimmed-loaded r ≡ load stream → r .number ≡ 0 → r .model .count ≤ 32
-unfolding trimmed
-loaded-few stream r is none = sound-few (trimmed (r .model)) (accepted-is-a-table stream r is none .1 .sound)
 
 -- a number of 0 is an accepted load's
 taken-accepted : (number count table state : ℕ) → taken-number number count table state ≡ 0 → number ≡ 0
@@ -181,4 +167,25 @@ previewed-words table old w a b o p v found room written =
       is = λ enough. ap (λ (x : Verdict). x .number) (found .ends);
       answer = λ enough. ended-words o p v (outcome-into table old w (length a)) (found .ends) written;
       previewed = λ enough. subst (PreviewedInto table old w a b) (found .ends) found;
+    }
+
+-- and what a save comes to
+pub saved-short : (table state a o : List ℕ) → length o < 2 → SavedWords table state a a o o 25
+saved-short table state a o few =
+    record {
+      short = λ less. (refl, refl, refl);
+      is = λ room. absurd (omega arith);
+      answer = λ room. absurd (omega arith);
+      saved = λ room. absurd (omega arith);
+    }
+
+pub saved-words : (table state a b o p : List ℕ) (w : Written) → SavedInto table state a b w → 2 ≤ length o →
+    p ≡ w .number ∷ w .length ∷ drop 2 o → SavedWords table state a b o p (w .number)
+saved-words table state a b o p w found room written =
+    let length-is = ap (λ (x : Written). x .length) (found .answer) in
+    record {
+      short = λ less. absurd (omega arith);
+      is = λ enough. ap (λ (x : Written). x .number) (found .answer);
+      answer = λ enough. written ∙ ap (λ (n : ℕ). w .number ∷ n ∷ drop 2 o) length-is;
+      saved = λ enough. subst (λ (n : ℕ). SavedInto table state a b (record { number = w .number; length = n })) length-is found;
     }

@@ -9,11 +9,14 @@ use Rattle.machine.specs.declared.model.Model.{Model}
 use Rattle.machine.specs.Load.{load}
 use Rattle.machine.specs.Sound.{sound}
 use Rattle.machine.specs.Advance.{Outcome}
+use Rattle.machine.specs.Writing.{written-number, written-length}
+use Rattle.machine.specs.Save.{saved-bytes}
 use Rattle.store.specs.Held.{table-words, state-words-of}
 use Rattle.store.specs.Form.{spelled}
 use Rattle.transfer.specs.ModelPut.{KeptBehind, ModelPut}
 use Rattle.master.specs.Into.{verdict-of, lent-model, outcome-into, CalledInto}
 use Rattle.preview.specs.PreviewedInto.{PreviewedInto}
+use Rattle.saving.specs.SavedInto.{lent-refusal, SavedInto}
 
 -- the number of a load that ended with a number and a model of so many parts, with so many words lent for the table and for the state: 25 where the
 -- table is accepted and there are too few of either
@@ -67,3 +70,13 @@ pub record PreviewedWords (table old : List ℕ) (w : ℕ) (a b o p : List ℕ) 
   pub is : 5 ≤ length o → number ≡ outcome-into table old w (length a) .number
   pub answer : 5 ≤ length o → p ≡ outcome-words (outcome-into table old w (length a)) (drop 5 o)
   pub previewed : 5 ≤ length o → PreviewedInto table old w a b (verdict-of (outcome-into table old w (length a)))
+
+-- The words of a table and of a state, a buffer before and after a save of them, a and b, and the words of the answer, o and p, and the call's number. Where the
+-- answer has room, the number and the length are those of every writing call, the answer's first words say so, and the others are kept; the buffer is as `save` promises. Where it
+-- has none, nothing is written.
+pub record SavedWords (table state a b o p : List ℕ) (number : ℕ) : Type 0 where
+  pub short : length o < 2 → (number ≡ 25) × (b ≡ a) × (p ≡ o)
+  pub is : 2 ≤ length o → number ≡ written-number (lent-refusal table state) (saved-bytes (lent-model table state)) (length a)
+  pub answer : 2 ≤ length o → p ≡ number ∷ written-length (lent-refusal table state) (saved-bytes (lent-model table state)) ∷ drop 2 o
+  pub saved : 2 ≤ length o →
+      SavedInto table state a b (record { number = number; length = written-length (lent-refusal table state) (saved-bytes (lent-model table state)) })

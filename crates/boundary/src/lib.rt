@@ -1,4 +1,4 @@
-// The calls `load`, `advance` and `preview` for programs in Rust and C, through a static library. A model lies in words of 64 bits that
+// The calls `load`, `advance`, `preview` and `save` for programs in Rust and C, through a static library. A model lies in words of 64 bits that
 // the caller lends, as the crate `store` lays down in its `specs/Held.antt`: those of a table, 18 for each part and 2 before them,
 // and those of a state, 9 for each part and 2 before them. The calls work in the caller's own memory, and the answer's
 // numbers are written into `out`. The contracts cite `specs/Exported.antt`; they ask nothing of the caller but that each slice is
@@ -7,6 +7,7 @@ use loading::load;
 use machine::model::Model;
 use master::advance_into;
 use preview::preview_into;
+use saving::save;
 use store::lookup::state_size;
 use store::lookup::table_size;
 use transfer::intake::put_model;
@@ -14,17 +15,19 @@ ghost use mathlib.Core.Path.{_≡_};
 ghost use mathlib.Core.List.{_∷_};
 ghost use Prim.Native.Nat.{_≤_};
 ghost use lib.ListN.{drop, length};
-ghost use Rattle.boundary.specs.Exported.{AdvancedWords, LoadedWords, PreviewedWords, TakenIn};
+ghost use Rattle.boundary.specs.Exported.{AdvancedWords, LoadedWords, PreviewedWords, SavedWords, TakenIn};
 
 // The number of a call whose words are too few for what it has to write.
 const TOO_SHORT: u64 = 25;
 
-// How many words of `out` a load writes, and an advance or a preview.
+// How many words of `out` a load writes, a save, and an advance or a preview.
 const LOADED: usize = 2;
+
+const SAVED: usize = 2;
 
 const ADVANCED: usize = 5;
 
-// A load's numbers.
+// A load's numbers, or a save's.
 fn put_found(out: &mut [u64], number: u64, position: u64)
     requires { ⌜ 2 ≤ length (now out) ⌝ }
     ensures { λ r. ⌜ now (out .exit) ≡ number ∷ position ∷ drop 2 (now (out .entry)) ⌝ }
@@ -143,4 +146,24 @@ pub extern "C" fn dozhumek_preview(
         verdict.ceiling,
     );
     verdict.number
+}
+
+// The bytes of the table of the model that the words spell, whatever they are, written into `buffer`, and what lies behind them there is kept. Written into
+// `out` are two words, the number, which is the answer too, and the length. The number is 24 where the words spell no sound model; it is 25 where the buffer is
+// shorter than the bytes, and the length then the one that they need, and where `out` is, and then nothing is written.
+#[no_mangle]
+pub extern "C" fn dozhumek_save(
+    table: &[u64],
+    state: &[u64],
+    buffer: &mut [u8],
+    out: &mut [u64],
+) -> u64
+    ensures { λ n. ⌜ SavedWords (now (table .entry)) (now (state .entry)) (now (buffer .entry)) (now (buffer .exit)) (now (out .entry)) (now (out .exit)) n ⌝ }
+{
+    if out.len() < SAVED {
+        return TOO_SHORT;
+    }
+    let written = save(table, state, buffer);
+    put_found(out, written.number, written.length as u64);
+    written.number
 }

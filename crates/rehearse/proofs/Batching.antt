@@ -6,19 +6,17 @@ use native.Mathlib.Decide.{ℕ-discrete}
 use mathlib.Core.Path.{_≡_, refl, sym, _∙_}
 use mathlib.Core.Bool.{true, false, true≢false}
 use mathlib.Core.List.{List, [], _++_, append-assoc, append-nil}
-use lib.ListN.{length, take, length-take, length-map}
+use lib.ListN.{length, take, length-take}
 use lib.Seq.{take-all}
 use borrow.Author.Tests.{ne-eqb}
 use Rattle.machine.specs.declared.model.Model.{Model}
 use Rattle.machine.specs.declared.model.Loaded.{Loaded}
 use Rattle.machine.specs.Load.{load}
 use Rattle.machine.specs.Model.{most-parts, trimmed, trimmed-loaded}
-use Rattle.machine.specs.Table.{table-of}
 use Rattle.machine.specs.Sound.{sound}
 use Rattle.machine.specs.Rehearse.{most-read, refused-at-line, loaded-lines, rehearsed}
-use Rattle.soundness.specs.Facts.{table-facts, sound-facts}
 use Rattle.loading.specs.Blank.{blank-model}
-use Rattle.loading.specs.LoadOwed.{accepted-is-a-table}
+use Rattle.loading.specs.LoadOwed.{accepted-is-a-table, accepted-few}
 use Rattle.store.specs.Held.{held}
 use Rattle.transfer.specs.ModelPut.{ModelPut}
 use Rattle.writing.specs.Put.{Put}
@@ -42,25 +40,17 @@ read-whole input n h most =
 pub read-cut : (input : List ℕ) (n : ℕ) → n ≡ most-read → n ≤ length input → BytesRead input n
 read-cut input n e h = record { within = h; all = rw e refl }
 
--- a sound model has at most 32 parts
-sound-few : (m : Model) → sound m ≡ true → m .count ≤ most-parts
-unfolding table-of
-sound-few m s =
-    let facts = sound-facts m s in
-    let few : length (table-of m .parts) ≤ most-parts = table-facts (table-of m) (facts .table) .few in
-    omega (arith, facts .counted, simp length-map at few)
-
--- so has what a load answers: a sound model where it is accepted, else one of no parts
+-- what a load answers has at most 32 parts: a sound model where it is accepted, else one of no parts
 module _ (bs : List ℕ) (r : Loaded) (loaded : trimmed-loaded r ≡ load bs) where
   loaded-sound : r .number ≡ 0 → sound (trimmed (r .model)) ≡ true
   loaded-sound accepted = accepted-is-a-table bs r loaded accepted .1 .sound
 
   pub loaded-few : ((r .number ≡ 0 → ⊥) → r .model ≡ blank-model) → r .model .count ≤ most-parts
-  unfolding trimmed blank-model
+  unfolding blank-model
   loaded-few blank = few (ℕ-discrete (r .number) 0)
     where
       few : Dec (r .number ≡ 0) → r .model .count ≤ most-parts
-      few (yes accepted) = sound-few (trimmed (r .model)) (loaded-sound accepted)
+      few (yes accepted) = accepted-few bs r loaded accepted
       few (no refused) = rw (blank refused) (omega arith)
 
 -- a rehearsal that begins where a load of what is read left it has all of its lines to come, and is ready, the loaded model being in its words

@@ -26,7 +26,8 @@ use Rattle.machine.specs.Sound.{source-fits, table-fits}
 use Rattle.machine.specs.TableBytes.{operand-bytes, signed-operand, part-bytes, spans-bytes, parts-bytes, port-bytes, wires-bytes, table-bytes}
 use Rattle.laws.specs.Bools.{and-right}
 use Rattle.laws.specs.ListLaws.{all-at}
-use Rattle.soundness.specs.Facts.{ComponentFits, TableFits, table-facts}
+use Rattle.soundness.specs.Facts.{ComponentFits, table-facts}
+use Rattle.soundness.specs.ByteLengths.{spans-length, part-length, few-spans}
 use Rattle.codec.specs.Words.{table, signed-word}
 use Rattle.codec.specs.Tables.{length-table, table-at}
 use Rattle.store.specs.Held.{parts-lent, stored-component}
@@ -57,24 +58,14 @@ wires-bytes-more f i =
     rw add-one (wires-added 0 (table f i) (f i) ∙ ap (λ (n : ℕ). wires-bytes 0 (table f i) ++ wires-text n (f i)) here)
 
 -- how long they are
-spans-length : (vs : List ℕ) → length (spans-bytes vs) ≡ 5 * length vs
-unfolding spans-bytes operand-bytes
-spans-length [] = refl
-spans-length (v ∷ vs) = omega (arith, spans-length vs)
-
-pub part-length : (c : Component) → length (part-text c) ≡ 15 + 5 * length (c .spans)
-unfolding part-text part-bytes operand-bytes
-part-length c = omega (arith, spans-length (c .spans))
+pub text-length : (c : Component) → length (part-text c) ≡ 15 + 5 * length (c .spans)
+unfolding part-text
+text-length c = omega (arith, length-append (part-bytes c) (spans-bytes (c .spans)), part-length c, spans-length (c .spans))
 
 pub port-length : (receiver port : ℕ) (s : Source) → length (port-bytes receiver port s) ≡ length (port-bytes 0 0 s)
 unfolding port-bytes
 port-length receiver port Unwired = refl
 port-length receiver port (From k) = refl
-
-pub port-short : (s : Source) → length (port-bytes 0 0 s) ≤ 4
-unfolding port-bytes
-port-short Unwired = omega arith
-port-short (From k) = omega arith
 
 pub wires-length : (i : ℕ) (c : Component) → length (wires-text i c) ≡ length (port-bytes 0 0 (c .port0)) + length (port-bytes 0 0 (c .port1))
 unfolding wires-text
@@ -132,14 +123,6 @@ unfolding source-fits
 fitting-source n many port Unwired few fits = tt
 fitting-source n many port (From k) few fits = omega (arith, ltb-true k n (and-right (ltb port many) (ltb k n) fits))
 
--- as many spans as the kind has places for are at most eight
-few-spans : (c : Component) → length (c .spans) ≤ cond (is-drive (c .kind)) most-spans 0 → length (c .spans) ≤ 8
-few-spans c places = cases (is-drive (c .kind)) places
-  where
-    cases : (b : Bool) → length (c .spans) ≤ cond b most-spans 0 → length (c .spans) ≤ 8
-    cases true h = h
-    cases false h = omega arith
-
 module _ (ts : List ℕ) (fits : table-fits (lent-table ts) ≡ true) where
   -- it has from 1 to 32 parts
   pub some-parts : (1 ≤ parts-lent ts) × (parts-lent ts ≤ most-parts)
@@ -162,7 +145,7 @@ module _ (ts : List ℕ) (fits : table-fits (lent-table ts) ≡ true) where
       record {
         operands = here .operands;
         counted = here .counted;
-        spans = omega (arith, here .counted, few-spans (lent-component ts i) (here .places));
+        spans = omega (arith, here .counted, few-spans n (lent-component ts i) here);
         port0 = fitting-source n (ports (lent-component ts i .kind)) 0 (lent-component ts i .port0) (f .few) (here .port0);
         port1 = fitting-source n (ports (lent-component ts i .kind)) 1 (lent-component ts i .port1) (f .few) (here .port1);
       }
@@ -177,7 +160,7 @@ module _ (ts : List ℕ) (i : ℕ) (fit : PartFits ts i) where
       (omega (
         arith,
         length-append (parts-bytes (table (lent-component ts) i)) (part-text (lent-component ts i)),
-        part-length (lent-component ts i),
+        text-length (lent-component ts i),
         fit .counted,
       ))
 
@@ -193,14 +176,6 @@ module _ (ts : List ℕ) (i : ℕ) (fit : PartFits ts i) where
         length-append (wires-bytes 0 (table (lent-component ts) i)) (wires-text i (lent-component ts i)),
         wires-length i (lent-component ts i),
       ))
-
--- how long the whole table's bytes are
-pub table-length : (t : Table) → length (table-bytes t) ≡ length (parts-bytes (t .parts)) + 2 + length (wires-bytes 0 (t .parts)) + 1
-unfolding table-bytes
-table-length t =
-    let parts = parts-bytes (t .parts) in
-    let wires = wires-bytes 0 (t .parts) in
-    omega (arith, length-append parts (wires ++ (end-byte ∷ [])), length-append wires (end-byte ∷ []))
 
 -- with a part of the table and its wires, no more than those of all parts
 module _ (ts : List ℕ) (i : ℕ) (low : i < parts-lent ts) where

@@ -16,14 +16,14 @@ use Rattle.machine.specs.declared.model.Loaded.{Loaded}
 use Rattle.machine.specs.Lists.{All}
 use Rattle.machine.specs.Kind.{ports}
 use Rattle.machine.specs.Model.{most-parts, most-spans}
-use Rattle.machine.specs.Table.{Table, table-of}
+use Rattle.machine.specs.Table.{Table}
 use Rattle.machine.specs.Fresh.{fresh}
 use Rattle.machine.specs.Load.{wire-byte, end-byte, is-drive, source-of, wired, with-wire, end-refusal, accepted, load}
 use Rattle.machine.specs.Sound.{source-fits, spans-rise, table-fits}
 use Rattle.machine.specs.TableBytes.{operand-bytes, part-bytes, spans-bytes, parts-bytes, port-bytes, wires-bytes, table-bytes}
 use Rattle.laws.specs.Last.{length-added, last-of-added}
 use Rattle.soundness.specs.Facts.{ComponentFits, TableFits, table-facts}
-use Rattle.soundness.specs.FreshSound.{fresh-table}
+use Rattle.soundness.specs.FreshSound.{fresh-apart}
 use Rattle.soundness.specs.Accepted.{load-fits}
 use Rattle.soundness.specs.Octets.{Octet, table-octets}
 use Rattle.soundness.specs.Seams.{further, read-all}
@@ -178,5 +178,4 @@ fits-iff-loads t = (written, fitting)
     fitting : (bs : List ℕ) × All Octet bs × (load bs .number ≡ 0) × (load bs .model ≡ fresh t) → table-fits t ≡ true
     fitting (bs, octets, none, same) =
         let (u, fit, is) = load-fits bs none in
-        let equal : u ≡ t = sym (fresh-table u) ∙ ap table-of (sym is ∙ same) ∙ fresh-table t in
-        rw equal at fit
+        rw (fresh-apart u t (sym is ∙ same)) at fit

@@ -5,7 +5,7 @@ use native.Mathlib.Omega.{arith}
 use mathlib.Core.Path.{_≡_}
 use mathlib.Core.Bool.{Bool, true, false, cond, false≢true, and-eq-true-iff}
 use mathlib.Core.List.{map}
-use lib.ListN.{length}
+use lib.ListN.{length, length-map}
 use lib.Dec.{eqb, leb}
 use lib.IntN.{ℤ, pos, negsuc}
 use borrow.Author.Tests.{eqb-true, leb-true, eq-eqb, le-leb}
@@ -174,6 +174,14 @@ sound-facts m h =
       time = time;
       states = every-all (StateFits (tick (m .point))) (state-fits (tick (m .point))) (m .parts) (state-facts (tick (m .point))) states;
     }
+
+-- a sound model has at most 32 parts
+pub sound-few : (m : Model) → sound m ≡ true → m .count ≤ most-parts
+unfolding table-of
+sound-few m s =
+    let facts = sound-facts m s in
+    let few : length (table-of m .parts) ≤ most-parts = table-facts (table-of m) (facts .table) .few in
+    omega (arith, facts .counted, simp length-map at few)
 
 -- a model of which that holds passes the test
 pub sound-test : (m : Model) → Soundness m → sound m ≡ true

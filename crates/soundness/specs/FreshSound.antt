@@ -49,6 +49,10 @@ fresh-table t = ap (λ (cs : List Component). record { magnitude = t .magnitude;
         map-map (λ (p : Part). p .component) (first-part t) (t .parts) ∙
         map-id (t .parts)
 
+-- so that equal fresh models are of one table
+pub fresh-apart : (t u : Table) → fresh t ≡ fresh u → t ≡ u
+fresh-apart t u same = sym (fresh-table t) ∙ ap table-of same ∙ fresh-table u
+
 -- it has as many parts
 fresh-count : (t : Table) → length (fresh t .parts) ≡ length (t .parts)
 unfolding table-of

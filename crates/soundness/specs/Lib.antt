@@ -15,4 +15,5 @@ pub mod Seams
 pub mod Octets
 pub mod Commands
 pub mod Bytes
+pub mod ByteLengths
 pub mod SavedBytes

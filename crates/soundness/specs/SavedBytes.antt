@@ -14,9 +14,10 @@ use Rattle.machine.specs.Sound.{table-fits, sound}
 use Rattle.machine.specs.TableBytes.{table-bytes}
 use Rattle.machine.specs.Save.{saved-bytes, SavedModel}
 use Rattle.soundness.specs.Facts.{sound-facts}
-use Rattle.soundness.specs.FreshSound.{fresh-table, fresh-sound}
+use Rattle.soundness.specs.FreshSound.{fresh-table, fresh-apart, fresh-sound}
 use Rattle.soundness.specs.Octets.{table-octets}
 use Rattle.soundness.specs.Bytes.{loads-back}
+use Rattle.soundness.specs.ByteLengths.{table-short}
 
 -- the bytes of a table that fits load up to their end
 pub loads-whole : (t : Table) → table-fits t ≡ true → load (table-bytes t) ≡ record { number = 0; position = length (table-bytes t); model = fresh t }
@@ -29,8 +30,7 @@ loads-whole t fits = loads-back t fits ∙ rw last refl
 -- equal bytes of tables that fit are those of one table
 pub one-table : (t u : Table) → table-fits t ≡ true → table-fits u ≡ true → table-bytes t ≡ table-bytes u → t ≡ u
 one-table t u fits others equal =
-    let same : fresh t ≡ fresh u = ap (λ (r : Loaded). r .model) (sym (loads-whole t fits) ∙ ap load equal ∙ loads-whole u others) in
-    sym (fresh-table t) ∙ ap table-of same ∙ fresh-table u
+    fresh-apart t u (ap (λ (r : Loaded). r .model) (sym (loads-whole t fits) ∙ ap load equal ∙ loads-whole u others))
 
 -- the claims, of every sound model
 pub every-saved-model : (m : Model) → sound m ≡ true → SavedModel m
@@ -42,6 +42,7 @@ every-saved-model m is-sound =
     let model : load (table-bytes t) .model ≡ fresh t = ap (λ (r : Loaded). r .model) loads in
     record {
       octets = table-octets t fits;
+      short = table-short t fits;
       loads = loads;
       apart = λ other sounds. (one-table t (table-of other) fits (sound-facts other sounds .table), ap table-bytes);
       again = rw model (fresh-sound t fits);

@@ -1,12 +1,17 @@
--- Laws of `WrittenAs`, by which a call whose own tests refuse nothing keeps it: where its bytes do not fit nothing is written, and where they do they are put
--- at the buffer's front. Assumes nothing.
-use Prim.Native.Nat.{ℕ, _≤_, _<_}
+-- Laws of `WrittenAs`: how a call whose own tests refuse nothing keeps it, and what a caller has of every writing call. Assumes nothing.
+use Prim.Native.Nat.{ℕ, zero, suc, _≤_, _<_}
 use native.Mathlib.Omega.{arith}
-use mathlib.Core.Path.{_≡_}
+use mathlib.Core.Path.{_≡_, refl, sym, ap, _∙_}
+use mathlib.Core.Bool.{true, false}
+use mathlib.Core.Logic.{_⊎_, inl, inr}
 use mathlib.Core.List.{List}
-use lib.ListN.{length}
-use borrow.Author.Tests.{le-leb, lt-leb}
+use lib.Dec.{leb}
+use lib.ListN.{length, take, drop}
+use lib.Seq.{take-append-seam, drop-append-seam}
+use borrow.Author.Tests.{le-leb, lt-leb, ne-eqb}
+use Rattle.machine.specs.declared.model.Written.{Written}
 use Rattle.machine.specs.Writing.{WrittenAs, too-short}
+use Rattle.laws.specs.Bools.{either}
 use Rattle.writing.specs.Put.{Put}
 use Rattle.writing.specs.Pieces.{put-whole}
 
@@ -20,3 +25,48 @@ pub put-in : {most r : ℕ} {text before after : List ℕ} → length text ≤ l
 put-in {r = r} {text = text} long put =
     let end : r ≡ length text = omega arith in
     record { answer = simp (le-leb _ _ long, end); buffer = simp (le-leb _ _ long, ← end) (put-whole put) }
+
+-- a call that its own tests refuse
+pub refused-as : (refusal : ℕ) (bytes buf : List ℕ) → (refusal ≡ 0 → ⊥) → WrittenAs refusal bytes buf buf (record { number = refusal; length = 0 })
+refused-as refusal bytes buf some = record { answer = rw (ne-eqb refusal 0 some) refl; buffer = rw (ne-eqb refusal 0 some) refl }
+
+-- what a caller has of a call that ended with 0: nothing refused it, its bytes stand in front, and what lay behind them is kept
+pub record WrittenWhole (refusal : ℕ) (bytes before after : List ℕ) (w : Written) : Type 0 where
+  pub free : refusal ≡ 0
+  pub size : w .length ≡ length bytes
+  pub front : take (w .length) after ≡ bytes
+  pub behind : drop (w .length) after ≡ drop (w .length) before
+
+pub written-whole : (refusal : ℕ) (bytes before after : List ℕ) (w : Written) → WrittenAs refusal bytes before after w → w .number ≡ 0 →
+    WrittenWhole refusal bytes before after w
+written-whole (suc n) bytes before after w written none =
+    let number : suc n ≡ 0 = rw (ne-eqb (suc n) 0 (λ e. omega arith)) at (sym (ap (λ (x : Written). x .number) (written .answer)) ∙ none) in
+    absurd (omega arith)
+written-whole zero bytes before after w written none = fits (either (leb (length bytes) (length before)))
+  where
+    fits : (leb (length bytes) (length before) ≡ true) ⊎ (leb (length bytes) (length before) ≡ false) → WrittenWhole 0 bytes before after w
+    fits (inr short) =
+        let number : _≡_ {A = ℕ} too-short 0 = rw short at (sym (ap (λ (x : Written). x .number) (written .answer)) ∙ none) in
+        absurd (omega arith)
+    fits (inl long) =
+        let size = ap (λ (x : Written). x .length) (written .answer) in
+        let buffer = rw long at (written .buffer) in
+        record {
+          free = refl;
+          size = size;
+          front = rw (size, buffer) (take-append-seam bytes (drop (length bytes) before));
+          behind = rw (size, buffer) (drop-append-seam bytes (drop (length bytes) before));
+        }
+
+-- bytes that nothing refuses are written where there is room for them
+pub enough-room : (bytes before after : List ℕ) (w : Written) → WrittenAs 0 bytes before after w → length bytes ≤ length before → w .number ≡ 0
+enough-room bytes before after w written long = ap (λ (x : Written). x .number) (written .answer) ∙ rw (le-leb (length bytes) (length before) long) refl
+
+-- and of one that ended with another number: the buffer is kept whole
+pub refused-kept : (refusal : ℕ) (bytes before after : List ℕ) (w : Written) → WrittenAs refusal bytes before after w → (w .number ≡ 0 → ⊥) → after ≡ before
+refused-kept (suc n) bytes before after w written some = rw (ne-eqb (suc n) 0 (λ e. omega arith)) at (written .buffer)
+refused-kept zero bytes before after w written some = kept (either (leb (length bytes) (length before)))
+  where
+    kept : (leb (length bytes) (length before) ≡ true) ⊎ (leb (length bytes) (length before) ≡ false) → after ≡ before
+    kept (inr short) = rw short at (written .buffer)
+    kept (inl long) = absurd (some (rw long at (ap (λ (x : Written). x .number) (written .answer))))

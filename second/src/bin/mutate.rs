@@ -1,4 +1,4 @@
-//! Builds the program with each fault of `mutations.txt` in turn and tells how soon `differ` sees it.
+//! Builds the programs with each fault of `mutations.txt` in turn and tells how soon `differ` sees it.
 //!
 //!     mutate [NAME]
 //!     mutate --sample N [--seed S]
@@ -21,6 +21,9 @@ use std::process::{Command, ExitCode};
 use std::time::Instant;
 
 const PLACE: &str = "target/mutants";
+
+/// The programs that `differ` compares.
+const PROGRAMS: [&str; 2] = ["rehearse-second", "savetable-second"];
 
 struct Mutation {
     name: String,
@@ -59,13 +62,13 @@ impl Mutation {
     }
 }
 
-/// What `differ` says of the program with this fault, or none if it sees nothing.
+/// What `differ` says of the programs with this fault, or none if it sees nothing.
 fn seen(mutation: &Mutation) -> Result<Option<String>, Box<dyn Error>> {
     let source = Path::new(PLACE).join("src");
     copy("src", &source)?;
     fs::write(source.join(&mutation.file), mutation.made()?)?;
     let build = Command::new("cargo")
-        .args(["build", "--quiet", "--offline", "-j1", "--release", "--bin", "rehearse-second"])
+        .args(["build", "--quiet", "--offline", "-j1", "--release", "--bin", PROGRAMS[0], "--bin", PROGRAMS[1]])
         .args(["--config", "profile.release.lto=false", "--config", "profile.release.opt-level=1"])
         .args(["--target-dir", "target"])
         .current_dir(PLACE)
@@ -73,8 +76,8 @@ fn seen(mutation: &Mutation) -> Result<Option<String>, Box<dyn Error>> {
     if !build.status.success() {
         return Err(format!("{}: {}", mutation.name, String::from_utf8_lossy(&build.stderr)).into());
     }
-    let program = Path::new(PLACE).join("target/release/rehearse-second");
-    let run = Command::new("target/release/differ").arg(program).args(["--unnamed", "1"]).output()?;
+    let programs = PROGRAMS.map(|name| Path::new(PLACE).join("target/release").join(name));
+    let run = Command::new("target/release/differ").args(programs).args(["--unnamed", "1"]).output()?;
     let said = String::from_utf8_lossy(&run.stdout).lines().next().unwrap_or("").to_string();
     Ok((!run.status.success()).then_some(said))
 }

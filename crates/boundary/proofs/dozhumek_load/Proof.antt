@@ -1,5 +1,6 @@
 -- `dozhumek_load` loads the stream, puts the model into the words where they have room for it, and then writes its two numbers.
-use Rattle.boundary.proofs.Laws.{loaded-few, loaded-short, loaded-words}
+use Rattle.loading.specs.LoadOwed.{accepted-few}
+use Rattle.boundary.proofs.Laws.{loaded-short, loaded-words}
 use borrow.Author.Needs.{needs}
 use Rattle.boundary.proofs.dozhumek_load.Statement.{statement}
 use Rattle.boundary.proofs.dozhumek_load.Tie as tie
@@ -11,7 +12,7 @@ load-requires : tie.Need-load-requires
 load-requires c κs = search needs
 
 take-in-requires : tie.Need-take-in-requires
-take-in-requires c κs = λ none. loaded-few _ (c .before .before .before .load .result) (c .before .before .before .load .ensures .0) none
+take-in-requires c κs = λ none. accepted-few _ (c .before .before .before .load .result) (c .before .before .before .load .ensures .0) none
 
 put-found-requires : tie.Need-put-found-requires
 put-found-requires c κs = search needs

@@ -6,9 +6,9 @@ use mathlib.Core.List.{List}
 use lib.ListN.{length}
 use Rattle.machine.specs.TableBytes.{table-bytes}
 use Rattle.machine.specs.Writing.{WrittenAs, too-short}
+use Rattle.soundness.specs.ByteLengths.{table-length}
 use Rattle.writing.specs.Fitting.{left-out, put-in}
 use Rattle.saving.specs.LentTable.{lent-table}
-use Rattle.saving.proofs.TableText.{table-length}
 use borrow.Author.Needs.{needs}
 use Rattle.saving.proofs.save_table.Statement.{statement}
 use Rattle.saving.proofs.save_table.Tie as tie

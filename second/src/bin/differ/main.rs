@@ -1,6 +1,7 @@
-//! Compares another program with the library, byte by byte, on named cases and on random ones with a purpose.
+//! Compares other programs with the library, byte by byte, on named cases and on random ones with a purpose: one that
+//! rehearses a stream, and one that saves its table. Every saved table is loaded again by both.
 //!
-//!     differ PROGRAM [--cases N] [--seed S] [--only NUMBER] [--unnamed 1]
+//!     differ REHEARSE SAVETABLE [--cases N] [--seed S] [--only NUMBER] [--unnamed 1]
 //!
 //! Case NUMBER of seed S is the same everywhere; --unnamed 1 leaves the named and the swept ones out. What differs is
 //! printed with its seed, number and bytes. The status is 0 only if nothing differs and the cases reached all they should.
@@ -13,13 +14,15 @@ mod named;
 mod options;
 mod program;
 mod random;
+mod saves;
 mod seen;
 mod swept;
 mod zeros;
 
 use named::Named;
-use program::Program;
+use program::{Program, Programs};
 use random::Random;
+use saves::Saves;
 use seen::Seen;
 use std::process::ExitCode;
 use std::sync::atomic::{AtomicBool, AtomicU64, Ordering};
@@ -29,7 +32,8 @@ use std::time::Instant;
 const THREADS: usize = 2;
 
 struct Arguments {
-    program: String,
+    rehearse: String,
+    savetable: String,
     cases: u64,
     seed: u64,
     only: Option<u64>,
@@ -38,15 +42,15 @@ struct Arguments {
 
 fn arguments() -> Option<Arguments> {
     let mut given = std::env::args().skip(1);
-    let program = given.next()?;
+    let (rehearse, savetable) = (given.next()?, given.next()?);
     let [cases, seed, only, unnamed] = options::numbers(given, ["--cases", "--seed", "--only", "--unnamed"])?;
     let (cases, seed) = (cases.unwrap_or(20_000), seed.unwrap_or(1));
-    Some(Arguments { program, cases, seed, only, unnamed: unnamed == Some(1) })
+    Some(Arguments { rehearse, savetable, cases, seed, only, unnamed: unnamed == Some(1) })
 }
 
 fn main() -> ExitCode {
     let Some(arguments) = arguments() else {
-        eprintln!("usage: differ PROGRAM [--cases N] [--seed S] [--only NUMBER] [--unnamed 1]");
+        eprintln!("usage: differ REHEARSE SAVETABLE [--cases N] [--seed S] [--only NUMBER] [--unnamed 1]");
         return ExitCode::from(2);
     };
     match compare(&arguments) {
@@ -63,17 +67,18 @@ fn main() -> ExitCode {
 
 /// One line of figures, or what went wrong.
 fn compare(arguments: &Arguments) -> Result<String, String> {
-    let program = Program::watched(&arguments.program);
+    let programs =
+        Programs { rehearse: Program::watched(&arguments.rehearse), savetable: Program::watched(&arguments.savetable) };
     if let Some(number) = arguments.only {
-        return one_case(arguments.seed, number, &program);
+        return one_case(arguments.seed, number, &programs);
     }
     let (named, swept) = if arguments.unnamed { (vec![], vec![]) } else { (named::named(), swept::swept()) };
     for (ticket, case) in named.iter().enumerate() {
-        named_case(case, ticket as u64, &program)?;
+        named_case(case, ticket as u64, &programs)?;
     }
 
     let start = Instant::now();
-    let seen = many_cases(arguments, &program, &swept)?;
+    let seen = many_cases(arguments, &programs, &swept)?;
     let seconds = start.elapsed().as_secs_f64();
     let missing = seen.missing();
     if !missing.is_empty() {
@@ -96,16 +101,16 @@ fn compare(arguments: &Arguments) -> Result<String, String> {
 }
 
 /// One random case, with its bytes.
-fn one_case(seed: u64, number: u64, program: &Program) -> Result<String, String> {
+fn one_case(seed: u64, number: u64, programs: &Programs) -> Result<String, String> {
     let stream = stream_of(seed, number);
-    match difference(program, number, &stream, &expected(&stream)) {
+    match difference(programs, number, &stream, &expected(&stream), &mut Saves::default()) {
         None => Ok(format!("{}: nothing differs\n{}", name_of(seed, number), hexadecimal(&stream))),
         Some(what) => Err(report(&name_of(seed, number), &stream, &what)),
     }
 }
 
-/// A named case: the library and the program both have to print what the document says.
-fn named_case(case: &Named, ticket: u64, program: &Program) -> Result<(), String> {
+/// A named case: the library and the program both have to print what the document says, and to save its table alike.
+fn named_case(case: &Named, ticket: u64, programs: &Programs) -> Result<(), String> {
     if case.wrong_reading == Some(&case.expected) {
         return Err(format!("{}: the case does not tell the readings apart", case.name));
     }
@@ -113,7 +118,7 @@ fn named_case(case: &Named, ticket: u64, program: &Program) -> Result<(), String
     if own != case.expected.as_bytes() {
         return Err(format!("{}: the library differs from the document", case.name));
     }
-    let Some(what) = difference(program, ticket, &case.stream, &own) else {
+    let Some(what) = difference(programs, ticket, &case.stream, &own, &mut Saves::default()) else {
         return Ok(());
     };
     let misread = what.got.is_some() && what.got.as_deref() == case.wrong_reading.map(str::as_bytes);
@@ -138,7 +143,7 @@ fn swept_or_random(swept: &[Vec<u8>], seed: u64, number: u64) -> (String, Vec<u8
 }
 
 /// Tries the swept cases and the random ones.
-fn many_cases(arguments: &Arguments, program: &Program, swept: &[Vec<u8>]) -> Result<Seen, String> {
+fn many_cases(arguments: &Arguments, programs: &Programs, swept: &[Vec<u8>]) -> Result<Seen, String> {
     let cases = swept.len() as u64 + arguments.cases;
     let next = AtomicU64::new(0);
     let stop = AtomicBool::new(false);
@@ -154,7 +159,7 @@ fn many_cases(arguments: &Arguments, program: &Program, swept: &[Vec<u8>]) -> Re
             }
             let (name, stream) = swept_or_random(swept, arguments.seed, number);
             let output = expected(&stream);
-            if let Some(what) = difference(program, number, &stream, &output) {
+            if let Some(what) = difference(programs, number, &stream, &output, &mut seen.saves) {
                 let failure = Failure { number, text: report(&name, &stream, &what) };
                 failures.lock().unwrap().push(failure);
                 stop.store(true, Ordering::SeqCst);
@@ -191,16 +196,31 @@ fn expected(stream: &[u8]) -> Vec<u8> {
     output
 }
 
+/// What differs, and what was printed where that is it.
 struct Difference {
     text: String,
     got: Option<Vec<u8>>,
 }
 
-fn difference(program: &Program, ticket: u64, stream: &[u8], expected: &[u8]) -> Option<Difference> {
-    match program.run(ticket, stream) {
-        Ok(got) if got == expected => None,
-        Ok(got) => Some(Difference { text: first_line_that_differs(expected, &got), got: Some(got) }),
-        Err(text) => Some(Difference { text, got: None }),
+impl Difference {
+    /// One that is told by its text alone.
+    fn of(text: String) -> Option<Difference> {
+        Some(Difference { text, got: None })
+    }
+}
+
+/// What differs where a stream is rehearsed, and where its table is saved and loaded again.
+fn difference(
+    programs: &Programs,
+    ticket: u64,
+    stream: &[u8],
+    expected: &[u8],
+    saves: &mut Saves,
+) -> Option<Difference> {
+    match programs.rehearse.run(ticket, stream) {
+        Ok(got) if got.out == expected => saves.difference(programs, ticket, stream, expected),
+        Ok(got) => Some(Difference { text: first_line_that_differs(expected, &got.out), got: Some(got.out) }),
+        Err(text) => Difference::of(text),
     }
 }
 

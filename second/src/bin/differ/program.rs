@@ -1,4 +1,4 @@
-//! Running the other program on a case.
+//! Running the other programs on a case.
 
 use std::io::{Read, Write};
 use std::process::{Child, Command, ExitStatus, Stdio};
@@ -11,6 +11,19 @@ const PATIENCE: Duration = Duration::from_secs(30);
 
 /// What fits a pipe whether or not anybody reads it.
 const PIPE: usize = 4096;
+
+/// The programs that are compared with the library.
+pub struct Programs {
+    pub rehearse: Arc<Program>,
+    pub savetable: Arc<Program>,
+}
+
+/// What a program wrote to standard output and to standard error.
+#[derive(PartialEq, Eq)]
+pub struct Printed {
+    pub out: Vec<u8>,
+    pub errors: Vec<u8>,
+}
 
 /// A program, and what runs of it now: at most one process for each thread that calls [`Program::run`].
 pub struct Program {
@@ -30,35 +43,38 @@ impl Program {
         program
     }
 
-    /// What the program prints for `stream`, or why there is nothing to compare. `ticket` differs for each run.
-    pub fn run(&self, ticket: u64, stream: &[u8]) -> Result<Vec<u8>, String> {
+    /// What the program prints for `stream`, or why there is nothing to compare. `ticket` is that of no other run of now.
+    pub fn run(&self, ticket: u64, stream: &[u8]) -> Result<Printed, String> {
         let spawned =
-            Command::new(&self.path).stdin(Stdio::piped()).stdout(Stdio::piped()).stderr(Stdio::null()).spawn();
+            Command::new(&self.path).stdin(Stdio::piped()).stdout(Stdio::piped()).stderr(Stdio::piped()).spawn();
         let mut child = spawned.map_err(|error| format!("{} does not start: {error}", self.path))?;
-        let (Some(mut stdin), Some(mut stdout)) = (child.stdin.take(), child.stdout.take()) else {
+        let pipes = (child.stdin.take(), child.stdout.take(), child.stderr.take());
+        let (Some(mut stdin), Some(mut stdout), Some(mut stderr)) = pipes else {
             return Err("no pipes".to_string());
         };
         self.running().push((Instant::now(), ticket, child));
-        let mut output = Vec::new();
+        let (mut out, mut errors) = (Vec::new(), Vec::new());
         // The program may end before it has read everything, so a write may fail.
         let read = if stream.len() <= PIPE {
             let _ = stdin.write_all(stream);
             drop(stdin);
-            stdout.read_to_end(&mut output)
+            stdout.read_to_end(&mut out)
         } else {
             thread::scope(|scope| {
                 scope.spawn(move || {
                     let _ = stdin.write_all(stream);
                 });
-                stdout.read_to_end(&mut output)
+                stdout.read_to_end(&mut out)
             })
         };
+        // What it says there fits a pipe.
+        let read = read.and_then(|_| stderr.read_to_end(&mut errors));
         read.map_err(|error| format!("its output cannot be read: {error}"))?;
         let status = self.end(ticket)?;
         if status.success() {
-            Ok(output)
+            Ok(Printed { out, errors })
         } else {
-            Err(format!("it ended with {status} after {} bytes", output.len()))
+            Err(format!("it ended with {status} after {} bytes", out.len()))
         }
     }
 

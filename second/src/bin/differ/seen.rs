@@ -2,6 +2,7 @@
 
 use crate::clappers::Clappers;
 use crate::draft::KINDS;
+use crate::saves::Saves;
 use crate::zeros::Zeros;
 use second::load;
 
@@ -25,6 +26,7 @@ pub struct Seen {
     steps: [u64; 2],
     zeros: Zeros,
     clappers: Clappers,
+    pub saves: Saves,
 }
 
 impl Seen {
@@ -71,6 +73,7 @@ impl Seen {
         add_each(&mut self.steps, &other.steps);
         self.zeros.add(&other.zeros);
         self.clappers.add(&other.clappers);
+        self.saves.add(&other.saves);
         self.most_rounds = self.most_rounds.max(other.most_rounds);
         self.most_revisions = self.most_revisions.max(other.most_revisions);
     }
@@ -100,6 +103,9 @@ impl Seen {
         for (name, count) in self.clappers.named() {
             must(count > 0, format!("a clapper's {name}"));
         }
+        for (name, count) in self.saves.named() {
+            must(count > 0, format!("a table {name}"));
+        }
         let astray = self.clappers.astray();
         must(astray == 0, format!("only positions of clappers that the lines before lead to ({astray} are others)"));
         must(
@@ -117,9 +123,10 @@ impl Seen {
         };
         let zeros: Vec<String> = self.zeros.named().map(|(name, count)| format!("{name} {count}")).collect();
         let clappers: Vec<String> = self.clappers.named().map(|(name, count)| format!("{name} {count}")).collect();
+        let saves: Vec<String> = self.saves.named().map(|(name, count)| format!("{name} {count}")).collect();
         format!(
             "{} tables accepted, {} refused; {} lines; refusals{}; in scores{}; kinds accepted{}; kinds refused{}; \
-             steps of 0 {}, longer {}; at most {} rounds and {} revisions; at detectors {}; of clappers {}",
+             steps of 0 {}, longer {}; at most {} rounds and {} revisions; at detectors {}; of clappers {}; of tables {}",
             self.accepted,
             self.cases - self.accepted,
             self.lines,
@@ -133,6 +140,7 @@ impl Seen {
             self.most_revisions,
             zeros.join(", "),
             clappers.join(", "),
+            saves.join(", "),
         )
     }
 }

@@ -6,10 +6,11 @@ use lib.ListN.{length}
 use borrow.Author.Needs.{needs}
 use Rattle.machine.specs.declared.part.Source.{Source}
 use Rattle.machine.specs.TableBytes.{parts-bytes, port-bytes, wires-bytes}
+use Rattle.soundness.specs.ByteLengths.{port-short}
 use Rattle.codec.specs.Words.{table}
 use Rattle.store.specs.Held.{parts-lent}
 use Rattle.saving.specs.LentTable.{lent-component, lent-table}
-use Rattle.saving.proofs.TableText.{PartFits, some-parts, part-fits-at, port-short, parts-counted, wires-counted}
+use Rattle.saving.proofs.TableText.{PartFits, some-parts, part-fits-at, parts-counted, wires-counted}
 use Rattle.saving.proofs.sweep.lengths_of.Statement.{statement}
 use Rattle.saving.proofs.sweep.lengths_of.Tie as tie
 
@@ -36,7 +37,7 @@ here c = part-fits-at _ (start-of (turn-of c) .pre .1) _ (omega arith)
 
 -- how many bytes a part's wires take, by what was read of its two ports
 port-bytes-short : {n : ℕ} {s r : Source} → n ≡ length (port-bytes 0 0 s) → s ≡ r → (n ≡ length (port-bytes 0 0 r)) × (n ≤ 4)
-port-bytes-short {s = s} is same = (rw same at is, omega (arith, is, port-short s))
+port-bytes-short {s = s} is same = (rw same at is, omega (arith, is, port-short 0 0 s))
 
 parts-of-requires : tie.Need-parts-of-requires Inv-loop μ-loop
 parts-of-requires c κs = omega arith

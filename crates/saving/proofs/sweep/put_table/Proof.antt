@@ -12,9 +12,10 @@ use Rattle.machine.specs.Load.{begin-byte, end-byte}
 use Rattle.machine.specs.TableBytes.{parts-bytes, wires-bytes, table-bytes}
 use Rattle.codec.specs.Words.{table}
 use Rattle.store.specs.Held.{lent, parts-lent, stored-component}
+use Rattle.soundness.specs.ByteLengths.{table-length}
 use Rattle.writing.specs.Put.{Put}
 use Rattle.saving.specs.LentTable.{lent-component, lent-table, part-text, wires-text}
-use Rattle.saving.proofs.TableText.{PartFits, some-parts, part-fits-at, parts-bytes-more, wires-bytes-more, parts-counted, wires-counted, parts-within, wires-within, table-length}
+use Rattle.saving.proofs.TableText.{PartFits, some-parts, part-fits-at, parts-bytes-more, wires-bytes-more, parts-counted, wires-counted, parts-within, wires-within}
 use Rattle.saving.proofs.TableSweep.{Sweep, swept-none, swept-part, swept-wires, swept-all}
 use Rattle.saving.proofs.sweep.put_table.Statement.{statement}
 use Rattle.saving.proofs.sweep.put_table.Tie as tie

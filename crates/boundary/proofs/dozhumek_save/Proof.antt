@@ -1,0 +1,32 @@
+-- `dozhumek_save` makes the call on words, and then writes its two numbers.
+use Rattle.boundary.proofs.Laws.{saved-short, saved-words}
+use borrow.Author.Needs.{needs}
+use Rattle.boundary.proofs.dozhumek_save.Statement.{statement}
+use Rattle.boundary.proofs.dozhumek_save.Tie as tie
+
+returns : tie.Need-returns
+returns c = saved-short _ _ _ _ (c .if1 .taken)
+
+save-requires : tie.Need-save-requires
+save-requires c κs = search needs
+
+put-found-requires : tie.Need-put-found-requires
+put-found-requires c κs = search needs
+
+same-length : tie.Need-same-length
+same-length c = search needs
+
+same-length-2 : tie.Need-same-length-2
+same-length-2 c = search needs
+
+returns-2 : tie.Need-returns-2
+returns-2 c =
+    let writes = c .before .before in
+    let calls = writes .before .before .before .before in
+    saved-words _ _ _ (calls .save .last .1 .1 .0) _ (writes .put-found .last .0) (calls .save .result) (calls .save .ensures) (calls .before .before .if1 .left)
+    (writes .put-found .ensures)
+
+pub dozhumek-save-spec : {M : Type 1} → statement M
+dozhumek-save-spec =
+    tie.close
+    (tie.spec returns save-requires put-found-requires same-length same-length-2 returns-2)

@@ -1,0 +1,2 @@
+-- Laws of what `savetable` tells.
+pub mod Tellings

@@ -1,0 +1,2 @@
+-- What the program `savetable` tells of a stream.
+pub mod Telling

@@ -1,0 +1,64 @@
+// The program `savetable`: loads the table that its standard input holds and writes its bytes, as `save` puts them, to standard output.
+// Where the load is refused it writes nothing there, and the line of the refusal to standard error. Where bytes could not be written it says
+// so there, since a program has no exit status of its own to tell it by.
+use lines::line::write_refused_at;
+use loading::load;
+use saving::save;
+use store::lookup::STATE_ROOM;
+use store::lookup::TABLE_ROOM;
+use transfer::intake::put_model;
+ghost use Prim.Native.Nat.{_≤_};
+ghost use lib.ListN.{length};
+ghost use Rattle.savetable.specs.Telling.{ToldOf};
+
+// How many bytes of standard input are read. A stream is accepted or refused long before them: a table that fits has at most 2,019.
+const MOST: usize = 65536;
+
+// How many bytes there is room for: those of the longest table, or the line of a refusal.
+const ROOM: usize = 2048;
+
+// What there is to tell of a stream: whether its load was refused, and how many bytes of a buffer tell it.
+struct Told {
+    refused: bool,
+    length: usize,
+}
+
+// The bytes of the table of a stream, or the line of its refusal.
+fn tell(stream: &[u8], out: &mut [u8]) -> Told
+    requires { ⌜ 2048 ≤ length (now out) ⌝ }
+    ensures { λ r. ⌜ ToldOf (now (stream .entry)) (now (out .exit)) r ⌝ }
+{
+    let loaded = load(stream);
+    if loaded.number != 0 {
+        let line = write_refused_at(loaded.number, loaded.position, out);
+        return Told {
+            refused: true,
+            length: line.length,
+        };
+    }
+    let model = loaded.model;
+    let mut table = [0u64; TABLE_ROOM];
+    let mut state = [0u64; STATE_ROOM];
+    put_model(model, &mut table, &mut state);
+    let saved = save(&table, &state, out);
+    Told {
+        refused: false,
+        length: saved.length,
+    }
+}
+
+// The table of the first 65,536 bytes of standard input, saved.
+fn main() {
+    let mut room = [0u8; MOST];
+    let n = io::read_full(0, &mut room);
+    let mut text = [0u8; ROOM];
+    let told = tell(&room[..n], &mut text);
+    let end = told.length;
+    if told.refused {
+        io::write_all(2, &text[..end]);
+        return;
+    }
+    if !io::write_all(1, &text[..end]) {
+        io::write_all(2, b"savetable: not all bytes could be written\n");
+    }
+}

@@ -1,0 +1,12 @@
+//! Loads the table at the start of the first 65,536 bytes of standard input and writes its saved bytes. Where it is
+//! refused nothing is written but why, on standard error.
+
+use second::{input, load, saved};
+use std::io::{self, Write};
+
+fn main() -> io::Result<()> {
+    match load(&input()) {
+        Ok(accepted) => io::stdout().write_all(&saved(&accepted.model)),
+        Err(refusal) => writeln!(io::stderr(), "{refusal}"),
+    }
+}
