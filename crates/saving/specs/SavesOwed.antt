@@ -86,6 +86,11 @@ room-first-refuted ts ss before after n refused saved =
 pub touched-refuted : (ts ss before after : List ℕ) (w : Written) → SavedInto ts ss before after w → (w .number ≡ 0 → ⊥) → (after ≡ before → ⊥) → ⊥
 touched-refuted ts ss before after w saved some touched = touched (refused-kept (lent-refusal ts ss) (saved-bytes (trimmed (held ts ss))) before after w saved some)
 
+-- one that touches a byte behind the length
+pub behind-touched-refuted : (ts ss before after : List ℕ) (w : Written) → SavedInto ts ss before after w → w .number ≡ 0 →
+    (drop (w .length) after ≡ drop (w .length) before → ⊥) → ⊥
+behind-touched-refuted ts ss before after w saved none touched = touched (saved-whole ts ss before after w saved none .behind)
+
 -- one that writes the master's magnitude, or any but the default: its second byte is the table's
 pub other-magnitude-refuted : (ts ss before after : List ℕ) (w : Written) → SavedInto ts ss before after w → w .number ≡ 0 →
     (getD (take (w .length) after) 1 0 ≡ trimmed (held ts ss) .magnitude → ⊥) → ⊥

@@ -43,7 +43,7 @@ add-length-2 c = search needs
 returns : tie.Need-returns
 returns c =
     let lengths = c .before .before .before in
-    too-long (bytes-of lengths) (start-of lengths .args .out .now) _ (whole-length lengths) (c .if1 .taken)
+    too-long (bytes-of lengths) (start-of lengths .args .out .now) _ (whole-length lengths) (omega (arith, c .if1 .taken))
 
 put-table-requires : tie.Need-put-table-requires
 put-table-requires c κs =

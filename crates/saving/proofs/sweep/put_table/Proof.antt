@@ -111,10 +111,21 @@ put-component-requires c κs =
     let begin = begin-of loop in
     let fit = here loop (omega arith) in
     let is = read .component-at .ensures in
-    let spans = ap (λ (k : Component). k .«span_count») is in
-    (omega (arith, spans, fit .spans),
-    (omega (arith, spans, parts-counted (words-of loop) (loop .loop .i) fit, parts-within (words-of loop) (loop .loop .i) (omega arith), loop .loop .inv .2 .ends,
-    table-length (lent-table (words-of loop)), room loop), rw is (fit .operands)))
+    let spans = ap (λ (k : Component). k .«span_count») is in (
+      omega (arith, spans, fit .spans),
+      (
+        omega (
+          arith,
+          spans,
+          parts-counted (words-of loop) (loop .loop .i) fit,
+          parts-within (words-of loop) (loop .loop .i) (omega arith),
+          loop .loop .inv .2 .ends,
+          table-length (lent-table (words-of loop)),
+          room loop,
+        ),
+        rw is (fit .operands),
+      ),
+    )
 
 put-wires-requires : tie.Need-put-wires-requires Inv-loop μ-loop
 unfolding lent-component trimmed-component wires-text
@@ -131,9 +142,16 @@ put-wires-requires c κs =
     let most = wires-within (words-of loop) i (omega arith) in
     let next = loop .loop .inv .2 .next in
     let begins = start-of (begin-of loop) .pre .1 .1 .0 in
-    let kept = c .before .before .before .put-component .kept .0 in
-    (omega (arith, few .1), (rw is (fit .port0), (rw is (fit .port1),
-    omega (arith, text, more, both, most, next, begins, kept, room loop, table-length (lent-table (words-of loop))))))
+    let kept = c .before .before .before .put-component .kept .0 in (
+      omega (arith, few .1),
+      (
+        rw is (fit .port0),
+        (
+          rw is (fit .port1),
+          omega (arith, text, more, both, most, next, begins, kept, room loop, table-length (lent-table (words-of loop))),
+        ),
+      ),
+    )
 
 add-i : tie.Need-add-i Inv-loop μ-loop
 add-i c = omega arith
@@ -147,9 +165,11 @@ loop-again c =
     let part = wires .before .before .before .before in
     let read = part .before .before in
     let loop = read .before .before in
-    let begins = start-of (begin-of loop) .pre .1 .1 .0 in
-    (omega arith, omega (arith, loop .loop .inv .1, part .put-component .kept .0, wires .put-wires .kept .0),
-    part-swept (words-of loop) (omega (arith, counted loop, read .before .loop-test .taken)) (read .component-at .ensures) begins (loop .loop .inv .2) (part .put-component .ensures) (wires .put-wires .ensures))
+    let begins = start-of (begin-of loop) .pre .1 .1 .0 in (
+      omega arith,
+      omega (arith, loop .loop .inv .1, part .put-component .kept .0, wires .put-wires .kept .0),
+      part-swept (words-of loop) (omega (arith, counted loop, read .before .loop-test .taken)) (read .component-at .ensures) begins (loop .loop .inv .2) (part .put-component .ensures) (wires .put-wires .ensures),
+    )
 
 put-byte-requires : tie.Need-put-byte-requires Inv-loop μ-loop
 unfolding lent-table
