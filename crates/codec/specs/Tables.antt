@@ -5,7 +5,7 @@ use native.Mathlib.Omega.{arith}
 use mathlib.Core.Path.{_≡_, refl, sym, subst, ap, ap₂, _∙_}
 use mathlib.Core.Bool.{true, false}
 use mathlib.Core.Logic.{_⊎_, inl, inr}
-use mathlib.Core.List.{List, [], _∷_, _++_}
+use mathlib.Core.List.{List, [], _∷_, _++_, map, map-append}
 use lib.ListN.{length, getD, take, set, length-append, length-set, List·getD-append}
 use lib.Seq.{take-suc-set, take-all, getD-at, ext-getD}
 use lib.Dec.{ltb}
@@ -65,6 +65,12 @@ module _ {ℓ} {A : Type ℓ} where
       let f : ℕ → A = λ (i : ℕ). getD l i d in
       let wide = length-table f n in
       ext-getD d (table f n) l (wide ∙ sym e) (λ i p. table-at f n i d (omega arith))
+
+-- the elements of a table, each taken to another
+pub map-table : {A B : Type 0} (g : A → B) (f : ℕ → A) (n : ℕ) → map g (table f n) ≡ table (λ (i : ℕ). g (f i)) n
+unfolding table
+map-table g f zero = refl
+map-table g f (suc n) = simp (map-append g (table f n) (f n ∷ []), map-table g f n)
 
 -- what holds of the elements before a place, and at it, holds of those before the next
 pub below-more : (P : ℕ → Type 0) (i : ℕ) → ((j : ℕ) → j < i → P j) → P i → (j : ℕ) → j < i + 1 → P j

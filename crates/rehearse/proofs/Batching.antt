@@ -9,7 +9,6 @@ use mathlib.Core.List.{List, [], _++_, append-assoc, append-nil}
 use lib.ListN.{length, take, length-take}
 use lib.Seq.{take-all}
 use borrow.Author.Tests.{ne-eqb}
-use Rattle.machine.specs.declared.model.Model.{Model}
 use Rattle.machine.specs.declared.model.Loaded.{Loaded}
 use Rattle.machine.specs.Load.{load}
 use Rattle.machine.specs.Model.{most-parts, trimmed, trimmed-loaded}

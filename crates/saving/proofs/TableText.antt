@@ -4,26 +4,21 @@ use Prim.Native.Nat.{ℕ, zero, suc, _+_, _*_, _-_, _/_, _%_, _≤_, _<_}
 use native.Mathlib.Nat.{add-zero, add-suc}
 use native.Mathlib.Numerals.{add-one}
 use native.Mathlib.Omega.{arith}
-use mathlib.Core.Path.{_≡_, refl, sym, ap, _∙_}
-use mathlib.Core.Bool.{Bool, true, false, cond}
-use mathlib.Core.Logic.{_⊎_, inl, inr}
+use mathlib.Core.Path.{_≡_, refl, ap, _∙_}
+use mathlib.Core.Bool.{true}
 use mathlib.Core.List.{List, [], _∷_, _++_, append-assoc, append-nil}
-use lib.ListN.{length, getD, length-append}
+use lib.ListN.{length, length-append}
 use lib.IntN.{ℤ, pos, negsuc}
 use lib.Dec.{ltb}
 use borrow.Author.Tests.{leb-true, ltb-true}
-use Rattle.machine.specs.declared.part.Kind.{Kind}
 use Rattle.machine.specs.declared.part.Source.{Source}
 use Rattle.machine.specs.declared.part.Source.the-variants.{Unwired, From}
 use Rattle.machine.specs.declared.part.Component.{Component}
-use Rattle.machine.specs.Lists.{All}
 use Rattle.machine.specs.Signal.{is-value, largest-value}
 use Rattle.machine.specs.Kind.{operands-fit, ports}
-use Rattle.machine.specs.Model.{most-parts, most-spans, blank-component, trimmed-component}
-use Rattle.machine.specs.Table.{Table}
-use Rattle.machine.specs.Load.{end-byte, is-drive}
+use Rattle.machine.specs.Model.{most-parts, blank-component, trimmed-component}
 use Rattle.machine.specs.Sound.{source-fits, table-fits}
-use Rattle.machine.specs.TableBytes.{operand-bytes, signed-operand, part-bytes, spans-bytes, parts-bytes, port-bytes, wires-bytes, table-bytes}
+use Rattle.machine.specs.TableBytes.{operand-bytes, signed-operand, part-bytes, spans-bytes, parts-bytes, port-bytes, wires-bytes}
 use Rattle.laws.specs.Bools.{and-right}
 use Rattle.laws.specs.ListLaws.{all-at}
 use Rattle.soundness.specs.Facts.{ComponentFits, table-facts}
@@ -110,7 +105,7 @@ operand-low (negsuc n) h =
         rw (first, second, third, byte0, byte1, byte2, byte3) refl
 
 -- what holds of the words of part i where the table fits
-pub record PartFits (ts : List ℕ) (i : ℕ) : Type 0 where
+pub record SavablePart (ts : List ℕ) (i : ℕ) : Type 0 where
   pub operands : operands-fit (stored-component ts i .kind) (stored-component ts i .a) (stored-component ts i .b) (stored-component ts i .p) ≡ true
   pub counted : stored-component ts i .«span_count» ≡ length (lent-component ts i .spans)
   pub spans : stored-component ts i .«span_count» ≤ 8
@@ -133,7 +128,7 @@ module _ (ts : List ℕ) (fits : table-fits (lent-table ts) ≡ true) where
       (omega (arith, many, f .some), omega (arith, many, f .few))
 
   -- and each is as its words' table asks
-  pub part-fits-at : (i : ℕ) → i < parts-lent ts → PartFits ts i
+  pub part-fits-at : (i : ℕ) → i < parts-lent ts → SavablePart ts i
   unfolding lent-table lent-component trimmed-component
   part-fits-at i low =
       let f = table-facts (lent-table ts) fits in
@@ -151,7 +146,7 @@ module _ (ts : List ℕ) (fits : table-fits (lent-table ts) ≡ true) where
       }
 
 -- the lengths with one part more, as its words tell them
-module _ (ts : List ℕ) (i : ℕ) (fit : PartFits ts i) where
+module _ (ts : List ℕ) (i : ℕ) (fit : SavablePart ts i) where
   pub parts-counted :
       length (parts-bytes (table (lent-component ts) (i + 1))) ≡
       length (parts-bytes (table (lent-component ts) i)) + (15 + 5 * stored-component ts i .«span_count»)

@@ -1,11 +1,9 @@
 -- The table that words mean, whatever the state's words are, and its bytes part by part. Assumes nothing.
-use Prim.Native.Nat.{ℕ, zero, suc, _+_, _%_, _≤_, _<_}
-use native.Mathlib.Numerals.{add-one}
+use Prim.Native.Nat.{ℕ, _%_, _<_}
 use native.Mathlib.Omega.{arith}
-use mathlib.Core.Path.{_≡_, refl, sym, ap, _∙_}
-use mathlib.Core.Bool.{true}
-use mathlib.Core.List.{List, [], _∷_, _++_, map, map-append}
-use lib.ListN.{length, take, length-append}
+use mathlib.Core.Path.{_≡_, ap, _∙_}
+use mathlib.Core.List.{List, _++_, map}
+use lib.ListN.{take}
 use lib.Seq.{take-all}
 use Rattle.machine.specs.declared.part.Source.{Source}
 use Rattle.machine.specs.declared.part.Source.the-variants.{Unwired, From}
@@ -13,9 +11,9 @@ use Rattle.machine.specs.declared.part.Component.{Component}
 use Rattle.machine.specs.declared.part.Part.{Part}
 use Rattle.machine.specs.Model.{trimmed-component, trimmed-part, trimmed}
 use Rattle.machine.specs.Table.{Table, table-of}
-use Rattle.machine.specs.TableBytes.{part-bytes, spans-bytes, parts-bytes, port-bytes, wires-bytes}
+use Rattle.machine.specs.TableBytes.{part-bytes, spans-bytes, port-bytes}
 use Rattle.codec.specs.Words.{table}
-use Rattle.codec.specs.Tables.{length-table}
+use Rattle.codec.specs.Tables.{length-table, map-table}
 use Rattle.store.specs.Held.{lent, parts-lent, stored-component, stored-part, held}
 
 -- the component of part i, without the places that no span is in
@@ -27,11 +25,6 @@ unfoldable pub lent-table : List ℕ → Table
 lent-table ts = record { magnitude = lent ts 0 % 256; parts = table (lent-component ts) (parts-lent ts) }
 
 -- it is that of the model that the words mean, with whatever state
-map-table : {A B : Type 0} (g : A → B) (f : ℕ → A) (n : ℕ) → map g (table f n) ≡ table (λ (i : ℕ). g (f i)) n
-unfolding table
-map-table g f zero = refl
-map-table g f (suc n) = simp (map-append g (table f n) (f n ∷ []), map-table g f n)
-
 pub lent-table-is : (ts ss : List ℕ) → table-of (trimmed (held ts ss)) ≡ lent-table ts
 unfolding table-of trimmed held lent-table lent-component stored-part trimmed-part
 lent-table-is ts ss =

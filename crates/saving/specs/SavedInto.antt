@@ -1,12 +1,9 @@
 -- What a save on lent words promises, for every argument, and what follows for a caller. Assumes nothing.
 use Prim.Native.Nat.{ℕ}
-use mathlib.Core.Path.{_≡_, refl, sym, ap, _∙_}
-use mathlib.Core.Bool.{Bool, true, false, cond, _&&_}
+use mathlib.Core.Path.{_≡_, refl}
+use mathlib.Core.Bool.{true, false, cond, _&&_}
 use mathlib.Core.Logic.{_⊎_, inl, inr}
-use mathlib.Core.List.{List, _++_}
-use lib.Dec.{eqb, leb}
-use lib.ListN.{length, take, drop}
-use lib.Seq.{take-at, drop-at}
+use mathlib.Core.List.{List}
 use Rattle.machine.specs.declared.model.Written.{Written}
 use Rattle.machine.specs.Model.{trimmed}
 use Rattle.machine.specs.Sound.{sound}

@@ -16,8 +16,8 @@ ghost use Rattle.store.specs.Held.{parts-lent, table-words};
 ghost use Rattle.saving.specs.LentTable.{lent-table};
 ghost use Rattle.saving.specs.SavedInto.{SavedInto};
 
-mod command;
 mod sweep;
+mod writer;
 
 // The number of a save of words that spell no sound model.
 const UNSOUND: u64 = 24;

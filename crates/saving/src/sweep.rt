@@ -1,8 +1,8 @@
 // The two sweeps over a table that a save makes: one for the length of its bytes, and one that puts them. The contracts cite
 // `specs/LentTable.antt` and the machine's `specs/TableBytes.antt`.
-use crate::command::put_begin;
-use crate::command::put_component;
-use crate::command::put_wires;
+use crate::writer::put_begin;
+use crate::writer::put_component;
+use crate::writer::put_wires;
 use kinds::source::is_wired;
 use machine::part::Source;
 use operands::refusal::END_BYTE;

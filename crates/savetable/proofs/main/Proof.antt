@@ -1,5 +1,4 @@
 -- `main` writes as many bytes of the buffer as there are to tell, which lie within it.
-use native.Mathlib.Omega.{arith}
 use mathlib.Core.Path.{sym}
 use lib.Seq.{length-take-le}
 use borrow.Author.Needs.{needs}

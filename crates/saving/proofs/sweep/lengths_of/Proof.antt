@@ -1,16 +1,15 @@
 -- `lengths_of` adds up the lengths part by part. The invariant: the sums are those of the first i parts, at most 55 and 8 bytes for each; the measure is how many are left.
-use Prim.Native.Nat.{ℕ, _+_, _*_, _-_, _≤_, _<_}
+use Prim.Native.Nat.{ℕ, _*_, _-_, _≤_}
 use native.Mathlib.Omega.{arith}
-use mathlib.Core.Path.{_≡_, refl, ap}
+use mathlib.Core.Path.{_≡_, refl}
 use lib.ListN.{length}
-use borrow.Author.Needs.{needs}
 use Rattle.machine.specs.declared.part.Source.{Source}
 use Rattle.machine.specs.TableBytes.{parts-bytes, port-bytes, wires-bytes}
 use Rattle.soundness.specs.ByteLengths.{port-short}
 use Rattle.codec.specs.Words.{table}
 use Rattle.store.specs.Held.{parts-lent}
 use Rattle.saving.specs.LentTable.{lent-component, lent-table}
-use Rattle.saving.proofs.TableText.{PartFits, some-parts, part-fits-at, parts-counted, wires-counted}
+use Rattle.saving.proofs.TableText.{SavablePart, some-parts, part-fits-at, parts-counted, wires-counted}
 use Rattle.saving.proofs.sweep.lengths_of.Statement.{statement}
 use Rattle.saving.proofs.sweep.lengths_of.Tie as tie
 
@@ -32,7 +31,7 @@ start-of turn = turn .before .before .before
 few : (c : tie.At-loop Inv-loop μ-loop) → parts-lent (start-of c .args .table .now) ≤ 32
 few c = some-parts _ (start-of c .pre .1) .1
 
-here : (c : tie.After-span-count-in Inv-loop μ-loop) → PartFits (start-of (turn-of c) .args .table .now) (turn-of c .loop .i)
+here : (c : tie.After-span-count-in Inv-loop μ-loop) → SavablePart (start-of (turn-of c) .args .table .now) (turn-of c .loop .i)
 here c = part-fits-at _ (start-of (turn-of c) .pre .1) _ (omega arith)
 
 -- how many bytes a part's wires take, by what was read of its two ports

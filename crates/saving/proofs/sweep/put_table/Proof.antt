@@ -2,10 +2,9 @@
 -- the measure is how many parts are left.
 use Prim.Native.Nat.{ℕ, _+_, _-_, _%_, _≤_, _<_}
 use native.Mathlib.Omega.{arith}
-use mathlib.Core.Path.{_≡_, refl, sym, ap, _∙_}
-use mathlib.Core.List.{List, [], _∷_, _++_, append-assoc}
+use mathlib.Core.Path.{_≡_, refl, ap}
+use mathlib.Core.List.{List, [], _∷_}
 use lib.ListN.{length, length-append}
-use borrow.Author.Needs.{needs}
 use Rattle.machine.specs.declared.part.Component.{Component}
 use Rattle.machine.specs.Model.{trimmed-component}
 use Rattle.machine.specs.Load.{begin-byte, end-byte}
@@ -15,7 +14,7 @@ use Rattle.store.specs.Held.{lent, parts-lent, stored-component}
 use Rattle.soundness.specs.ByteLengths.{table-length}
 use Rattle.writing.specs.Put.{Put}
 use Rattle.saving.specs.LentTable.{lent-component, lent-table, part-text, wires-text}
-use Rattle.saving.proofs.TableText.{PartFits, some-parts, part-fits-at, parts-bytes-more, wires-bytes-more, parts-counted, wires-counted, parts-within, wires-within}
+use Rattle.saving.proofs.TableText.{SavablePart, some-parts, part-fits-at, parts-bytes-more, wires-bytes-more, parts-counted, parts-within, wires-within}
 use Rattle.saving.proofs.TableSweep.{Sweep, swept-none, swept-part, swept-wires, swept-all}
 use Rattle.saving.proofs.sweep.put_table.Statement.{statement}
 use Rattle.saving.proofs.sweep.put_table.Tie as tie
@@ -39,7 +38,7 @@ start-of begin = begin .before .before .before .before .before .before
 abbrev words-of : tie.At-loop Inv-loop μ-loop → List ℕ
 words-of loop = start-of (begin-of loop) .args .table .now
 
-here : (c : tie.At-loop Inv-loop μ-loop) → c .loop .i < parts-lent (words-of c) → PartFits (words-of c) (c .loop .i)
+here : (c : tie.At-loop Inv-loop μ-loop) → c .loop .i < parts-lent (words-of c) → SavablePart (words-of c) (c .loop .i)
 here c low = part-fits-at _ (start-of (begin-of c) .pre .1 .0) _ low
 
 -- the count of parts was read

@@ -1,5 +1,4 @@
 -- `wire_length` goes by the two cases of a source.
-use Prim.Native.Nat.{ℕ}
 use mathlib.Core.Path.{_≡_, refl, sym, _∙_}
 use mathlib.Core.Bool.{true, false, true≢false}
 use lib.ListN.{length}

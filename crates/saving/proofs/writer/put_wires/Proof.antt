@@ -5,8 +5,8 @@ use Rattle.machine.specs.TableBytes.{port-bytes}
 use Rattle.writing.specs.Pieces.{put-then}
 use Rattle.saving.specs.LentTable.{wires-text}
 use borrow.Author.Needs.{needs}
-use Rattle.saving.proofs.command.put_wires.Statement.{statement}
-use Rattle.saving.proofs.command.put_wires.Tie as tie
+use Rattle.saving.proofs.writer.put_wires.Statement.{statement}
+use Rattle.saving.proofs.writer.put_wires.Tie as tie
 
 put-port-requires : tie.Need-put-port-requires
 unfolding wires-text

@@ -1,8 +1,8 @@
 -- `put_begin` puts two bytes, one behind the other.
 use Rattle.writing.specs.Pieces.{put-then}
 use borrow.Author.Needs.{needs}
-use Rattle.saving.proofs.command.put_begin.Statement.{statement}
-use Rattle.saving.proofs.command.put_begin.Tie as tie
+use Rattle.saving.proofs.writer.put_begin.Statement.{statement}
+use Rattle.saving.proofs.writer.put_begin.Tie as tie
 
 put-byte-requires : tie.Need-put-byte-requires
 put-byte-requires c κs = search needs

@@ -1,5 +1,5 @@
 -- `put_operands` puts three operands, one behind the other; the two signed ones are values, whose words have the lowest bytes of their operands.
-use mathlib.Core.Path.{_≡_, ap, _∙_}
+use mathlib.Core.Path.{ap, _∙_}
 use mathlib.Core.List.{append-assoc}
 use mir.Syntax.{w64}
 use mir.Val.{SFits}
@@ -9,8 +9,8 @@ use Rattle.machine.specs.TableBytes.{operand-bytes}
 use Rattle.writing.specs.Pieces.{put-then}
 use Rattle.saving.proofs.TableText.{operand-low}
 use borrow.Author.Needs.{needs}
-use Rattle.saving.proofs.command.put_operands.Statement.{statement}
-use Rattle.saving.proofs.command.put_operands.Tie as tie
+use Rattle.saving.proofs.writer.put_operands.Statement.{statement}
+use Rattle.saving.proofs.writer.put_operands.Tie as tie
 
 signed-word-requires : tie.Need-signed-word-requires
 signed-word-requires c κs = search needs

@@ -3,15 +3,14 @@ use Prim.Native.Nat.{ℕ, _+_, _*_, _-_, _≤_, _<_}
 use native.Mathlib.Numerals.{add-one}
 use native.Mathlib.Omega.{arith}
 use mathlib.Core.Path.{_≡_, refl, sym, ap, _∙_}
-use mathlib.Core.List.{List, [], _∷_, _++_, append-assoc, append-nil}
+use mathlib.Core.List.{List, [], _∷_, _++_, append-assoc}
 use lib.ListN.{length, getD, take}
 use lib.Seq.{take-suc}
-use borrow.Author.Needs.{needs}
-use Rattle.machine.specs.TableBytes.{operand-bytes, spans-bytes}
+use Rattle.machine.specs.TableBytes.{spans-bytes}
 use Rattle.writing.specs.Put.{Put}
 use Rattle.writing.specs.Pieces.{put-nothing, put-then, put-as}
-use Rattle.saving.proofs.command.put_spans.Statement.{statement}
-use Rattle.saving.proofs.command.put_spans.Tie as tie
+use Rattle.saving.proofs.writer.put_spans.Statement.{statement}
+use Rattle.saving.proofs.writer.put_spans.Tie as tie
 
 -- the commands of one span more
 spans-added : (vs : List ℕ) (v : ℕ) → spans-bytes (vs ++ (v ∷ [])) ≡ spans-bytes vs ++ spans-bytes (v ∷ [])

@@ -9,8 +9,8 @@ use Rattle.machine.specs.TableBytes.{port-bytes}
 use Rattle.writing.specs.Pieces.{put-nothing, put-as}
 use Rattle.saving.specs.LentTable.{SourceBelow}
 use borrow.Author.Needs.{needs}
-use Rattle.saving.proofs.command.put_port.Statement.{statement}
-use Rattle.saving.proofs.command.put_port.Tie as tie
+use Rattle.saving.proofs.writer.put_port.Statement.{statement}
+use Rattle.saving.proofs.writer.put_port.Tie as tie
 
 -- a wired port takes four bytes, and its source's number fits a byte
 wire-room : (receiver port at n k : ℕ) (s : Source) → s ≡ From k → at + length (port-bytes receiver port s) ≤ n → at + 4 ≤ n

@@ -1,8 +1,8 @@
 -- `put_kind` puts three bytes, one behind the other.
 use Rattle.writing.specs.Pieces.{put-then}
 use borrow.Author.Needs.{needs}
-use Rattle.saving.proofs.command.put_kind.Statement.{statement}
-use Rattle.saving.proofs.command.put_kind.Tie as tie
+use Rattle.saving.proofs.writer.put_kind.Statement.{statement}
+use Rattle.saving.proofs.writer.put_kind.Tie as tie
 
 put-byte-requires : tie.Need-put-byte-requires
 put-byte-requires c κs = search needs

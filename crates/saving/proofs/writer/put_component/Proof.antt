@@ -1,5 +1,4 @@
 -- `put_component` puts the command's first bytes, its operands and the spans in use, one behind the other.
-use mathlib.Core.List.{append-assoc}
 use mir.Syntax.{w64}
 use mir.Val.{SFits}
 use mir.ValLaws.{toZ-ofZ}
@@ -10,8 +9,8 @@ use Rattle.soundness.specs.Facts.{operand-values}
 use Rattle.writing.specs.Pieces.{put-then}
 use Rattle.saving.specs.LentTable.{part-text}
 use borrow.Author.Needs.{needs}
-use Rattle.saving.proofs.command.put_component.Statement.{statement}
-use Rattle.saving.proofs.command.put_component.Tie as tie
+use Rattle.saving.proofs.writer.put_component.Statement.{statement}
+use Rattle.saving.proofs.writer.put_component.Tie as tie
 
 put-kind-requires : tie.Need-put-kind-requires
 put-kind-requires c κs = search needs

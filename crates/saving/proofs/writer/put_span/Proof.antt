@@ -1,10 +1,9 @@
 -- `put_span` puts the command's byte and the span's four.
-use mathlib.Core.Path.{refl}
 use Rattle.machine.specs.TableBytes.{operand-bytes, spans-bytes}
 use Rattle.writing.specs.Pieces.{put-then}
 use borrow.Author.Needs.{needs}
-use Rattle.saving.proofs.command.put_span.Statement.{statement}
-use Rattle.saving.proofs.command.put_span.Tie as tie
+use Rattle.saving.proofs.writer.put_span.Statement.{statement}
+use Rattle.saving.proofs.writer.put_span.Tie as tie
 
 put-byte-requires : tie.Need-put-byte-requires
 put-byte-requires c κs = search needs
