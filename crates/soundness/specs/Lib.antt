@@ -1,4 +1,4 @@
--- Soundness tied to loading, and kept by steps. The results are in Magnitude, SoundParts, Fresh, Stepped, Accepted, Fuel and Bytes; the other files
+-- Soundness tied to loading, and kept by steps. The results are in Magnitude, SoundParts, Fresh, Stepped, Accepted, Fuel, Bytes and SavedBytes; the other files
 -- carry them.
 pub mod Facts
 pub mod Magnitude
