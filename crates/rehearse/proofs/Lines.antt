@@ -8,7 +8,7 @@ use mathlib.Core.List.{List, [], _++_, append-assoc, append-nil}
 use lib.ListN.{length, take, drop, length-append, length-take, length-drop, drop-of-length-le}
 use lib.Seq.{take-all, take-at, drop-at, drop-drop}
 use lib.Dec.{ltb}
-use borrow.Author.Tests.{le-leb, ltb-true}
+use borrow.Author.Tests.{ltb-true}
 use Rattle.machine.specs.declared.model.Model.{Model}
 use Rattle.machine.specs.declared.model.Score.{Score}
 use Rattle.machine.specs.declared.model.Score.the-variants.{End, Wanted, Refused}
@@ -21,27 +21,20 @@ use Rattle.laws.specs.Bools.{cond-cases}
 use Rattle.printing.specs.LineFuel.{score-later, lines-enough}
 use Rattle.machine.specs.declared.model.Written.{Written}
 use Rattle.writing.specs.Put.{Put}
+use Rattle.writing.specs.Fitting.{size-told, text-put}
 use Rattle.machine.specs.Writing.{WrittenAs}
 use Rattle.store.specs.Held.{held}
 use Rattle.rehearse.specs.declared.play.Rehearsing.{Rehearsing}
 use Rattle.rehearse.specs.declared.play.CommandPlayed.{CommandPlayed}
 use Rattle.rehearse.specs.Playing.{stands-in, Playable, lines-at, lines-left, PlayedWanted, PlayedOne, PlayedTurn}
 
--- what a written text's answer and buffer are, where the text fits
-fits-length : {text before after : List ℕ} {w : Written} → WrittenAs 0 text before after w → w .length ≡ length text
-fits-length written = rw (written .answer) refl
-
-fits-buffer : {text before after : List ℕ} {w : Written} → WrittenAs 0 text before after w → length text ≤ length before →
-    after ≡ text ++ drop (length text) before
-fits-buffer {text = text} {before = before} written h = written .buffer ∙ simp (le-leb (length text) (length before) h)
-
 -- a text written into what is left of a buffer, handed over as the rest of a list and as a part of it
 put-behind : {text xs ys : List ℕ} {w : Written} (used k : ℕ) → used + 1024 ≤ length xs → length xs ≤ used + k →
     WrittenAs 0 text (drop used xs) ys w → w .length ≤ 1024 → Put 1024 text used xs (take used xs ++ (ys ++ drop k (drop used xs))) (used + w .length)
 put-behind {text = text} {xs = xs} {ys = ys} {w = w} used k room rest written short =
-    let size : w .length ≡ length text = fits-length written in
+    let size : w .length ≡ length text = size-told written in
     let fits : length text ≤ length (drop used xs) = simp length-drop (omega arith) in
-    let put : ys ≡ text ++ drop (length text) (drop used xs) = fits-buffer written fits in
+    let put : ys ≡ text ++ drop (length text) (drop used xs) = text-put written fits in
     let none : drop k (drop used xs) ≡ [] = drop-of-length-le (drop used xs) {i = k} (simp length-drop (omega arith)) in
     let front : length (take used xs ++ text) ≡ used + length text = simp (length-append, length-take) (omega arith) in
     let whole : take used xs ++ (ys ++ drop k (drop used xs)) ≡ (take used xs ++ text) ++ drop (used + length text) xs =

@@ -16,7 +16,7 @@ use Rattle.machine.specs.Sound.{sound}
 use Rattle.machine.specs.Writing.{WrittenAs}
 use Rattle.machine.specs.Save.{saved-bytes}
 use Rattle.soundness.specs.SavedBytes.{every-saved-model}
-use Rattle.writing.specs.Fitting.{written-whole, enough-room}
+use Rattle.writing.specs.Fitting.{size-told, enough-room, written-whole}
 use Rattle.store.specs.Held.{held}
 use Rattle.transfer.specs.ModelPut.{ModelPut}
 use Rattle.loading.specs.LoadOwed.{accepted-is-a-table}
@@ -27,7 +27,7 @@ use Rattle.savetable.specs.Telling.{told-text, ToldOf}
 told-whole : (bs text before after : List ℕ) (w : Written) (refused : Bool) → refused ≡ not (eqb (load bs .number) 0) → text ≡ told-text bs →
     WrittenAs 0 text before after w → length text ≤ length before → ToldOf bs after (record { refused = refused; length = w .length })
 told-whole bs text before after w refused known is written long =
-    let whole = written-whole 0 text before after w written (enough-room text before after w written long) in
+    let whole = written-whole 0 text before after w written (enough-room written long) in
     record {
       refused = known;
       text = whole .front ∙ is;
@@ -42,7 +42,7 @@ refusal-told bs before after r w is some room written short =
     let number : load bs .number ≡ r .number = ap (λ (l : Loaded). l .number) (sym is) in
     let position : load bs .position ≡ r .position = ap (λ (l : Loaded). l .position) (sym is) in
     told-whole bs (refused-at-line (r .number) (r .position)) before after w true (rw (number, ne-eqb (r .number) 0 some) refl)
-    (rw (number, position, ne-eqb (r .number) 0 some) refl) written (omega (arith, room, short, ap (λ (x : Written). x .length) (written .answer)))
+    (rw (number, position, ne-eqb (r .number) 0 some) refl) written (omega (arith, room, short, size-told written))
 
 -- the bytes of the table of an accepted one, whose model was put into words
 pub table-told : (bs ts ss before after : List ℕ) (r : Loaded) (w : Written) → trimmed-loaded r ≡ load bs → r .number ≡ 0 → 2048 ≤ length before →

@@ -75,8 +75,11 @@ table-length t =
     let wires = wires-bytes 0 (t .parts) in
     omega (arith, length-append parts (wires ++ (end-byte ∷ [])), length-append wires (end-byte ∷ []))
 
-pub table-short : (t : Table) → table-fits t ≡ true → length (table-bytes t) ≤ 2019
-table-short t fits =
+pub sweeps-short : (t : Table) → table-fits t ≡ true → (length (parts-bytes (t .parts)) ≤ 1760) × (length (wires-bytes 0 (t .parts)) ≤ 256)
+sweeps-short t fits =
     let f = table-facts t fits in
     let few = f .few in
-    omega (arith, few, table-length t, parts-short (length (t .parts)) (t .parts) (f .components), wires-short 0 (t .parts))
+    (omega (arith, few, parts-short (length (t .parts)) (t .parts) (f .components)), omega (arith, few, wires-short 0 (t .parts)))
+
+pub table-short : (t : Table) → table-fits t ≡ true → length (table-bytes t) ≤ 2019
+table-short t fits = let each = sweeps-short t fits in omega (arith, table-length t, each .0, each .1)

@@ -4,11 +4,11 @@ use native.Mathlib.Omega.{arith}
 use mathlib.Core.Path.{_≡_, refl, sym, ap, _∙_}
 use mathlib.Core.Bool.{true, false}
 use mathlib.Core.Logic.{_⊎_, inl, inr}
-use mathlib.Core.List.{List}
+use mathlib.Core.List.{List, _++_}
 use lib.Dec.{leb}
 use lib.ListN.{length, take, drop}
 use lib.Seq.{take-append-seam, drop-append-seam}
-use borrow.Author.Tests.{le-leb, lt-leb, ne-eqb}
+use borrow.Author.Tests.{leb-true, le-leb, lt-leb, ne-eqb}
 use Rattle.machine.specs.declared.model.Written.{Written}
 use Rattle.machine.specs.Writing.{WrittenAs, too-short}
 use Rattle.laws.specs.Bools.{either}
@@ -27,8 +27,19 @@ put-in {r = r} {text = text} long put =
     record { answer = simp (le-leb _ _ long, end); buffer = simp (le-leb _ _ long, ← end) (put-whole put) }
 
 -- a call that its own tests refuse
-pub refused-as : (refusal : ℕ) (bytes buf : List ℕ) → (refusal ≡ 0 → ⊥) → WrittenAs refusal bytes buf buf (record { number = refusal; length = 0 })
-refused-as refusal bytes buf some = record { answer = rw (ne-eqb refusal 0 some) refl; buffer = rw (ne-eqb refusal 0 some) refl }
+pub nothing-written : (refusal : ℕ) (bytes buf : List ℕ) → (refusal ≡ 0 → ⊥) → WrittenAs refusal bytes buf buf (record { number = refusal; length = 0 })
+nothing-written refusal bytes buf some = record { answer = rw (ne-eqb refusal 0 some) refl; buffer = rw (ne-eqb refusal 0 some) refl }
+
+-- what a caller has of bytes that nothing refuses: their length in any case, and where there is room for them the number 0 and the buffer
+module _ {bytes before after : List ℕ} {w : Written} (written : WrittenAs 0 bytes before after w) where
+  pub size-told : w .length ≡ length bytes
+  size-told = ap (λ (x : Written). x .length) (written .answer)
+
+  pub enough-room : length bytes ≤ length before → w .number ≡ 0
+  enough-room long = ap (λ (x : Written). x .number) (written .answer) ∙ rw (le-leb (length bytes) (length before) long) refl
+
+  pub text-put : length bytes ≤ length before → after ≡ bytes ++ drop (length bytes) before
+  text-put long = rw (le-leb (length bytes) (length before) long) at (written .buffer)
 
 -- what a caller has of a call that ended with 0: nothing refused it, its bytes stand in front, and what lay behind them is kept
 pub record WrittenWhole (refusal : ℕ) (bytes before after : List ℕ) (w : Written) : Type 0 where
@@ -49,18 +60,14 @@ written-whole zero bytes before after w written none = fits (either (leb (length
         let number : _≡_ {A = ℕ} too-short 0 = rw short at (sym (ap (λ (x : Written). x .number) (written .answer)) ∙ none) in
         absurd (omega arith)
     fits (inl long) =
-        let size = ap (λ (x : Written). x .length) (written .answer) in
-        let buffer = rw long at (written .buffer) in
+        let size = size-told written in
+        let buffer = text-put written (leb-true (length bytes) (length before) long) in
         record {
           free = refl;
           size = size;
           front = rw (size, buffer) (take-append-seam bytes (drop (length bytes) before));
           behind = rw (size, buffer) (drop-append-seam bytes (drop (length bytes) before));
         }
-
--- bytes that nothing refuses are written where there is room for them
-pub enough-room : (bytes before after : List ℕ) (w : Written) → WrittenAs 0 bytes before after w → length bytes ≤ length before → w .number ≡ 0
-enough-room bytes before after w written long = ap (λ (x : Written). x .number) (written .answer) ∙ rw (le-leb (length bytes) (length before) long) refl
 
 -- and of one that ended with another number: the buffer is kept whole
 pub refused-kept : (refusal : ℕ) (bytes before after : List ℕ) (w : Written) → WrittenAs refusal bytes before after w → (w .number ≡ 0 → ⊥) → after ≡ before

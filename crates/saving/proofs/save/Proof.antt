@@ -1,5 +1,6 @@
 -- `save` makes the definition's test, and then has the bytes of the table that the words mean, which is that of their model.
 use Prim.Native.Nat.{ℕ}
+use native.Mathlib.Omega.{arith}
 use mathlib.Core.Path.{_≡_, refl, sym, _∙_}
 use mathlib.Core.Bool.{true, _&&_}
 use mathlib.Core.List.{List}
@@ -12,6 +13,7 @@ use Rattle.machine.specs.Writing.{WrittenAs}
 use Rattle.machine.specs.Save.{saved-bytes}
 use Rattle.laws.specs.Bools.{and-left, and-right}
 use Rattle.soundness.specs.Facts.{sound-facts}
+use Rattle.writing.specs.Fitting.{nothing-written}
 use Rattle.store.specs.Held.{held}
 use Rattle.store.specs.Form.{spelled}
 use Rattle.store.specs.Spelling.{spelled-room}
@@ -23,7 +25,7 @@ use Rattle.saving.proofs.save.Tie as tie
 
 -- words that are refused
 refused : (ts ss buf : List ℕ) → lent-refusal ts ss ≡ 24 → SavedInto ts ss buf buf (record { number = 24; length = 0 })
-refused ts ss buf is = record { answer = rw is refl; buffer = rw is refl }
+refused ts ss buf is = rw is (nothing-written 24 (saved-bytes (trimmed (held ts ss))) buf (λ e. omega arith))
 
 -- the bytes of a sound model's table
 accepted : (ts ss before after : List ℕ) (w : Written) → lent-refusal ts ss ≡ 0 → WrittenAs 0 (table-bytes (lent-table ts)) before after w →
