@@ -43,6 +43,21 @@ extern "C" {
         out: *mut u64,
         out_length: usize,
     ) -> u64;
+    fn dozhumek_sheet(
+        table: *const u64,
+        table_length: usize,
+        state: *const u64,
+        state_length: usize,
+        outcome: *const u64,
+        outcome_length: usize,
+        first: u64,
+        second: u64,
+        third: u64,
+        buffer: *mut u8,
+        buffer_length: usize,
+        out: *mut u64,
+        out_length: usize,
+    ) -> u64;
 }
 
 /// The table at the start of a stream, loaded into the words of a table and of a state. Written into `out` are the number,
@@ -108,6 +123,39 @@ pub fn save_into(table: &[u64], state: &[u64], buffer: &mut [u8], out: &mut [u64
             table.len(),
             state.as_ptr(),
             state.len(),
+            buffer.as_mut_ptr(),
+            buffer.len(),
+            out.as_mut_ptr(),
+            out.len(),
+        )
+    }
+}
+
+/// The sheet's line of an answer, printed at the front of a buffer: `table` and `state` are the words of the answer's model,
+/// `outcome` those that the advance or the preview wrote into its `out`, any numbers, and `choice` the parts whose outputs are
+/// shown. Written into `out` are the number, which is the answer too, and the length: with number 0 and with 25 that of a line,
+/// else 0.
+pub fn sheet_into(
+    table: &[u64],
+    state: &[u64],
+    outcome: &[u64],
+    choice: [u64; 3],
+    buffer: &mut [u8],
+    out: &mut [u64],
+) -> u64 {
+    let [first, second, third] = choice;
+    // SAFETY: the slices are whole, and those that are written overlap no other, by their types.
+    unsafe {
+        dozhumek_sheet(
+            table.as_ptr(),
+            table.len(),
+            state.as_ptr(),
+            state.len(),
+            outcome.as_ptr(),
+            outcome.len(),
+            first,
+            second,
+            third,
             buffer.as_mut_ptr(),
             buffer.len(),
             out.as_mut_ptr(),

@@ -1,11 +1,11 @@
-//! The rehearsal master's calls `load`, `advance`, `preview` and `save`. The calls themselves are the proved ones of the static
-//! library, and work in words of 64 bits that they are lent (`load_into`, `advance_into`, `preview_into`, `save_into`); here is
-//! the owner of those words, and what they say as typed records. The crate `store` of the repository defines the words, in `specs/Held.antt` and
-//! `specs/Form.antt`.
+//! The rehearsal master's calls `load`, `advance`, `preview`, `save` and `sheet`. The calls themselves are the proved ones of the
+//! static library, and work in words of 64 bits that they are lent (`load_into`, `advance_into`, `preview_into`, `save_into`,
+//! `sheet_into`); here is the owner of those words, and what they say as typed records. The crate `store` of the repository
+//! defines the words, in `specs/Held.antt` and `specs/Form.antt`.
 mod calls;
 mod part;
 
-pub use calls::{advance_into, load_into, preview_into, save_into};
+pub use calls::{advance_into, load_into, preview_into, save_into, sheet_into};
 pub use part::{Kind, Mark, Part, Side, KINDS};
 
 /// How many parts a model has room for, and how many spans a part.
@@ -16,6 +16,9 @@ pub const SPANS: usize = 8;
 pub const TABLE_RECORD: usize = 18;
 pub const STATE_RECORD: usize = 9;
 pub const HEAD: usize = 2;
+
+/// How many bytes a sheet's line has, with its line feed.
+pub const SHEET_LINE: usize = 79;
 
 /// How many words the table of a model of so many parts has.
 pub const fn table_words(parts: usize) -> usize {
@@ -95,6 +98,11 @@ impl Answer {
     fn of_words([number, step, rounds, revisions, ceiling]: [u64; 5]) -> Answer {
         Answer { number, step, rounds, revisions, ceiling }
     }
+
+    /// The words of the answer, as a call writes them.
+    fn words(&self) -> [u64; 5] {
+        [self.number, self.step, self.rounds, self.revisions, self.ceiling]
+    }
 }
 
 impl Model {
@@ -130,6 +138,28 @@ impl Model {
         let mut bytes = vec![0; out[1] as usize];
         match save_into(&self.table, &self.state, &mut bytes, &mut out) {
             0 => Ok(bytes),
+            number => Err(number),
+        }
+    }
+
+    /// The sheet's line of an answer whose model this is, with the outputs of three parts: t in 19 columns, n in 3, step in 10,
+    /// rounds in 4, revisions in 2 and the outputs in 11 each, or `refused` and the number; then a line feed. Where it has none
+    /// the number is told: 24, the model is not sound, or 26, there is no such part, or a number of a committed answer is
+    /// wider than its field, which none is that an advance or a preview of a sound model gives.
+    ///
+    /// ```
+    /// // A constant of 3.
+    /// let stream = [1, 0, 2, 0, 255, 3, 0, 0, 0, 0, 0, 0, 0, 0, 0, 0, 0, 5];
+    /// let mut model = dozhumek::load(&stream).model;
+    /// let answer = dozhumek::advance(&mut model, 7);
+    /// let due = format!("{:19} {:3} {:10} {:4} {:2} {:11} {:11} {:11}\n", 7, 0, 7, 1, 0, 3, 3, 3);
+    /// assert_eq!(model.sheet(&answer, [0, 0, 0]).as_ref().map(|line| &line[..]), Ok(due.as_bytes()));
+    /// assert_eq!(model.sheet(&answer, [0, 0, 1]), Err(26));
+    /// ```
+    pub fn sheet(&self, answer: &Answer, choice: [u64; 3]) -> Result<[u8; SHEET_LINE], u64> {
+        let mut line = [0; SHEET_LINE];
+        match sheet_into(&self.table, &self.state, &answer.words(), choice, &mut line, &mut [0; 2]) {
+            0 => Ok(line),
             number => Err(number),
         }
     }

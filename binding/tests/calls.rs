@@ -1,6 +1,6 @@
-//! Document 01's played examples and a clapper through the binding, previewed, played and saved: what lies in the words comes
-//! back whole, and words that spell no model are refused.
-use dozhumek::{advance, load, preview_into, save_into, state_words, table_words};
+//! Document 01's played examples and a clapper through the binding, previewed, played, saved and printed: what lies in the words
+//! comes back whole, and words that spell no model are refused.
+use dozhumek::{advance, load, preview_into, save_into, sheet_into, state_words, table_words};
 use dozhumek::{Answer, Kind, Mark, Model, Part, Preview, Side};
 
 /// A Part command.
@@ -49,14 +49,54 @@ fn saved_into(table: &[u64], state: &[u64], room: usize, words: usize) -> (u64, 
     (number, buffer, out)
 }
 
-/// Fails unless a save, a preview and an advance of these words are refused with 24, and leave them.
+/// The words of a model and of an answer, and the parts that are chosen.
+#[derive(Clone, Copy)]
+struct Sheet<'a> {
+    table: &'a [u64],
+    state: &'a [u64],
+    outcome: &'a [u64],
+    choice: [u64; 3],
+}
+
+impl Sheet<'_> {
+    /// The number of a sheet into so many bytes and so many words of an answer, each 9 before, and what they hold then.
+    fn printed_into(self, room: usize, words: usize) -> (u64, Vec<u8>, Vec<u64>) {
+        let (mut buffer, mut out) = (vec![9; room], vec![9; words]);
+        let number = sheet_into(self.table, self.state, self.outcome, self.choice, &mut buffer, &mut out);
+        (number, buffer, out)
+    }
+
+    /// Fails unless the sheet is refused with a number whatever its room is: length 0, and nothing written.
+    fn refused(self, number: u64) {
+        for room in [0, 78, 79, 100] {
+            assert_eq!(self.printed_into(room, 3), (number, vec![9; room], vec![number, 0, 9]));
+        }
+    }
+}
+
+/// The sheet's line of a model's answer, as text.
+fn line_of(model: &Model, answer: &Answer, choice: [u64; 3]) -> Result<String, u64> {
+    model.sheet(answer, choice).map(|line| String::from_utf8(line.to_vec()).unwrap())
+}
+
+/// The line of a refused answer.
+fn refused_line(number: u64) -> String {
+    format!("{:78}\n", format!("refused {number}"))
+}
+
+/// Fails unless a save, a sheet, a preview and an advance of these words are refused with 24, and leave them.
 fn refused(table: Vec<u64>, state: Vec<u64>) {
     for room in [0, 100] {
         assert_eq!(saved_into(&table, &state, room, 3), (24, vec![9; room], vec![24, 0, 9]));
     }
+    // Of an answer that would be printed, of one that is refused, and of one that is 26.
+    for (outcome, choice) in [([0; 5], [0; 3]), ([24, 0, 0, 0, 0], [0; 3]), ([0, u64::MAX, 0, 0, 0], [u64::MAX; 3])] {
+        Sheet { table: &table, state: &state, outcome: &outcome, choice }.refused(24);
+    }
     let mut model = Model::from_words(table.clone(), state.clone());
     assert_eq!(model.save(), Err(24));
     let answer = previewed(&mut model, 1);
+    assert_eq!(model.sheet(&answer, [0; 3]), Err(24));
     assert_eq!(answer, Answer { number: 24, step: 0, rounds: 0, revisions: 0, ceiling: 0 });
     assert_eq!(words(&model), (table, state));
 }
@@ -288,6 +328,111 @@ fn saves_into_lent_bytes() {
     }
     for words in [0, 1] {
         assert_eq!(saved(length, words), (25, vec![9; length], vec![9; words]));
+    }
+}
+
+#[test]
+fn sheets_of_answers() {
+    let drive = table(&[part(0, 1, 0, 0), part(11, 0, 0, 0), span(2), span(5), wire(0, 1, 0)]);
+    let mut model = load(&drive).model;
+    let before = words(&model);
+    let tried = model.preview(7);
+    let line = "                  5   0          5    2  0           1           5           1\n";
+    assert_eq!(line_of(&tried.model, &tried.answer, [0, 1, 0]).as_deref(), Ok(line));
+    assert_eq!(words(&model), before);
+    let first = advance(&mut model, 7);
+    let before = words(&model);
+    assert_eq!(line_of(&model, &first, [0, 1, 0]).as_deref(), Ok(line));
+    let line = "                  5   0          5    2  0           5           1           5\n";
+    assert_eq!(line_of(&model, &first, [1, 0, 1]).as_deref(), Ok(line));
+    assert_eq!(words(&model), before);
+    let second = advance(&mut model, 1);
+    assert_eq!(line_of(&model, &second, [0, 1, 0]), Ok(refused_line(22)));
+    let third = advance(&mut model, u64::MAX);
+    assert_eq!(line_of(&model, &third, [1, 1, 1]), Ok(refused_line(20)));
+
+    // An absent output, a negative one, and revisions.
+    let stream = table(&[part(0, 2, 0, 0), part(6, -7, 0, 0), part(8, 0, 0, 1), wire(0, 1, 0), wire(1, 2, 0)]);
+    let mut model = load(&stream).model;
+    let first = advance(&mut model, 8);
+    let line = "                  2   0          2    3  2           2          -3           -\n";
+    assert_eq!(line_of(&model, &first, [0, 1, 2]).as_deref(), Ok(line));
+    let answers = [8; 3].map(|wanted| advance(&mut model, wanted));
+    let line = "                  4   1          0    2  0           1           1           2\n";
+    assert_eq!(line_of(&model, &answers[2], [2, 1, 0]).as_deref(), Ok(line));
+}
+
+#[test]
+fn sheets_of_the_widest() {
+    let billion = 1_000_000_000;
+    let model = load(&table(&[part(0, -billion, 0, 0), part(0, billion, 0, 0)])).model;
+    let (table, mut state) = words(&model);
+    for at in [0, state_words(0), state_words(1)] {
+        state[at] = 999_999_999_000_000_000;
+    }
+    let mut model = Model::from_words(table, state);
+    let answer = advance(&mut model, 1_000_000_000);
+    let line = "1000000000000000000   0 1000000000    1  0 -1000000000  1000000000 -1000000000\n";
+    assert_eq!(line_of(&model, &answer, [0, 1, 0]).as_deref(), Ok(line));
+    // Counts as wide as their fields; the last ceiling has none.
+    let full = Answer { step: 9_999_999_999, rounds: 9_999, revisions: 99, ceiling: u64::MAX, ..answer };
+    let line = "1000000000000000000   0 9999999999 9999 99  1000000000 -1000000000  1000000000\n";
+    assert_eq!(line_of(&model, &full, [1, 0, 1]).as_deref(), Ok(line));
+    let wide = [
+        Answer { step: 10_000_000_000, ..answer },
+        Answer { rounds: 10_000, ..answer },
+        Answer { revisions: 100, ..answer },
+        Answer { step: u64::MAX, rounds: u64::MAX, revisions: u64::MAX, ..answer },
+    ];
+    for answer in wide {
+        assert_eq!(model.sheet(&answer, [0, 1, 0]), Err(26));
+        // A refused answer shows none of them.
+        for number in [1, 24, 26, 256, 1 << 32, u64::MAX] {
+            assert_eq!(line_of(&model, &Answer { number, ..answer }, [0, 1, 0]), Ok(refused_line(number)));
+        }
+    }
+}
+
+#[test]
+fn sheets_into_lent_bytes() {
+    let (table, state) = spelled();
+    let text = "                  0   0          5    1  0           3          10           3\n";
+    for (number, text) in [(0, text.to_string()), (22, refused_line(22))] {
+        // A word behind the answer is not looked at.
+        let outcome = [number, 5, 1, 0, 5, u64::MAX];
+        let sheet = Sheet { table: &table, state: &state, outcome: &outcome, choice: [0, 1, 0] };
+        for room in [0, 1, 78] {
+            assert_eq!(sheet.printed_into(room, 3), (25, vec![9; room], vec![25, 79, 9]));
+        }
+        for behind in [0, 1, 1000] {
+            let bytes = [text.as_bytes(), &vec![9; behind]].concat();
+            assert_eq!(sheet.printed_into(79 + behind, 3), (0, bytes, vec![0, 79, 9]));
+        }
+        for words in [0, 1] {
+            assert_eq!(sheet.printed_into(80, words), (25, vec![9; 80], vec![9; words]));
+        }
+        for length in 0..5 {
+            let sheet = Sheet { outcome: &outcome[..length], ..sheet };
+            assert_eq!(sheet.printed_into(80, 2), (25, vec![9; 80], vec![9; 2]));
+        }
+        let sheet = Sheet { outcome: &outcome[..5], ..sheet };
+        assert_eq!(sheet.printed_into(79, 2), (0, text.into_bytes(), vec![0, 79]));
+    }
+}
+
+#[test]
+fn sheets_refused() {
+    let (table, state) = spelled();
+    // A part that there is not, in each place, of a committed answer and of a refused one; none is taken modulo a width.
+    for part in [2, 32, 256, 65_536, 1 << 32, 1 << 63, u64::MAX] {
+        for choice in [[part, 0, 1], [0, part, 1], [0, 1, part]] {
+            for outcome in [[0, 5, 1, 0, 5], [22, 0, 2, 0, 1]] {
+                Sheet { table: &table, state: &state, outcome: &outcome, choice }.refused(26);
+            }
+        }
+    }
+    for outcome in [[0, 10_000_000_000, 1, 0, 5], [0, 5, 10_000, 0, 5], [0, 5, 1, 100, 5], [0, 5, 1 << 32, 0, 5]] {
+        Sheet { table: &table, state: &state, outcome: &outcome, choice: [0, 1, 0] }.refused(26);
     }
 }
 

@@ -39,7 +39,7 @@ pub(crate) const END: u8 = 5;
 const WANTED: u8 = 6;
 
 // The numbers of the refusals.
-const CUT: u8 = 1;
+pub(crate) const CUT: u8 = 1;
 const UNKNOWN_COMMAND: u8 = 2;
 const OUT_OF_PLACE: u8 = 3;
 const OUT_OF_RANGE: u8 = 5;

@@ -2,33 +2,15 @@
 
 use crate::load::{BEGIN, END, PART, SPAN, WIRE};
 use crate::model::{Kind, Model, Part, NO_PREFERENCE};
-
-const NOT_SOUND: u8 = 24;
-const TOO_SHORT: u8 = 25;
-
-/// What a writing call answers: the number, 0 if it wrote, and a length: that of the bytes written, with 25 that of the
-/// bytes that need room, with any other refusal 0.
-#[derive(Clone, Copy, Debug, PartialEq, Eq)]
-pub struct Written {
-    pub number: u8,
-    pub length: usize,
-}
+use crate::writing::{put, Written, NOT_SOUND};
 
 /// Writes the table of any model, sound or not, to the front of a buffer. What lies behind the length is kept, and all
 /// of the buffer where the call is refused.
 pub fn save(model: &Model, buffer: &mut [u8]) -> Written {
     if !model.sound() {
-        return Written { number: NOT_SOUND, length: 0 };
+        return Written::refused(NOT_SOUND);
     }
-    let bytes = table(model);
-    let length = bytes.len();
-    match buffer.get_mut(..length) {
-        None => Written { number: TOO_SHORT, length },
-        Some(front) => {
-            front.copy_from_slice(&bytes);
-            Written { number: 0, length }
-        }
-    }
+    put(&table(model), buffer)
 }
 
 /// What [`save`] writes where there is room enough; nothing where the model is not sound.

@@ -1,5 +1,5 @@
-//! What the programs' output cannot show: refusals 23 to 25, last ceilings, speeds, previews, saving from any state and
-//! into any room, and the two places where the library does not follow the document word by word (a drive's longest
+//! What the programs' output cannot show: refusals 23 to 26, last ceilings, speeds, previews, saving from any state and
+//! into any room, sheet lines of any answer and into any room, and the two places where the library does not follow the document word by word (a drive's longest
 //! step, the test of an order), against ones that do.
 
 #[allow(dead_code)]
@@ -9,7 +9,8 @@ mod random;
 use crate::advance::{local_step, longest_of_drive, LARGEST_WANTED};
 use crate::model::{LAST_TICK, MOST_PARTS};
 use crate::order::{is_the_order, order};
-use crate::{advance, load, preview, rehearse, save, Answer, Kind, Model, Part, Point, Side, Written};
+use crate::{advance, load, preview, printsheet, rehearse, save, sheet};
+use crate::{Answer, Kind, Model, Part, Point, Shown, Side, Written};
 use random::Random;
 
 fn bytes(hexadecimal: &str) -> Vec<u8> {
@@ -483,6 +484,185 @@ fn the_longest_table_is_saved() {
     commands.extend((0..MOST_PARTS as u8).flat_map(|number| [4, 31 - number, number, 0]));
     commands.push(5);
     assert_eq!((saved(&load(&commands).unwrap().model), commands.len()), (commands, 1891));
+}
+
+/// A committed answer's numbers.
+const COMMITTED: Shown = Shown { number: 0, step: 5, rounds: 2, revisions: 1 };
+
+/// Prints a sheet line into so much room, and fails unless what lies behind the line is kept, and all of it where refused.
+fn printed_into(model: &Model, shown: Shown, choice: [u64; 3], room: usize) -> (Written, String) {
+    let mut buffer = vec![0xAA; room];
+    let written = sheet(model, shown, choice, &mut buffer);
+    let taken = if written.number == 0 { written.length } else { 0 };
+    assert!(buffer[taken..].iter().all(|&byte| byte == 0xAA));
+    buffer.truncate(taken);
+    (written, String::from_utf8(buffer).unwrap())
+}
+
+/// The line of a sound model's answer.
+fn line(model: &Model, shown: Shown, choice: [u64; 3]) -> String {
+    let (written, line) = printed_into(model, shown, choice, 200);
+    assert_eq!(written, Written { number: 0, length: 79 });
+    line
+}
+
+/// What is answered to a line in so much room.
+fn told(model: &Model, shown: Shown, choice: [u64; 3], room: usize) -> (u8, usize) {
+    let Written { number, length } = printed_into(model, shown, choice, room).0;
+    (number, length)
+}
+
+/// Three constants and a pulse, the first two at the ends of the values.
+fn ends() -> Model {
+    let [low, high] = [-1_000_000_000, 1_000_000_000].map(|a| part(0, 0xFF, a, 0, 0));
+    fresh(&[&[1, 0], &low, &high, &part(0, 0xFF, 7, 0, 0), &part(4, 0xFF, 9, 0, 4)])
+}
+
+#[test]
+fn the_played_example_as_a_sheet() {
+    let input = bytes(
+        "01 00 00 00 00 00 00 00 01 00 00 00 \
+         01 00 02 00 FF 01 00 00 00 00 00 00 00 00 00 00 00 02 0B FF 00 00 00 00 00 00 00 00 00 00 00 00 \
+         03 02 00 00 00 03 05 00 00 00 04 00 01 00 05 06 07 00 00 00 06 04 00 00 00 06 01 00 00 00 07",
+    );
+    let (mut out, mut errors) = (Vec::new(), Vec::new());
+    printsheet(&input, &mut out, &mut errors).unwrap();
+    let lines = [
+        "                  5   0          5    2  0           5           1           5",
+        "                  7   0          2    2  0           7           1           7",
+        "refused 22                                                                    ",
+        "refused 2 at 62",
+    ];
+    assert_eq!(String::from_utf8(out).unwrap(), lines.map(|line| format!("{line}\n")).concat());
+    assert!(errors.is_empty());
+}
+
+#[test]
+fn a_sheets_fields_are_right_aligned() {
+    let narrow = "                  0   0          5    2  1           7           7           7\n";
+    assert_eq!(line(&ends(), COMMITTED, [2, 2, 2]), narrow);
+    let mut model = at(ends(), LAST_TICK);
+    model.point.n = 999;
+    let shown = Shown { number: 0, step: 9_999_999_999, rounds: 9999, revisions: 99 };
+    let wide = "1000000000000000000 999 9999999999 9999 99 -1000000000  1000000000 -1000000000\n";
+    assert_eq!(line(&model, shown, [0, 1, 0]), wide);
+}
+
+#[test]
+fn an_absent_output_is_a_single_dash() {
+    let absent = "                  0   0          5    2  1           -           7           -\n";
+    assert_eq!(line(&ends(), COMMITTED, [3, 2, 3]), absent);
+}
+
+#[test]
+fn a_sheets_outputs_are_chosen_by_part_number() {
+    // Part 0 is a gain that reads part 1, so that the order is 1, 0.
+    let model = fresh(&[&[1, 0], &part(1, 0xFF, 2, 0, 0), &part(0, 0xFF, 4, 0, 0), &[4, 1, 0, 0]]);
+    assert_eq!(model.order, [1, 0]);
+    assert!(line(&model, COMMITTED, [0, 1, 0]).ends_with("           8           4           8\n"));
+}
+
+#[test]
+fn a_refused_answer_fills_its_line() {
+    for number in [1, 20, 24, u64::MAX] {
+        // Its counts have no field, and may be of any width.
+        let shown = Shown { number, step: u64::MAX, rounds: u64::MAX, revisions: u64::MAX };
+        let text = format!("refused {number}");
+        let due = format!("{text}{}\n", " ".repeat(78 - text.len()));
+        assert_eq!(line(&ends(), shown, [0, 1, 2]), due);
+    }
+}
+
+#[test]
+fn each_number_of_a_committed_answer_has_to_fit_its_field() {
+    for (more, due) in [(0, (0, 79)), (1, (26, 0)), (1 << 63, (26, 0))] {
+        for shown in [
+            Shown { step: 9_999_999_999 + more, ..COMMITTED },
+            Shown { rounds: 9999 + more, ..COMMITTED },
+            Shown { revisions: 99 + more, ..COMMITTED },
+        ] {
+            assert_eq!(told(&ends(), shown, [0, 1, 2], 79), due, "{shown:?}");
+        }
+    }
+}
+
+#[test]
+fn a_chosen_part_has_to_exist_for_a_refused_answer_too() {
+    let refused = Shown { number: 22, ..COMMITTED };
+    for missing in [4, 5, 32, 256, 1 << 32, u64::MAX] {
+        for choice in [[missing, 0, 0], [0, missing, 0], [0, 0, missing], [missing; 3]] {
+            assert_eq!(told(&ends(), COMMITTED, choice, 79), (26, 0));
+            assert_eq!(told(&ends(), refused, choice, 79), (26, 0));
+        }
+    }
+    assert_eq!(told(&ends(), refused, [3, 0, 3], 79), (0, 79));
+}
+
+#[test]
+fn a_sheet_line_needs_a_room_of_79() {
+    for shown in [COMMITTED, Shown { number: 20, ..COMMITTED }] {
+        for room in 0..79 {
+            assert_eq!(told(&ends(), shown, [0, 1, 2], room), (25, 79));
+        }
+        for room in [79, 80, 1000] {
+            assert_eq!(told(&ends(), shown, [0, 1, 2], room), (0, 79));
+        }
+    }
+}
+
+#[test]
+fn a_sheets_refusals_are_24_then_26_then_25() {
+    let wide = Shown { rounds: 10_000, ..COMMITTED };
+    for room in [0, 78, 79] {
+        for (shown, choice) in [(wide, [0; 3]), (COMMITTED, [0, 0, 99]), (Shown { number: 24, ..wide }, [99; 3])] {
+            assert_eq!(told(&everything(), shown, choice, room), (26, 0));
+            for (name, edit) in UNSOUND {
+                let mut model = everything();
+                edit(&mut model);
+                assert_eq!(told(&model, shown, choice, room), (24, 0), "{name}");
+                assert_eq!(told(&model, COMMITTED, [0; 3], room), (24, 0), "{name}");
+            }
+        }
+    }
+}
+
+#[test]
+fn every_answer_for_a_sound_model_fits_its_line() {
+    let mut random = Random::of_case(6, 0);
+    let mut model = everything();
+    for _ in 0..500 {
+        let Answer { model: next, number, step, rounds, revisions, .. } = advance(model, random.below(60) as u64);
+        let shown = Shown { number: number.into(), step, rounds: rounds.into(), revisions: revisions.into() };
+        let printed = line(&next, shown, [0, 8, 12]);
+        assert_eq!(printed.starts_with("refused"), number != 0);
+        model = next;
+    }
+    for edit in UNREACHED {
+        let mut model = everything();
+        edit(&mut model);
+        line(&model, COMMITTED, [0, 3, 12]);
+    }
+}
+
+/// What the program that prints a sheet says on standard error, having printed nothing.
+fn not_printed(input: &[u8]) -> String {
+    let (mut out, mut errors) = (Vec::new(), Vec::new());
+    printsheet(input, &mut out, &mut errors).unwrap();
+    assert!(out.is_empty());
+    String::from_utf8(errors).unwrap()
+}
+
+#[test]
+fn a_program_without_three_parts_prints_nothing_but_why() {
+    let table = [&[1, 0][..], &part(0, 0xFF, 1, 0, 0), &[5]].concat();
+    let input = |choice: [u32; 3]| [&choice.map(u32::to_le_bytes).concat()[..], &table].concat();
+    for length in 0..12 {
+        assert_eq!(not_printed(&input([0; 3])[..length]), "refused 1 at 0\n");
+    }
+    assert_eq!(not_printed(&input([0; 3])), "");
+    assert_eq!(not_printed(&input([1, 0, 9])), "refused 26 at 0\n");
+    assert_eq!(not_printed(&input([0, 256, 1])), "refused 26 at 4\n");
+    assert_eq!(not_printed(&input([0, 0, u32::MAX])), "refused 26 at 8\n");
 }
 
 #[test]

@@ -1,5 +1,5 @@
 //! One load and one advance by both, compared: as it is, through the binding, and with too few words. Each advance is previewed
-//! as well, and each model's table saved.
+//! as well, each answer printed, and each model's table saved.
 
 use crate::alter::any;
 use crate::lent::{self, cut, fewer, same_records, spare, state_words, table_words, Call, Load, ADVANCE, TOO_SHORT};
@@ -7,17 +7,19 @@ use crate::previewed::preview;
 use crate::random::Random;
 use crate::saved::{save, save_fresh};
 use crate::seen::Seen;
+use crate::sheeted::sheet;
 use crate::words::*;
 use second::Model;
 
 /// The number of a model that is not sound.
 pub const NOT_SOUND: u64 = 24;
 
-/// An answer's number, step, rounds, revisions and last ceiling, and the words of its model.
+/// An answer's number, step, rounds, revisions and last ceiling, the words of its model, and the model that they mean: none where
+/// the second implementation's types cannot say it, and the answer is by rule.
 pub struct Expected {
     pub counts: [u64; 5],
     pub model: Words,
-    by_rule: bool,
+    pub meant: Option<Model>,
 }
 
 impl Expected {
@@ -40,7 +42,7 @@ impl Expected {
 fn expected(given: &Words, w: u64) -> Result<Expected, String> {
     let mut model = given.clone();
     let Some(meant) = model.model() else {
-        return Ok(Expected { counts: [NOT_SOUND, 0, 0, 0, 0], model, by_rule: true });
+        return Ok(Expected { counts: [NOT_SOUND, 0, 0, 0, 0], model, meant: None });
     };
     let answer = second::advance(meant.clone(), w);
     if answer.number == 0 {
@@ -49,7 +51,7 @@ fn expected(given: &Words, w: u64) -> Result<Expected, String> {
         return Err("the second implementation changes a model that it refuses".to_string());
     }
     let counts = [answer.number.into(), answer.step, answer.rounds.into(), answer.revisions.into(), answer.ceiling];
-    Ok(Expected { counts, model, by_rule: false })
+    Ok(Expected { counts, model, meant: Some(answer.model) })
 }
 
 /// Loads a stream with both. What the call leaves, and the second implementation's model, if it is accepted.
@@ -173,7 +175,7 @@ fn lend(given: &Words, random: &mut Random, seen: &mut Seen) -> (Vec<u64>, Vec<u
     (table, state)
 }
 
-/// Advances a model with both, previews it and saves its table. The number, and the model afterwards.
+/// Advances a model with both, previews it, prints the answers and saves its table. The number, and the model afterwards.
 pub fn advance(given: &Words, w: u64, random: &mut Random, seen: &mut Seen) -> Result<(u64, Words), String> {
     let want = expected(given, w)?;
     let fill = any(random);
@@ -203,7 +205,9 @@ pub fn advance(given: &Words, w: u64, random: &mut Random, seen: &mut Seen) -> R
         seen.count("advance through the binding");
     }
     short(&ADVANCE, &table, &old, w, &want, random, seen)?;
-    seen.answer(given, w, &want.counts, &want.model, want.by_rule);
+    let state = if want.counts[0] == 0 { &got.new } else { &old };
+    sheet(&table, state, &want, random, seen).map_err(|what| format!("sheet: {what}"))?;
+    seen.answer(given, w, &want.counts, &want.model, want.meant.is_none());
     Ok((want.counts[0], if want.counts[0] == 0 { after } else { given.clone() }))
 }
 

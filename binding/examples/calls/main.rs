@@ -1,5 +1,5 @@
-//! Compares the calls `load`, `advance`, `preview` and `save` of the static library with the second implementation, on models
-//! that no stream leads to as well: at the last tick and microstep, with any wanted step, and unsound in every way.
+//! Compares the calls `load`, `advance`, `preview`, `save` and `sheet` of the static library with the second implementation, on
+//! models that no stream leads to as well: at the last tick and microstep, with any wanted step, and unsound in every way.
 //!
 //!     calls [--calls N] [--seed S] [--only CASE] [--trace 1]
 //!
@@ -10,8 +10,9 @@
 //! previewed on the same words before it is made: the answer has to be the advance's, and the new state that of the answer's
 //! model, which is the old one where the call is refused; only words that spell no model leave none. Every model that is loaded
 //! or advanced is saved, into room of every sort, and compared byte for byte, with what lies behind. Of every accepted stream,
-//! and of some models that were moved or altered, the saved bytes are loaded again by both, and saved again. What differs is
-//! printed with its seed, case and words; --only repeats one case, --trace tells each case's number before it is tried.
+//! and of some models that were moved or altered, the saved bytes are loaded again by both, and saved again. Every answer of an
+//! advance and of a preview is printed as a line of a sheet, and compared in the same way. What differs is printed with its
+//! seed, case and words; --only repeats one case, --trace tells each case's number before it is tried.
 //! The status is 0 only if nothing differs and all sorts were reached.
 
 mod alter;
@@ -35,11 +36,13 @@ mod previewed;
 mod random;
 mod saved;
 mod seen;
+mod sheeted;
 #[allow(dead_code)]
 #[path = "../../../second/src/bin/differ/swept.rs"]
 mod swept;
 mod wanted;
 mod words;
+mod written;
 
 use alter::{Sort, Then, SORTS, SOUND};
 use compared::{advance, load, NOT_SOUND};

@@ -1,10 +1,12 @@
-//! One preview beside an advance of the same words, compared: as it is, through the binding, and with too few words.
+//! One preview beside an advance of the same words, compared: as it is, through the binding, and with too few words. Its answer
+//! is printed.
 
 use crate::alter::any;
 use crate::compared::{counts, same_words, short, Expected};
 use crate::lent::{same_records, spare, Left, PREVIEW, TOO_SHORT};
 use crate::random::Random;
 use crate::seen::Seen;
+use crate::sheeted::sheet_once;
 use crate::words::*;
 
 /// Previews the model of these words, of which an advance is expected to answer `want`.
@@ -21,6 +23,8 @@ pub fn preview(
     got.says(&want.counts, fill)?;
     leaves_state(&got, table, old, want, fill)?;
     seen.preview(want.counts[0]);
+    let state = if want.model.spelled() { &got.new } else { old };
+    sheet_once(table, state, want, random, seen).map_err(|what| format!("sheet: {what}"))?;
     if random.once_in(8) {
         preview_bound(table, old, w, want)?;
         seen.count("preview through the binding");

@@ -15,6 +15,7 @@ pub struct Seen {
     numbers: [u64; 32],
     preview_numbers: [u64; 32],
     save_numbers: [u64; 32],
+    sheet_numbers: [u64; 32],
     /// Answers of 24 for models that the second implementation's types cannot say.
     by_rule: u64,
     /// By name: altered models that are sound, and that are not.
@@ -41,7 +42,7 @@ const WANTED: [(&str, fn(u64) -> bool); 10] = [
 ];
 
 /// What else has to be tried.
-const OTHERS: [&str; 43] = [
+const OTHERS: [&str; 62] = [
     "load through the binding",
     "load into too few words",
     "refused load into too few words",
@@ -69,6 +70,25 @@ const OTHERS: [&str; 43] = [
     "save with too little room",
     "a fresh model's table loaded again",
     "any model's table loaded again",
+    "sheet into no room",
+    "sheet into room short by a byte",
+    "sheet into exact room",
+    "sheet into longer room",
+    "sheet of a preview",
+    "sheet of a model that is not sound",
+    "sheet of a committed answer",
+    "sheet of a committed answer and a part that there is not",
+    "sheet of a refused answer",
+    "sheet of a refused answer and a part that there is not",
+    "sheet of a committed answer with a number too wide",
+    "sheet of a committed answer with a field full",
+    "sheet of an altered answer, committed",
+    "sheet of a refused answer with a number too wide",
+    "sheet of an altered answer, refused",
+    "sheet through the binding",
+    "sheet of too few words",
+    "sheet with too little room",
+    "sheet of too few words of an answer",
     "words behind all places",
     "no word behind the model",
     "a word behind an absent signal",
@@ -104,6 +124,11 @@ impl Seen {
     /// Counts a save that agreed, by its number.
     pub fn save(&mut self, number: u64) {
         self.save_numbers[number as usize] += 1;
+    }
+
+    /// Counts a sheet that agreed, by its number.
+    pub fn sheet(&mut self, number: u64) {
+        self.sheet_numbers[number as usize] += 1;
     }
 
     /// Counts the kinds of a model that was loaded and played.
@@ -188,6 +213,9 @@ impl Seen {
         for number in [0, 24, 25] {
             must(self.save_numbers[number] > 0, format!("number {number} of a save"));
         }
+        for number in [0, 24, 25, 26] {
+            must(self.sheet_numbers[number] > 0, format!("number {number} of a sheet"));
+        }
         must(self.by_rule > 0, "models that the second implementation cannot say".to_string());
         for (name, then, _) in SORTS.iter().chain(MALFORMED) {
             let [sound, unsound] = self.sorts.get(name).copied().unwrap_or_default();
@@ -222,8 +250,8 @@ impl Seen {
             .collect();
         let others: Vec<String> = self.others.iter().map(|(name, count)| format!("{name} {count}")).collect();
         format!(
-            "{} loads{}; {} advances{}, {} of 24 by rule; {} previews{}; {} saves{}; at most {} rounds and {} revisions; altered \
-             (sound+unsound where both can be): {}; {}; kinds{}",
+            "{} loads{}; {} advances{}, {} of 24 by rule; {} previews{}; {} saves{}; {} sheets{}; at most {} rounds and {} \
+             revisions; altered (sound+unsound where both can be): {}; {}; kinds{}",
             self.loads,
             numbers(&self.load_numbers),
             self.advances,
@@ -233,6 +261,8 @@ impl Seen {
             numbers(&self.preview_numbers),
             self.save_numbers.iter().sum::<u64>(),
             numbers(&self.save_numbers),
+            self.sheet_numbers.iter().sum::<u64>(),
+            numbers(&self.sheet_numbers),
             self.most_rounds,
             self.most_revisions,
             sorts.join(", "),

@@ -1,4 +1,4 @@
-//! The fields of a model that a script alters, by name.
+//! The fields of a model and of an answer that a script alters, by name.
 
 use crate::words::*;
 use std::str::FromStr;
@@ -40,6 +40,15 @@ fn alter_part(part: &mut [u64], field: &[&str], value: &str) -> Option<()> {
         ["mark"] => part[MARK] = one_of(&["none", "1", "-1"], value)?,
         _ => return None,
     }
+    Some(())
+}
+
+/// The names of an answer's counts.
+const COUNTS: [&str; 5] = ["number", "step", "rounds", "revisions", "ceiling"];
+
+/// Puts a value into a count of an answer. None as for `alter`.
+pub fn alter_count(counts: &mut [u64; 5], name: &str, value: &str) -> Option<()> {
+    counts[one_of(&COUNTS, name)? as usize] = number(value)?;
     Some(())
 }
 

@@ -2,6 +2,7 @@
 //! whatever reads, alters and prints them is the same for both.
 
 use crate::words::Words;
+use second::Shown;
 
 /// What loading answers.
 pub struct Loaded {
@@ -11,6 +12,7 @@ pub struct Loaded {
 }
 
 /// What advancing answers: the number, the step, the rounds, the revisions and the last ceiling, and the model.
+#[derive(Clone)]
 pub struct Answer {
     pub counts: [u64; 5],
     pub model: Words,
@@ -34,6 +36,7 @@ pub trait Calls {
     fn advance(model: &Words, wanted: u64) -> Answer;
     fn preview(model: &Words, wanted: u64) -> Preview;
     fn save(model: &Words, buffer: &mut [u8]) -> Written;
+    fn sheet(answer: &Answer, choice: [u64; 3], buffer: &mut [u8]) -> Written;
 }
 
 /// The proved calls of the static library.
@@ -55,6 +58,14 @@ fn answer_of(answer: dozhumek::Answer, model: &dozhumek::Model) -> Answer {
     Answer { counts, model: words_of(model) }
 }
 
+/// What a writing call answers, of the two words that it writes.
+fn written(call: impl FnOnce(&mut [u64]) -> u64) -> Written {
+    let mut out = [0; 2];
+    call(&mut out);
+    let [number, length] = out;
+    Written { number, length }
+}
+
 impl Calls for Verified {
     fn load(stream: &[u8]) -> Loaded {
         let dozhumek::Loaded { number, position, model } = dozhumek::load(stream);
@@ -73,10 +84,11 @@ impl Calls for Verified {
     }
 
     fn save(model: &Words, buffer: &mut [u8]) -> Written {
-        let mut out = [0; 2];
-        dozhumek::save_into(&model.table(), &model.state(), buffer, &mut out);
-        let [number, length] = out;
-        Written { number, length }
+        written(|out| dozhumek::save_into(&model.table(), &model.state(), buffer, out))
+    }
+
+    fn sheet(Answer { counts, model }: &Answer, choice: [u64; 3], buffer: &mut [u8]) -> Written {
+        written(|out| dozhumek::sheet_into(&model.table(), &model.state(), counts, choice, buffer, out))
     }
 }
 
@@ -98,6 +110,15 @@ fn answered(words: &Words, call: impl FnOnce(second::Model) -> second::Answer) -
         counts: [answer.number.into(), answer.step, answer.rounds.into(), answer.revisions.into(), answer.ceiling],
         model: words,
     }
+}
+
+/// What a writing call of the second implementation answers for the model that these words mean.
+fn written_of(words: &Words, call: impl FnOnce(&second::Model) -> second::Written) -> Written {
+    let Some(meant) = words.model() else {
+        return Written { number: NOT_SOUND, length: 0 };
+    };
+    let written = call(&meant);
+    Written { number: written.number.into(), length: written.length as u64 }
 }
 
 impl Calls for Second {
@@ -128,10 +149,11 @@ impl Calls for Second {
     }
 
     fn save(model: &Words, buffer: &mut [u8]) -> Written {
-        let Some(meant) = model.model() else {
-            return Written { number: NOT_SOUND, length: 0 };
-        };
-        let written = second::save(&meant, buffer);
-        Written { number: written.number.into(), length: written.length as u64 }
+        written_of(model, |meant| second::save(meant, buffer))
+    }
+
+    fn sheet(Answer { counts, model }: &Answer, choice: [u64; 3], buffer: &mut [u8]) -> Written {
+        let [number, step, rounds, revisions, _] = *counts;
+        written_of(model, |meant| second::sheet(meant, Shown { number, step, rounds, revisions }, choice, buffer))
     }
 }

@@ -1,6 +1,6 @@
 //! The lines of a script: their words, the registers that they name, and the answers as they are printed.
 
-use crate::alterations::{alter, number};
+use crate::alterations::{alter, alter_count, number};
 use crate::implementations::{Answer, Calls, Preview, Written};
 use crate::words::{Words, COUNT, N, OUTPUT, PARTS, T};
 use std::collections::BTreeMap;
@@ -11,15 +11,17 @@ use std::marker::PhantomData;
 const MOST_ROOM: usize = 1 << 20;
 const LENT: u8 = 0xAA;
 
-/// The models by the names of their registers; a register that was never set holds no model.
+/// The models by the names of their registers, and their last answers; a register that was never set holds no model.
 pub struct Registers<C> {
     models: BTreeMap<String, Words>,
+    /// Of those that were advanced, or whose answer was altered.
+    pub answers: BTreeMap<String, Answer>,
     calls: PhantomData<C>,
 }
 
 impl<C> Default for Registers<C> {
     fn default() -> Self {
-        Registers { models: BTreeMap::new(), calls: PhantomData }
+        Registers { models: BTreeMap::new(), answers: BTreeMap::new(), calls: PhantomData }
     }
 }
 
@@ -49,7 +51,8 @@ impl<C: Calls> Registers<C> {
                 let (name, wanted) = (register(name)?, number(wanted)?);
                 let answer = C::advance(&self.model(&name), wanted);
                 let said = format!("advance {}", said(&answer));
-                self.models.insert(name, answer.model);
+                self.models.insert(name.clone(), answer.model.clone());
+                self.answers.insert(name, answer);
                 Some(said)
             }
             ["preview", name, wanted] => {
@@ -62,6 +65,19 @@ impl<C: Calls> Registers<C> {
                 let (name, mut buffer) = (register(name)?, lent(room)?);
                 let written = C::save(&self.model(&name), &mut buffer);
                 Some(format!("save {}", left(written, &buffer)))
+            }
+            ["sheet", name, first, second, third, room] => {
+                let choice = [number(first)?, number(second)?, number(third)?];
+                let (name, mut buffer) = (register(name)?, lent(room)?);
+                let written = C::sheet(&self.last_answer(&name), choice, &mut buffer);
+                Some(format!("sheet {}", left(written, &buffer)))
+            }
+            ["answer", name, count, value] => {
+                let name = register(name)?;
+                let mut answer = self.last_answer(&name);
+                alter_count(&mut answer.counts, count, value)?;
+                self.answers.insert(name, answer);
+                Some("altered".to_string())
             }
             ["alter", name, ref field @ .., value] => {
                 let name = register(name)?;
@@ -77,6 +93,12 @@ impl<C: Calls> Registers<C> {
     /// What a register holds.
     pub fn model(&self, name: &str) -> Words {
         self.models.get(name).cloned().unwrap_or_else(Words::none)
+    }
+
+    /// The last answer of a register's model; before there is one its counts are 0, and the model is the one held now.
+    pub fn last_answer(&self, name: &str) -> Answer {
+        let none = || Answer { counts: [0; 5], model: self.model(name) };
+        self.answers.get(name).cloned().unwrap_or_else(none)
     }
 }
 

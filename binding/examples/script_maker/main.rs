@@ -5,9 +5,11 @@
 //! Each case loads a stream of `second/src/bin/differ` into one of a few registers, plays some steps, and then alters the
 //! model in the ways of `examples/calls`, plays on, and mostly takes the alteration back. Before some advances the model is
 //! previewed, by the same wanted step or by others, or its table is saved, into room that is exact, short by a byte, longer or
-//! none; so is at times what a register holds before its load. The second implementation tells what the registers hold
-//! meanwhile. The bytes of unused places are free, so none comes into use that was not written by a line before. The status is
-//! 1, and what is missing is said, where a number, a field, a sort or a room was not reached.
+//! none; so is at times what a register holds before its load. Last answers are printed between the advances and before the
+//! first, as they are and with counts altered to the widths of their fields and above, with parts that there are and that there
+//! are not. The second implementation tells what the registers hold meanwhile. The bytes of unused places are free, so none
+//! comes into use that was not written by a line before. The status is 1, and what is missing is said, where a number, a field,
+//! a sort, a count's value or a room was not reached.
 
 #[allow(dead_code)]
 #[path = "../calls/alter.rs"]
@@ -45,13 +47,13 @@ mod wanted;
 mod words;
 
 use alter::{Then, SORTS, SOUND};
-use implementations::Second;
+use implementations::{Answer, Second};
 use random::Random;
 use registers::{hexadecimal, Registers};
 use std::collections::BTreeSet;
 use std::process::ExitCode;
 use wanted::wanted;
-use words::{Words, T};
+use words::{Words, COUNT, PARTS, T};
 
 const NAMES: [&str; 4] = ["m0", "m1", "drum", "7"];
 
@@ -65,12 +67,28 @@ const ROOMS: [(&str, u64); 4] = [("exact", 0), ("a byte short", 25), ("longer", 
 /// What a save is of.
 const SAVED: [&str; 3] = ["no model", "a model at tick 0", "a model at a later tick"];
 
+/// The rooms of a sheet.
+const SHEET_ROOMS: [u64; 6] = [0, 1, 78, 79, 80, 100];
+
+/// What an answer's counts are altered to.
+const COUNTS: [(&str, &[u64]); 5] = [
+    ("number", &[0, 1, 20, 24, 26, 256, 1 << 32, u64::MAX]),
+    ("step", &[9_999_999_999, 10_000_000_000, u64::MAX]),
+    ("rounds", &[9_999, 10_000, (1 << 32) + 1, u64::MAX]),
+    ("revisions", &[99, 100, (1 << 32) + 1, u64::MAX]),
+    ("ceiling", &[0, u64::MAX]),
+];
+
+/// What a sheet is of: an answer, and whose model.
+const SHEETED: [&str; 4] = ["no answer yet", "a committed answer", "a refused answer", "a model no longer held"];
+
 /// A script, what its registers hold at its end, and what it reached.
 #[derive(Default)]
 struct Made {
     script: String,
     registers: Registers<Second>,
     reached: BTreeSet<String>,
+    new_names: usize,
 }
 
 impl Made {
@@ -116,7 +134,36 @@ impl Made {
         self.reached.insert(format!("save {number} of {}", SAVED[what]));
     }
 
-    /// Advances a model by some step, up to `most` times, with previews and saves before. The last number of an advance.
+    /// Prints a model's last answer some times or never, and alters its counts before some of them.
+    fn sheet(&mut self, name: &str, random: &mut Random) {
+        while random.once_in(3) {
+            if random.once_in(3) {
+                let (count, values) = random.pick(&COUNTS);
+                let value = random.pick(values);
+                self.line(&format!("answer {name} {count} {value}"));
+                self.reached.insert(format!("answer {count} {value}"));
+            }
+            let Answer { counts, model } = self.registers.last_answer(name);
+            let parts = model.0[COUNT].min(PARTS as u64);
+            let mut choice = [(); 3].map(|_| random.below(parts.max(1) as usize) as u64);
+            if random.once_in(5) {
+                let missing = [parts, 32, 599, 600, 65_535, 65_536, 1 << 32, u64::MAX];
+                choice[random.below(3)] = random.pick(&missing);
+            }
+            let ([first, second, third], room) = (choice, random.pick(&SHEET_ROOMS));
+            let number = self.line(&format!("sheet {name} {first} {second} {third} {room}")).unwrap_or(0);
+            self.reached.insert(format!("sheet {number} into {room}"));
+            let answered = self.registers.answers.contains_key(name);
+            let of = if answered { 1 + usize::from(counts[0] != 0) } else { 0 };
+            self.reached.insert(format!("sheet {number} of {}", SHEETED[of]));
+            if model != self.words(name) {
+                self.reached.insert(format!("sheet {number} of {}", SHEETED[3]));
+            }
+        }
+    }
+
+    /// Advances a model by some step, up to `most` times, with previews, saves and sheets before, and sheets behind. The last
+    /// number of an advance.
     fn play(&mut self, name: &str, most: usize, random: &mut Random) -> Option<u64> {
         let mut number = None;
         for _ in 0..1 + random.below(most) {
@@ -125,8 +172,10 @@ impl Made {
             if random.once_in(6) {
                 self.save(name, random);
             }
+            self.sheet(name, random);
             number = self.line(&format!("advance {name} {w}"));
         }
+        self.sheet(name, random);
         number
     }
 
@@ -160,8 +209,17 @@ impl Made {
         }
     }
 
+    /// The register of a case: one of a few, or one that no line named before.
+    fn register(&mut self, random: &mut Random) -> String {
+        if !random.once_in(8) {
+            return random.pick(&NAMES).to_string();
+        }
+        self.new_names += 1;
+        format!("new{}", self.new_names)
+    }
+
     fn case(&mut self, random: &mut Random) {
-        let name = random.pick(&NAMES);
+        let name = &self.register(random);
         let mut stream = generate::case(random);
         if let Ok(accepted) = second::load(&stream) {
             // The score is played by the lines, and its bytes are seldom needed.
@@ -169,6 +227,7 @@ impl Made {
         }
         if random.once_in(20) {
             self.save(name, random);
+            self.sheet(name, random);
         }
         let number = self.line(&format!("load {name} {}", hexadecimal(&stream)));
         if number != Some(0) && !random.once_in(4) {
@@ -192,11 +251,20 @@ impl Made {
         let of_none = [format!("save 24 of {}", SAVED[0])];
         let of_some = SAVED[1..].iter().flat_map(|what| [0, 24, 25].map(|number| format!("save {number} of {what}")));
         let saves = rooms.chain(of_none).chain(of_some);
+        let counts =
+            COUNTS.iter().flat_map(|(count, values)| values.iter().map(move |value| format!("answer {count} {value}")));
+        let sheet_numbers = |room| [if room < 79 { 25 } else { 0 }, 24, 26];
+        let into = SHEET_ROOMS
+            .iter()
+            .flat_map(|&room| sheet_numbers(room).map(|number| format!("sheet {number} into {room}")));
+        let of = SHEETED.iter().flat_map(|what| [0, 24, 25, 26].map(|number| format!("sheet {number} of {what}")));
+        let sheets = counts.chain(into).chain(of);
         let named = fields::NAMES.iter().map(|field| format!("field {field}"));
         let sorts = SORTS.iter().filter(|sort| sort.0 != "as it was").map(|sort| format!("sort {}", sort.0));
         loads
             .chain(advances)
             .chain(saves)
+            .chain(sheets)
             .chain(named)
             .chain(sorts)
             .filter(|what| !self.reached.contains(what))

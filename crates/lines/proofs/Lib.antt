@@ -1,4 +1,3 @@
--- Digits, outputs one after the other, and the bounds of a line.
-mod Decimal
+-- Outputs one after the other, and the bounds of a line.
 mod Outputs
 mod LineBounds

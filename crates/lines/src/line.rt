@@ -20,7 +20,7 @@ ghost use Rattle.lines.specs.LineNumbers.{numbers-text};
 const REFUSAL_ROOM: usize = 64;
 
 // `refused N`, which begins the line of every refusal.
-fn put_refusal(line: &mut [u8], number: u64) -> usize
+pub fn put_refusal(line: &mut [u8], number: u64) -> usize
     requires { ⌜ 28 ≤ length (now line) ⌝ }
     ensures { λ r. ⌜ Put 28 (refused-text ++ decimal number) 0 (now (line .entry)) (now (line .exit)) r ⌝ }
 {

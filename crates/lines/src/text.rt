@@ -18,8 +18,8 @@ fn last_digit(n: u64) -> u8
 }
 
 // A number in base ten: the digits of its hundredth part, where it has one, then its last two.
-pub(crate) fn put_decimal(line: &mut [u8], at: usize, n: u64) -> usize
-    requires { ⌜ at + 20 ≤ length (now line) ⌝ }
+pub fn put_decimal(line: &mut [u8], at: usize, n: u64) -> usize
+    requires { ⌜ at + length (decimal n) ≤ length (now line) ⌝ }
     ensures { λ r. ⌜ Put 20 (decimal n) at (now (line .entry)) (now (line .exit)) r ⌝ }
 {
     if n < 10 {
@@ -35,8 +35,8 @@ pub(crate) fn put_decimal(line: &mut [u8], at: usize, n: u64) -> usize
 }
 
 // A value in base ten, with a hyphen before it where it is negative.
-fn put_value(line: &mut [u8], at: usize, v: i64) -> usize
-    requires { ⌜ at + 21 ≤ length (now line) ⌝ }
+pub fn put_value(line: &mut [u8], at: usize, v: i64) -> usize
+    requires { ⌜ at + length (signed-decimal v) ≤ length (now line) ⌝ }
     ensures { λ r. ⌜ Put 21 (signed-decimal v) at (now (line .entry)) (now (line .exit)) r ⌝ }
 {
     if v < 0 {

@@ -20,6 +20,7 @@ pub mod WholeList
 pub mod Previews
 pub mod Score
 pub mod Rehearse
+pub mod Sheet
 pub mod Played
 pub mod Rehearsals
 pub mod KindTable

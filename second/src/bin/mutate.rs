@@ -23,7 +23,7 @@ use std::time::Instant;
 const PLACE: &str = "target/mutants";
 
 /// The programs that `differ` compares.
-const PROGRAMS: [&str; 2] = ["rehearse-second", "savetable-second"];
+const PROGRAMS: [&str; 3] = ["rehearse-second", "savetable-second", "printsheet-second"];
 
 struct Mutation {
     name: String,
@@ -68,7 +68,8 @@ fn seen(mutation: &Mutation) -> Result<Option<String>, Box<dyn Error>> {
     copy("src", &source)?;
     fs::write(source.join(&mutation.file), mutation.made()?)?;
     let build = Command::new("cargo")
-        .args(["build", "--quiet", "--offline", "-j1", "--release", "--bin", PROGRAMS[0], "--bin", PROGRAMS[1]])
+        .args(["build", "--quiet", "--offline", "-j1", "--release"])
+        .args(PROGRAMS.iter().flat_map(|name| ["--bin", name]))
         .args(["--config", "profile.release.lto=false", "--config", "profile.release.opt-level=1"])
         .args(["--target-dir", "target"])
         .current_dir(PLACE)

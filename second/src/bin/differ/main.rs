@@ -1,7 +1,7 @@
 //! Compares other programs with the library, byte by byte, on named cases and on random ones with a purpose: one that
-//! rehearses a stream, and one that saves its table. Every saved table is loaded again by both.
+//! rehearses a stream, one that saves its table, and one that prints the sheet. Every saved table is loaded again by both.
 //!
-//!     differ REHEARSE SAVETABLE [--cases N] [--seed S] [--only NUMBER] [--unnamed 1]
+//!     differ REHEARSE SAVETABLE PRINTSHEET [--cases N] [--seed S] [--only NUMBER] [--unnamed 1]
 //!
 //! Case NUMBER of seed S is the same everywhere; --unnamed 1 leaves the named and the swept ones out. What differs is
 //! printed with its seed, number and bytes. The status is 0 only if nothing differs and the cases reached all they should.
@@ -16,13 +16,13 @@ mod program;
 mod random;
 mod saves;
 mod seen;
+mod sheets;
 mod swept;
 mod zeros;
 
 use named::Named;
 use program::{Program, Programs};
 use random::Random;
-use saves::Saves;
 use seen::Seen;
 use std::process::ExitCode;
 use std::sync::atomic::{AtomicBool, AtomicU64, Ordering};
@@ -34,6 +34,7 @@ const THREADS: usize = 2;
 struct Arguments {
     rehearse: String,
     savetable: String,
+    printsheet: String,
     cases: u64,
     seed: u64,
     only: Option<u64>,
@@ -42,15 +43,15 @@ struct Arguments {
 
 fn arguments() -> Option<Arguments> {
     let mut given = std::env::args().skip(1);
-    let (rehearse, savetable) = (given.next()?, given.next()?);
+    let (rehearse, savetable, printsheet) = (given.next()?, given.next()?, given.next()?);
     let [cases, seed, only, unnamed] = options::numbers(given, ["--cases", "--seed", "--only", "--unnamed"])?;
     let (cases, seed) = (cases.unwrap_or(20_000), seed.unwrap_or(1));
-    Some(Arguments { rehearse, savetable, cases, seed, only, unnamed: unnamed == Some(1) })
+    Some(Arguments { rehearse, savetable, printsheet, cases, seed, only, unnamed: unnamed == Some(1) })
 }
 
 fn main() -> ExitCode {
     let Some(arguments) = arguments() else {
-        eprintln!("usage: differ REHEARSE SAVETABLE [--cases N] [--seed S] [--only NUMBER] [--unnamed 1]");
+        eprintln!("usage: differ REHEARSE SAVETABLE PRINTSHEET [--cases N] [--seed S] [--only NUMBER] [--unnamed 1]");
         return ExitCode::from(2);
     };
     match compare(&arguments) {
@@ -67,8 +68,11 @@ fn main() -> ExitCode {
 
 /// One line of figures, or what went wrong.
 fn compare(arguments: &Arguments) -> Result<String, String> {
-    let programs =
-        Programs { rehearse: Program::watched(&arguments.rehearse), savetable: Program::watched(&arguments.savetable) };
+    let programs = Programs {
+        rehearse: Program::watched(&arguments.rehearse),
+        savetable: Program::watched(&arguments.savetable),
+        printsheet: Program::watched(&arguments.printsheet),
+    };
     if let Some(number) = arguments.only {
         return one_case(arguments.seed, number, &programs);
     }
@@ -103,13 +107,14 @@ fn compare(arguments: &Arguments) -> Result<String, String> {
 /// One random case, with its bytes.
 fn one_case(seed: u64, number: u64, programs: &Programs) -> Result<String, String> {
     let stream = stream_of(seed, number);
-    match difference(programs, number, &stream, &expected(&stream), &mut Saves::default()) {
+    match difference(programs, number, &stream, &expected(&stream), &mut Seen::default()) {
         None => Ok(format!("{}: nothing differs\n{}", name_of(seed, number), hexadecimal(&stream))),
         Some(what) => Err(report(&name_of(seed, number), &stream, &what)),
     }
 }
 
-/// A named case: the library and the program both have to print what the document says, and to save its table alike.
+/// A named case: the library and the program both have to print what the document says, and to save its table and print
+/// its sheet alike.
 fn named_case(case: &Named, ticket: u64, programs: &Programs) -> Result<(), String> {
     if case.wrong_reading == Some(&case.expected) {
         return Err(format!("{}: the case does not tell the readings apart", case.name));
@@ -118,7 +123,7 @@ fn named_case(case: &Named, ticket: u64, programs: &Programs) -> Result<(), Stri
     if own != case.expected.as_bytes() {
         return Err(format!("{}: the library differs from the document", case.name));
     }
-    let Some(what) = difference(programs, ticket, &case.stream, &own, &mut Saves::default()) else {
+    let Some(what) = difference(programs, ticket, &case.stream, &own, &mut Seen::default()) else {
         return Ok(());
     };
     let misread = what.got.is_some() && what.got.as_deref() == case.wrong_reading.map(str::as_bytes);
@@ -159,7 +164,7 @@ fn many_cases(arguments: &Arguments, programs: &Programs, swept: &[Vec<u8>]) -> 
             }
             let (name, stream) = swept_or_random(swept, arguments.seed, number);
             let output = expected(&stream);
-            if let Some(what) = difference(programs, number, &stream, &output, &mut seen.saves) {
+            if let Some(what) = difference(programs, number, &stream, &output, &mut seen) {
                 let failure = Failure { number, text: report(&name, &stream, &what) };
                 failures.lock().unwrap().push(failure);
                 stop.store(true, Ordering::SeqCst);
@@ -209,16 +214,13 @@ impl Difference {
     }
 }
 
-/// What differs where a stream is rehearsed, and where its table is saved and loaded again.
-fn difference(
-    programs: &Programs,
-    ticket: u64,
-    stream: &[u8],
-    expected: &[u8],
-    saves: &mut Saves,
-) -> Option<Difference> {
+/// What differs where a stream is rehearsed, where its table is saved and loaded again, and where its sheet is printed.
+fn difference(programs: &Programs, ticket: u64, stream: &[u8], expected: &[u8], seen: &mut Seen) -> Option<Difference> {
     match programs.rehearse.run(ticket, stream) {
-        Ok(got) if got.out == expected => saves.difference(programs, ticket, stream, expected),
+        Ok(got) if got.out == expected => seen
+            .saves
+            .difference(programs, ticket, stream, expected)
+            .or_else(|| seen.sheets.difference(programs, ticket, stream, expected)),
         Ok(got) => Some(Difference { text: first_line_that_differs(expected, &got.out), got: Some(got.out) }),
         Err(text) => Difference::of(text),
     }

@@ -16,6 +16,7 @@ const PIPE: usize = 4096;
 pub struct Programs {
     pub rehearse: Arc<Program>,
     pub savetable: Arc<Program>,
+    pub printsheet: Arc<Program>,
 }
 
 /// What a program wrote to standard output and to standard error.

@@ -10,6 +10,15 @@ impl Random {
         random
     }
 
+    /// The generator that a case's own bytes give.
+    pub fn of_bytes(bytes: &[u8]) -> Random {
+        let mut random = Random(bytes.len() as u64);
+        for &byte in bytes {
+            random.0 = random.0.wrapping_mul(0x0000_0100_0000_01B3) ^ u64::from(byte);
+        }
+        random
+    }
+
     fn next(&mut self) -> u64 {
         self.0 = self.0.wrapping_add(0x9E37_79B9_7F4A_7C15);
         let mut z = self.0;

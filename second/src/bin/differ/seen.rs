@@ -3,6 +3,7 @@
 use crate::clappers::Clappers;
 use crate::draft::KINDS;
 use crate::saves::Saves;
+use crate::sheets::Sheets;
 use crate::zeros::Zeros;
 use second::load;
 
@@ -27,6 +28,7 @@ pub struct Seen {
     zeros: Zeros,
     clappers: Clappers,
     pub saves: Saves,
+    pub sheets: Sheets,
 }
 
 impl Seen {
@@ -74,6 +76,7 @@ impl Seen {
         self.zeros.add(&other.zeros);
         self.clappers.add(&other.clappers);
         self.saves.add(&other.saves);
+        self.sheets.add(&other.sheets);
         self.most_rounds = self.most_rounds.max(other.most_rounds);
         self.most_revisions = self.most_revisions.max(other.most_revisions);
     }
@@ -106,6 +109,9 @@ impl Seen {
         for (name, count) in self.saves.named() {
             must(count > 0, format!("a table {name}"));
         }
+        for (name, count) in self.sheets.named() {
+            must(count > 0, format!("a sheet's {name}"));
+        }
         let astray = self.clappers.astray();
         must(astray == 0, format!("only positions of clappers that the lines before lead to ({astray} are others)"));
         must(
@@ -124,9 +130,11 @@ impl Seen {
         let zeros: Vec<String> = self.zeros.named().map(|(name, count)| format!("{name} {count}")).collect();
         let clappers: Vec<String> = self.clappers.named().map(|(name, count)| format!("{name} {count}")).collect();
         let saves: Vec<String> = self.saves.named().map(|(name, count)| format!("{name} {count}")).collect();
+        let sheets: Vec<String> = self.sheets.named().map(|(name, count)| format!("{name} {count}")).collect();
         format!(
             "{} tables accepted, {} refused; {} lines; refusals{}; in scores{}; kinds accepted{}; kinds refused{}; \
-             steps of 0 {}, longer {}; at most {} rounds and {} revisions; at detectors {}; of clappers {}; of tables {}",
+             steps of 0 {}, longer {}; at most {} rounds and {} revisions; at detectors {}; of clappers {}; of tables {}; \
+             of sheets {}",
             self.accepted,
             self.cases - self.accepted,
             self.lines,
@@ -141,6 +149,7 @@ impl Seen {
             zeros.join(", "),
             clappers.join(", "),
             saves.join(", "),
+            sheets.join(", "),
         )
     }
 }

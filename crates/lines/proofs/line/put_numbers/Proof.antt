@@ -1,7 +1,9 @@
 -- `put_numbers` puts the five numbers one behind the other, the first four with their blanks.
+use native.Mathlib.Omega.{arith}
 use mathlib.Core.List.{append-assoc}
 use borrow.Author.Needs.{needs}
 use Rattle.lines.specs.LineNumbers.{numbers-text}
+use Rattle.printing.specs.Decimal.{word-digits}
 use Rattle.writing.specs.Pieces.{put-then}
 use Rattle.lines.proofs.line.put_numbers.Statement.{statement}
 use Rattle.lines.proofs.line.put_numbers.Tie as tie
@@ -19,7 +21,13 @@ put-number-requires-4 : tie.Need-put-number-requires-4
 put-number-requires-4 c κs = search needs
 
 put-decimal-requires : tie.Need-put-decimal-requires
-put-decimal-requires c κs = search needs
+put-decimal-requires c κs =
+    let fourth = c .before .before .before in
+    let third = fourth .before .before .before .before in
+    let second = third .before .before .before .before in
+    let first = second .before .before .before .before in
+    let start = first .before .before .before in
+    omega (arith, word-digits (start .args .revisions) (omega (arith, start .fits .revisions)))
 
 same-length : tie.Need-same-length
 same-length c = search needs

@@ -1,7 +1,9 @@
 -- `put_refused_at_line` puts what every refusal begins with, the text ` at `, the position's digits and a line feed, one behind the other.
+use native.Mathlib.Omega.{arith}
 use mathlib.Core.List.{append-assoc}
 use borrow.Author.Needs.{needs}
 use Rattle.machine.specs.Rehearse.{refused-at-line}
+use Rattle.printing.specs.Decimal.{word-digits}
 use Rattle.writing.specs.Pieces.{put-then}
 use Rattle.lines.proofs.line.put_refused_at_line.Statement.{statement}
 use Rattle.lines.proofs.line.put_refused_at_line.Tie as tie
@@ -16,7 +18,11 @@ put-text-requires : tie.Need-put-text-requires
 put-text-requires c κs = search needs
 
 put-decimal-requires : tie.Need-put-decimal-requires
-put-decimal-requires c κs = search needs
+put-decimal-requires c κs =
+    let text = c .before .before .before in
+    let refusal : tie.After-put-refusal = text .before .before .before .before .before in
+    let start = refusal .before .before .before in
+    omega (arith, word-digits (start .args .position) (omega (arith, start .fits .position)))
 
 put-byte-requires : tie.Need-put-byte-requires
 put-byte-requires c κs = search needs

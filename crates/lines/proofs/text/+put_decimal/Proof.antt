@@ -12,7 +12,7 @@ use borrow.Fn.Kinds.{In}
 use borrow.Fn.PlainCycle.{Measures, is, falls, and}
 use Rattle.machine.specs.Rehearse.{decimal}
 use Rattle.writing.specs.Put.{Put}
-use Rattle.lines.proofs.Decimal.{one-digit, more-digits, few-digits}
+use Rattle.printing.specs.Decimal.{one-digit, more-digits, few-digits, some-digits, tenth-digits, hundredth-digits}
 use Rattle.writing.specs.Pieces.{put-then, put-as}
 use Rattle.lines.proofs.text.put_decimal.Reads as put-decimal
 use Rattle.lines.proofs.text.put_decimal.Kinds as put-decimal-kinds
@@ -59,7 +59,9 @@ module _ (t : ℕ) where
   last-digit-requires c κs = tt
 
   put-byte-requires : put-decimal-lts.Need-put-byte-requires callees given put-decimal.Post
-  put-byte-requires c κs = search needs
+  put-byte-requires c κs =
+      let start = c .before .before .before .before in
+      omega (arith, some-digits (start .args .n))
 
   same-length : put-decimal-lts.Need-same-length callees given put-decimal.Post
   same-length c = search needs
@@ -74,13 +76,19 @@ module _ (t : ℕ) where
   last-digit-requires-2 c κs = tt
 
   put-byte-requires-2 : put-decimal-lts.Need-put-byte-requires-2 callees given put-decimal.Post
-  put-byte-requires-2 c κs = search needs
+  put-byte-requires-2 c κs =
+      let start = c .before .before .before .before .before in
+      omega (arith, some-digits (start .args .n))
 
   last-digit-requires-3 : put-decimal-lts.Need-last-digit-requires-3 callees given put-decimal.Post
   last-digit-requires-3 c κs = tt
 
   put-byte-requires-3 : put-decimal-lts.Need-put-byte-requires-3 callees given put-decimal.Post
-  put-byte-requires-3 c κs = search needs
+  put-byte-requires-3 c κs =
+      let first = c .before .before .before .before in
+      let two = first .before .before .before in
+      let start = two .before .before .before in
+      omega (arith, tenth-digits (start .args .n) (two .before .if1 .left), some-digits (start .args .n / 10))
 
   same-length-2 : put-decimal-lts.Need-same-length-2 callees given put-decimal.Post
   same-length-2 c = search needs
@@ -97,7 +105,10 @@ module _ (t : ℕ) where
       (call .put-byte3 .ensures)
 
   put-decimal-requires : put-decimal-lts.Need-put-decimal-requires callees given put-decimal.Post
-  put-decimal-requires c κs = (omega arith, search needs)
+  put-decimal-requires c κs =
+      let three = c .before in
+      let start = three .before .before .before in
+      (omega arith, omega (arith, hundredth-digits (start .args .n) (three .if2 .left)))
 
   last-digit-requires-4 : put-decimal-lts.Need-last-digit-requires-4 callees given put-decimal.Post
   last-digit-requires-4 c κs = tt
@@ -105,8 +116,9 @@ module _ (t : ℕ) where
   put-byte-requires-4 : put-decimal-lts.Need-put-byte-requires-4 callees given put-decimal.Post
   put-byte-requires-4 c κs =
       let hundredth = c .before .before .before .before in
-      let start = hundredth .before .before .before .before .before in
-      omega (arith, few-digits 17 (start .args .n / 100) (omega arith))
+      let three = hundredth .before .before in
+      let start = three .before .before .before in
+      omega (arith, hundredth-digits (start .args .n) (three .if2 .left))
 
   last-digit-requires-5 : put-decimal-lts.Need-last-digit-requires-5 callees given put-decimal.Post
   last-digit-requires-5 c κs = tt
@@ -115,8 +127,9 @@ module _ (t : ℕ) where
   put-byte-requires-5 c κs =
       let first = c .before .before .before .before in
       let hundredth = first .before .before .before .before .before in
-      let start = hundredth .before .before .before .before .before in
-      omega (arith, few-digits 17 (start .args .n / 100) (omega arith))
+      let three = hundredth .before .before in
+      let start = three .before .before .before in
+      omega (arith, hundredth-digits (start .args .n) (three .if2 .left))
 
   same-length-3 : put-decimal-lts.Need-same-length-3 callees given put-decimal.Post
   same-length-3 c = search needs

@@ -2,9 +2,11 @@
 use native.Mathlib.Omega.{arith}
 use mathlib.Core.Path.{refl}
 use mir.Syntax.{w64}
+use mir.Val.{SFits}
 use mir.ValLaws.{toZ-ofZ}
 use borrow.Author.Needs.{needs}
 use Rattle.machine.specs.Rehearse.{signal-text}
+use Rattle.printing.specs.Decimal.{signed-short}
 use Rattle.writing.specs.Pieces.{put-then, put-as}
 use Rattle.lines.proofs.text.put_output.Statement.{statement}
 use Rattle.lines.proofs.text.put_output.Tie as tie
@@ -22,7 +24,11 @@ enum-known-output : tie.Need-enum-known-output
 enum-known-output c = search needs
 
 put-value-requires : tie.Need-put-value-requires
-put-value-requires c κs = search needs
+put-value-requires c κs =
+    let told = c .before in
+    let v = told .before .output .given .0 .0 in
+    let fits : SFits w64 v = record { sfits = told .known-told .given .0 .1 } in
+    rw (toZ-ofZ w64 v fits) (omega (arith, signed-short v fits))
 
 same-length : tie.Need-same-length
 same-length c = search needs

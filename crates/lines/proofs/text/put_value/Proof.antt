@@ -1,36 +1,35 @@
 -- `put_value` puts a hyphen before the absolute of a negative value, and the absolute alone of another.
+use Prim.Native.Nat.{ℕ}
 use native.Mathlib.Omega.{arith}
-use mathlib.Core.Path.{_≡_, refl}
-use mathlib.Core.Bool.{true, false}
-use mathlib.Core.List.{_∷_}
-use lib.IntN.{ℤ, pos, natAbs}
-use lib.Signed.{ltZ}
+use mathlib.Core.Path.{refl, ap}
+use lib.ListN.{length}
 use mir.Syntax.{w64}
 use mir.ValLaws.{toZ-ofZ}
 use borrow.Author.Needs.{needs}
-use Rattle.machine.specs.Rehearse.{decimal, hyphen, signed-decimal}
-use Rattle.laws.specs.Signed.{negative, not-negative}
+use Rattle.machine.specs.Rehearse.{decimal}
+use Rattle.printing.specs.Decimal.{negative-text, other-text, negative-length}
 use Rattle.writing.specs.Pieces.{put-then, put-as}
 use Rattle.lines.proofs.text.put_value.Statement.{statement}
 use Rattle.lines.proofs.text.put_value.Tie as tie
 
--- a value's text, by its sign
-of-negative : (v : ℤ) → ltZ v (pos 0) ≡ true → signed-decimal v ≡ hyphen ∷ decimal (natAbs v)
-unfolding signed-decimal
-of-negative v below = rw (negative v below) refl
-
-of-other : (v : ℤ) → ltZ v (pos 0) ≡ false → signed-decimal v ≡ decimal (natAbs v)
-unfolding signed-decimal
-of-other v from = rw (not-negative v from) refl
-
 put-byte-requires : tie.Need-put-byte-requires
-put-byte-requires c κs = search needs
+put-byte-requires c κs =
+    let test = c .before in
+    let start = test .before .before in
+    let back = toZ-ofZ w64 (start .args .v) (start .fits .v) in
+    omega (arith, negative-length (start .args .v) (rw back at (test .if1 .taken)))
 
 absolute-requires : tie.Need-absolute-requires
 absolute-requires c κs = search needs
 
 put-decimal-requires : tie.Need-put-decimal-requires
-put-decimal-requires c κs = search needs
+put-decimal-requires c κs =
+    let hyphened = c .before .before .before .before in
+    let test = hyphened .before .before in
+    let start = test .before .before in
+    let back = toZ-ofZ w64 (start .args .v) (start .fits .v) in
+    let same = ap (λ (k : ℕ). length (decimal k)) (rw back at (c .absolute .ensures)) in
+    omega (arith, negative-length (start .args .v) (rw back at (test .if1 .taken)), same)
 
 same-length : tie.Need-same-length
 same-length c = search needs
@@ -43,14 +42,19 @@ returns c =
     let test = hyphened .before .before in
     let start = test .before .before in
     let back = toZ-ofZ w64 (start .args .v) (start .fits .v) in
-    rw (of-negative (start .args .v) (rw back at (test .if1 .taken)), ← (rw back at (measured .absolute .ensures)))
+    rw (negative-text (start .args .v) (rw back at (test .if1 .taken)), ← (rw back at (measured .absolute .ensures)))
     (put-then (hyphened .put-byte .ensures) (call .put-decimal .ensures))
 
 absolute-requires-2 : tie.Need-absolute-requires-2
 absolute-requires-2 c κs = search needs
 
 put-decimal-requires-2 : tie.Need-put-decimal-requires-2
-put-decimal-requires-2 c κs = search needs
+put-decimal-requires-2 c κs =
+    let test = c .before .before in
+    let start = test .before .before in
+    let back = toZ-ofZ w64 (start .args .v) (start .fits .v) in
+    let same = ap (λ (k : ℕ). length (decimal k)) (rw back at (c .absolute2 .ensures)) in
+    omega (arith, ap length (other-text (start .args .v) (rw back at (test .if1 .left))), same)
 
 same-length-2 : tie.Need-same-length-2
 same-length-2 c = search needs
@@ -61,7 +65,7 @@ returns-2 c =
     let test = call .before .before .before in
     let start = test .before .before in
     let back = toZ-ofZ w64 (start .args .v) (start .fits .v) in
-    rw (of-other (start .args .v) (rw back at (test .if1 .left)), ← (rw back at (call .before .absolute2 .ensures)))
+    rw (other-text (start .args .v) (rw back at (test .if1 .left)), ← (rw back at (call .before .absolute2 .ensures)))
     (put-as (call .put-decimal2 .ensures) refl (omega arith))
 
 pub put-value-spec : {M : Type 1} → statement M

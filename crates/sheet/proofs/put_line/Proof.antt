@@ -1,0 +1,110 @@
+-- `put_line` puts the row of what is shown, which the words tell: of a refused answer its number, of a committed one the point, the counts and the stored outputs.
+use Prim.Native.Nat.{ℕ, _+_, _*_, _≤_, _<_}
+use native.Mathlib.Omega.{arith}
+use mathlib.Core.Path.{_≡_, refl, sym, ap, _∙_}
+use mathlib.Core.Bool.{true}
+use mathlib.Core.List.{List}
+use lib.ListN.{length}
+use Rattle.machine.specs.declared.time.Point.{Point}
+use Rattle.machine.specs.declared.signal.Signal.{Signal}
+use Rattle.machine.specs.Time.{tick}
+use Rattle.machine.specs.Model.{trimmed}
+use Rattle.machine.specs.Sheet.{ShownStep, shown, shown-line, shown-fits, sheet-line, refused-row}
+use Rattle.writing.specs.Put.{Put}
+use Rattle.store.specs.Held.{held, parts-lent, state-words-of, stored-point, stored-state}
+use Rattle.store.specs.Spelling.{spelled-room}
+use Rattle.master.specs.declared.verdict.Verdict.{Verdict}
+use Rattle.master.specs.Into.{lent-model}
+use Rattle.sheet.specs.SheetInto.{verdict-answer, lent-sheet-refusal}
+use Rattle.sheet.specs.LentSheet.{output-lent, refusal-shown, step-shown, SheetFree, sheet-free}
+use borrow.Author.Needs.{needs}
+use Rattle.sheet.proofs.put_line.Statement.{statement}
+use Rattle.sheet.proofs.put_line.Tie as tie
+
+-- what the words of a committed answer show, where nothing refuses the line
+words-shown : (ts ss : List ℕ) (v : Verdict) (a b c : ℕ) {now : Point} {x y z : Signal} → lent-sheet-refusal ts ss v a b c ≡ 0 → v .number ≡ 0 → now ≡ stored-point ss →
+    x ≡ stored-state ss a .output → y ≡ stored-state ss b .output → z ≡ stored-state ss c .output →
+    shown (verdict-answer ts ss v) a b c ≡ ShownStep (tick now) (now .n) (v .step) (v .rounds) (v .revisions) x y z
+unfolding trimmed held
+words-shown ts ss v a b c free none at first second third =
+    let chosen = sheet-free ts ss v a b c free .chosen in
+    step-shown ts ss v a b c none ∙
+    rw (at, first, second, third, output-lent ts ss a (chosen .first), output-lent ts ss b (chosen .second), output-lent ts ss c (chosen .third)) refl
+
+-- the words of a chosen part's state are there
+room-of : (ts ss : List ℕ) (v : Verdict) (a b c k : ℕ) → lent-sheet-refusal ts ss v a b c ≡ 0 → k < parts-lent ts → state-words-of (k + 1) ≤ length ss
+room-of ts ss v a b c k free low = omega (arith, spelled-room ts ss (sheet-free ts ss v a b c free .spells) .state)
+
+put-refusal-row-requires : tie.Need-put-refusal-row-requires
+put-refusal-row-requires c κs = search needs
+
+same-length : tie.Need-same-length
+same-length c = search needs
+
+returns : tie.Need-returns
+unfolding sheet-line shown-line
+returns c =
+    let put = c .before .before in
+    let test = put .before .before in
+    let args = test .before .before .before .before .before .args in
+    rw (refusal-shown (args .table .now) (args .state .now) (args .outcome) (args .first) (args .second) (args .third) (test .if1 .taken)) (put .put-refusal-row .ensures)
+
+point-of-requires : tie.Need-point-of-requires
+point-of-requires c κs =
+    let args = c .before .before .before .before .before .args in
+    omega (arith, spelled-room (args .table .now) (args .state .now) (sheet-free _ _ _ _ _ _ (c .before .before .before .before .before .pre .0) .spells) .state)
+
+output-at-requires : tie.Need-output-at-requires
+output-at-requires c κs =
+    let start = c .before .before .before .before .before .before in
+    room-of _ _ _ _ _ _ _ (start .pre .0) (sheet-free _ _ _ _ _ _ (start .pre .0) .chosen .first)
+
+output-at-requires-2 : tie.Need-output-at-requires-2
+output-at-requires-2 c κs =
+    let start = c .before .before .before .before .before .before .before in
+    room-of _ _ _ _ _ _ _ (start .pre .0) (sheet-free _ _ _ _ _ _ (start .pre .0) .chosen .second)
+
+output-at-requires-3 : tie.Need-output-at-requires-3
+output-at-requires-3 c κs =
+    let start = c .before .before .before .before .before .before .before .before in
+    room-of _ _ _ _ _ _ _ (start .pre .0) (sheet-free _ _ _ _ _ _ (start .pre .0) .chosen .third)
+
+put-step-row-requires : tie.Need-put-step-row-requires
+put-step-row-requires c κs =
+    let third = c .before in
+    let second = third .before in
+    let first = second .before in
+    let point = first .before in
+    let start = point .before .before .before .before .before .before in
+    (ap shown-fits (sym (words-shown _ _ _ _ _ _ (start .pre .0) (point .before .if1 .left) (point .point-of .ensures) (first .output-at .ensures)
+    (second .output-at2 .ensures) (third .output-at3 .ensures))) ∙ sheet-free _ _ _ _ _ _ (start .pre .0) .fits, start .pre .1)
+
+same-length-2 : tie.Need-same-length-2
+same-length-2 c = search needs
+
+returns-2 : tie.Need-returns-2
+unfolding sheet-line
+returns-2 c =
+    let put = c .before .before in
+    let third = put .before .before in
+    let second = third .before in
+    let first = second .before in
+    let point = first .before in
+    let start = point .before .before .before .before .before .before in
+    rw (words-shown _ _ _ _ _ _ (start .pre .0) (point .before .if1 .left) (point .point-of .ensures) (first .output-at .ensures) (second .output-at2 .ensures)
+    (third .output-at3 .ensures)) (put .put-step-row .ensures)
+
+pub put-line-spec : {M : Type 1} → statement M
+put-line-spec =
+    tie.close
+    (tie.spec
+    put-refusal-row-requires
+    same-length
+    returns
+    point-of-requires
+    output-at-requires
+    output-at-requires-2
+    output-at-requires-3
+    put-step-row-requires
+    same-length-2
+    returns-2)
