@@ -12,14 +12,16 @@ use Rattle.machine.specs.Model.{trimmed, trimmed-loaded}
 use Rattle.machine.specs.Load.{load}
 use Rattle.machine.specs.Sound.{sound}
 use Rattle.machine.specs.Advance.{Outcome}
+use Rattle.machine.specs.Writing.{WrittenAs}
+use Rattle.machine.specs.Sheet.{sheet-line}
 use Rattle.store.specs.Held.{table-words, state-words-of}
 use Rattle.transfer.specs.ModelPut.{KeptBehind, ModelPut}
 use Rattle.loading.specs.LoadOwed.{accepted-is-a-table}
 use Rattle.master.specs.declared.verdict.Verdict.{Verdict}
 use Rattle.master.specs.Into.{verdict-of, outcome-into, CalledInto}
 use Rattle.preview.specs.PreviewedInto.{PreviewedInto}
-use Rattle.saving.specs.SavedInto.{SavedInto}
-use Rattle.boundary.specs.Exported.{taken-number, TakenIn, LoadedWords, outcome-words, AdvancedWords, PreviewedWords, SavedWords}
+use Rattle.sheet.specs.SheetInto.{verdict-answer, lent-sheet-refusal}
+use Rattle.boundary.specs.Exported.{taken-number, TakenIn, LoadedWords, outcome-words, AdvancedWords, PreviewedWords, WrittenWords, PrintedWords, verdict-lent}
 
 -- two words written at the start of a list
 pub two-written : (o : List ℕ) (a b : ℕ) → 2 ≤ length o → set (set o 0 a) 1 b ≡ a ∷ b ∷ drop 2 o
@@ -168,23 +170,33 @@ previewed-words table old w a b o p v found room written =
       previewed = λ enough. subst (PreviewedInto table old w a b) (found .ends) found;
     }
 
--- and what a save comes to
-pub saved-short : (table state a o : List ℕ) → length o < 2 → SavedWords table state a a o o 25
-saved-short table state a o few =
+-- and what a call comes to that writes bytes
+pub written-short : (refusal : ℕ) (bytes a o : List ℕ) → length o < 2 → WrittenWords refusal bytes a a o o 25
+written-short refusal bytes a o few =
     record {
       short = λ less. (refl, refl, refl);
       is = λ room. absurd (omega arith);
       answer = λ room. absurd (omega arith);
-      saved = λ room. absurd (omega arith);
+      written = λ room. absurd (omega arith);
     }
 
-pub saved-words : (table state a b o p : List ℕ) (w : Written) → SavedInto table state a b w → 2 ≤ length o →
-    p ≡ w .number ∷ w .length ∷ drop 2 o → SavedWords table state a b o p (w .number)
-saved-words table state a b o p w found room written =
+pub written-words : (refusal : ℕ) (bytes a b o p : List ℕ) (w : Written) → WrittenAs refusal bytes a b w → 2 ≤ length o → p ≡ w .number ∷ w .length ∷ drop 2 o →
+    WrittenWords refusal bytes a b o p (w .number)
+written-words refusal bytes a b o p w found room written =
     let length-is = ap (λ (x : Written). x .length) (found .answer) in
     record {
       short = λ less. absurd (omega arith);
       is = λ enough. ap (λ (x : Written). x .number) (found .answer);
       answer = λ enough. written ∙ ap (λ (n : ℕ). w .number ∷ n ∷ drop 2 o) length-is;
-      saved = λ enough. subst (λ (n : ℕ). SavedInto table state a b (record { number = w .number; length = n })) length-is found;
+      written = λ enough. subst (λ (n : ℕ). WrittenAs refusal bytes a b (record { number = w .number; length = n })) length-is found;
     }
+
+-- a sheet line, by the words of its outcome: too few, or there
+module _ (table state outcome : List ℕ) (x y z : ℕ) where
+  pub printed-few : (a o : List ℕ) → length outcome < 5 → PrintedWords table state outcome x y z a a o o 25
+  printed-few a o less = record { few = λ h. (refl, refl, refl); line = λ enough. absurd (omega arith) }
+
+  pub printed-words : {a b o p : List ℕ} {number : ℕ} → 5 ≤ length outcome →
+      WrittenWords (lent-sheet-refusal table state (verdict-lent outcome) x y z) (sheet-line (verdict-answer table state (verdict-lent outcome)) x y z) a b o p number →
+      PrintedWords table state outcome x y z a b o p number
+  printed-words enough words = record { few = λ less. absurd (omega arith); line = λ h. words }

@@ -9,14 +9,17 @@ use Rattle.machine.specs.declared.model.Model.{Model}
 use Rattle.machine.specs.Load.{load}
 use Rattle.machine.specs.Sound.{sound}
 use Rattle.machine.specs.Advance.{Outcome}
-use Rattle.machine.specs.Writing.{written-number, written-length}
+use Rattle.machine.specs.Writing.{written-number, written-length, WrittenAs}
 use Rattle.machine.specs.Save.{saved-bytes}
-use Rattle.store.specs.Held.{table-words, state-words-of}
+use Rattle.machine.specs.Sheet.{sheet-line}
+use Rattle.store.specs.Held.{lent, table-words, state-words-of}
 use Rattle.store.specs.Form.{spelled}
 use Rattle.transfer.specs.ModelPut.{KeptBehind, ModelPut}
+use Rattle.master.specs.declared.verdict.Verdict.{Verdict}
 use Rattle.master.specs.Into.{verdict-of, lent-model, outcome-into, CalledInto}
 use Rattle.preview.specs.PreviewedInto.{PreviewedInto}
-use Rattle.saving.specs.SavedInto.{lent-refusal, SavedInto}
+use Rattle.saving.specs.SavedInto.{lent-refusal}
+use Rattle.sheet.specs.SheetInto.{verdict-answer, lent-sheet-refusal}
 
 -- the number of a load that ended with a number and a model of so many parts, with so many words lent for the table and for the state: 25 where the
 -- table is accepted and there are too few of either
@@ -71,12 +74,25 @@ pub record PreviewedWords (table old : List ℕ) (w : ℕ) (a b o p : List ℕ) 
   pub answer : 5 ≤ length o → p ≡ outcome-words (outcome-into table old w (length a)) (drop 5 o)
   pub previewed : 5 ≤ length o → PreviewedInto table old w a b (verdict-of (outcome-into table old w (length a)))
 
--- The words of a table and of a state, a buffer before and after a save of them, a and b, and the words of the answer, o and p, and the call's number. Where the
--- answer has room, the number and the length are those of every writing call, the answer's first words say so, and the others are kept; the buffer is as `save` promises. Where it
--- has none, nothing is written.
-pub record SavedWords (table state a b o p : List ℕ) (number : ℕ) : Type 0 where
+-- What a call that writes bytes leaves: a buffer before and after it, a and b, the words of the answer, o and p, and the call's number; `refusal` is what its own tests come
+-- to, and `bytes` what it has to write. Where the answer has room, the number and the length are those of every writing call, the answer's first words say so, and the others are kept; the
+-- buffer is as every writing call leaves it. Where it has none, nothing is written.
+pub record WrittenWords (refusal : ℕ) (bytes a b o p : List ℕ) (number : ℕ) : Type 0 where
   pub short : length o < 2 → (number ≡ 25) × (b ≡ a) × (p ≡ o)
-  pub is : 2 ≤ length o → number ≡ written-number (lent-refusal table state) (saved-bytes (lent-model table state)) (length a)
-  pub answer : 2 ≤ length o → p ≡ number ∷ written-length (lent-refusal table state) (saved-bytes (lent-model table state)) ∷ drop 2 o
-  pub saved : 2 ≤ length o →
-      SavedInto table state a b (record { number = number; length = written-length (lent-refusal table state) (saved-bytes (lent-model table state)) })
+  pub is : 2 ≤ length o → number ≡ written-number refusal bytes (length a)
+  pub answer : 2 ≤ length o → p ≡ number ∷ written-length refusal bytes ∷ drop 2 o
+  pub written : 2 ≤ length o → WrittenAs refusal bytes a b (record { number = number; length = written-length refusal bytes })
+
+-- a save of the words of a table and of a state
+abbrev pub SavedWords : (table state a b o p : List ℕ) → ℕ → Type 0
+SavedWords table state a b o p number = WrittenWords (lent-refusal table state) (saved-bytes (lent-model table state)) a b o p number
+
+-- how a call ended, by the words that an advance or a preview writes
+abbrev pub verdict-lent : List ℕ → Verdict
+verdict-lent o = record { number = lent o 0; step = lent o 1; rounds = lent o 2; revisions = lent o 3; ceiling = lent o 4 }
+
+-- a sheet line of the answer that the words of a table, of a state and of an outcome tell, with the chosen parts x, y and z: where the outcome's words are too few, nothing is written
+pub record PrintedWords (table state outcome : List ℕ) (x y z : ℕ) (a b o p : List ℕ) (number : ℕ) : Type 0 where
+  pub few : length outcome < 5 → (number ≡ 25) × (b ≡ a) × (p ≡ o)
+  pub line : 5 ≤ length outcome →
+      WrittenWords (lent-sheet-refusal table state (verdict-lent outcome) x y z) (sheet-line (verdict-answer table state (verdict-lent outcome)) x y z) a b o p number

@@ -1,4 +1,4 @@
-// The calls `load`, `advance`, `preview` and `save` for programs in Rust and C, through a static library. A model lies in words of 64 bits that
+// The calls `load`, `advance`, `preview`, `save` and `sheet` for programs in Rust and C, through a static library. A model lies in words of 64 bits that
 // the caller lends, as the crate `store` lays down in its `specs/Held.antt`: those of a table, 18 for each part and 2 before them,
 // and those of a state, 9 for each part and 2 before them. The calls work in the caller's own memory, and the answer's
 // numbers are written into `out`. The contracts cite `specs/Exported.antt`; they ask nothing of the caller but that each slice is
@@ -6,8 +6,10 @@
 use loading::load;
 use machine::model::Model;
 use master::advance_into;
+use master::verdict::Verdict;
 use preview::preview_into;
 use saving::save;
+use sheet::sheet;
 use store::lookup::state_size;
 use store::lookup::table_size;
 use transfer::intake::put_model;
@@ -15,19 +17,19 @@ ghost use mathlib.Core.Path.{_≡_};
 ghost use mathlib.Core.List.{_∷_};
 ghost use Prim.Native.Nat.{_≤_};
 ghost use lib.ListN.{drop, length};
-ghost use Rattle.boundary.specs.Exported.{AdvancedWords, LoadedWords, PreviewedWords, SavedWords, TakenIn};
+ghost use Rattle.boundary.specs.Exported.{AdvancedWords, LoadedWords, PreviewedWords, PrintedWords, SavedWords, TakenIn, verdict-lent};
 
 // The number of a call whose words are too few for what it has to write.
 const TOO_SHORT: u64 = 25;
 
-// How many words of `out` a load writes, a save, and an advance or a preview.
+// How many words of `out` a load writes, a call that writes bytes, and an advance or a preview.
 const LOADED: usize = 2;
 
-const SAVED: usize = 2;
+const WRITTEN: usize = 2;
 
 const ADVANCED: usize = 5;
 
-// A load's numbers, or a save's.
+// A load's numbers, or those of a call that writes bytes.
 fn put_found(out: &mut [u64], number: u64, position: u64)
     requires { ⌜ 2 ≤ length (now out) ⌝ }
     ensures { λ r. ⌜ now (out .exit) ≡ number ∷ position ∷ drop 2 (now (out .entry)) ⌝ }
@@ -46,6 +48,20 @@ fn put_counts(out: &mut [u64], number: u64, step: u64, rounds: u64, revisions: u
     out[2] = rounds;
     out[3] = revisions;
     out[4] = ceiling;
+}
+
+// How a call ended, by the words that an advance or a preview writes.
+fn verdict_in(outcome: &[u64]) -> Verdict
+    requires { ⌜ 5 ≤ length (now outcome) ⌝ }
+    ensures { λ r. ⌜ r ≡ verdict-lent (now (outcome .entry)) ⌝ }
+{
+    Verdict {
+        number: outcome[0],
+        step: outcome[1],
+        rounds: outcome[2],
+        revisions: outcome[3],
+        ceiling: outcome[4],
+    }
 }
 
 // A model that was loaded with a number, put into the words where it was accepted and they have room for it. The number
@@ -160,10 +176,47 @@ pub extern "C" fn dozhumek_save(
 ) -> u64
     ensures { λ n. ⌜ SavedWords (now (table .entry)) (now (state .entry)) (now (buffer .entry)) (now (buffer .exit)) (now (out .entry)) (now (out .exit)) n ⌝ }
 {
-    if out.len() < SAVED {
+    if out.len() < WRITTEN {
         return TOO_SHORT;
     }
     let written = save(table, state, buffer);
+    put_found(out, written.number, written.length as u64);
+    written.number
+}
+
+// The sheet line of an answer, whose model the words spell, whatever they are, and whose numbers are the five words of `outcome`, whatever they are: those that an advance or a
+// preview writes into its `out`. The parts whose outputs it shows are given by number. The line's 79 bytes are written into `buffer`, and what lies behind them there is kept. Written
+// into `out` are two words, the number, which is the answer too, and the length. The number is 24 where the words spell no sound model, 26 where a chosen part is not there or a
+// number is wider than its field; it is 25 where the buffer is shorter than the line, and the length then 79, and where `outcome` or `out` has too few words, and then nothing is written.
+#[no_mangle]
+pub extern "C" fn dozhumek_sheet(
+    table: &[u64],
+    state: &[u64],
+    outcome: &[u64],
+    first: u64,
+    second: u64,
+    third: u64,
+    buffer: &mut [u8],
+    out: &mut [u64],
+) -> u64
+    ensures { λ n. ⌜ PrintedWords (now (table .entry)) (now (state .entry)) (now (outcome .entry)) first second third (now (buffer .entry)) (now (buffer .exit)) (now (out .entry)) (now (out .exit)) n ⌝ }
+{
+    if outcome.len() < ADVANCED {
+        return TOO_SHORT;
+    }
+    if out.len() < WRITTEN {
+        return TOO_SHORT;
+    }
+    let verdict = verdict_in(outcome);
+    let written = sheet(
+        table,
+        state,
+        verdict,
+        first as usize,
+        second as usize,
+        third as usize,
+        buffer,
+    );
     put_found(out, written.number, written.length as u64);
     written.number
 }

@@ -173,11 +173,15 @@ module _ (ts ss : List ℕ) (v : Verdict) (a b c : ℕ) where
             fits = and-right there fit all;
           }
 
+  -- its number is one that a call can be handed
+  pub shown-taken : v .number < 18446744073709551616 → number-taken (shown (verdict-answer ts ss v) a b c)
+  shown-taken small = by-number (ℕ-discrete (v .number) 0)
+    where
+      by-number : Dec (v .number ≡ 0) → number-taken (shown (verdict-answer ts ss v) a b c)
+      by-number (yes none) = rw (step-shown none) tt
+      by-number (no some) = rw (refusal-shown some) small
+
   -- such a line has 79 bytes
   pub line-length : v .number < 18446744073709551616 → lent-sheet-refusal ts ss v a b c ≡ 0 → length (sheet-line (verdict-answer ts ss v) a b c) ≡ 79
   unfolding sheet-line
-  line-length small free = shown-length (shown (verdict-answer ts ss v) a b c) (sheet-free free .fits) (taken (ℕ-discrete (v .number) 0))
-    where
-      taken : Dec (v .number ≡ 0) → number-taken (shown (verdict-answer ts ss v) a b c)
-      taken (yes none) = rw (step-shown none) tt
-      taken (no some) = rw (refusal-shown some) small
+  line-length small free = shown-length (shown (verdict-answer ts ss v) a b c) (sheet-free free .fits) (shown-taken small)

@@ -1,11 +1,11 @@
 -- `dozhumek_save` makes the call on words, and then writes its two numbers.
-use Rattle.boundary.proofs.Laws.{saved-short, saved-words}
+use Rattle.boundary.proofs.Laws.{written-short, written-words}
 use borrow.Author.Needs.{needs}
 use Rattle.boundary.proofs.dozhumek_save.Statement.{statement}
 use Rattle.boundary.proofs.dozhumek_save.Tie as tie
 
 returns : tie.Need-returns
-returns c = saved-short _ _ _ _ (c .if1 .taken)
+returns c = written-short _ _ _ _ (c .if1 .taken)
 
 save-requires : tie.Need-save-requires
 save-requires c κs = search needs
@@ -23,7 +23,7 @@ returns-2 : tie.Need-returns-2
 returns-2 c =
     let writes = c .before .before in
     let calls = writes .before .before .before .before in
-    saved-words _ _ _ (calls .save .last .1 .1 .0) _ (writes .put-found .last .0) (calls .save .result) (calls .save .ensures) (calls .before .before .if1 .left)
+    written-words _ _ _ (calls .save .last .1 .1 .0) _ (writes .put-found .last .0) (calls .save .result) (calls .save .ensures) (calls .before .before .if1 .left)
     (writes .put-found .ensures)
 
 pub dozhumek-save-spec : {M : Type 1} → statement M
