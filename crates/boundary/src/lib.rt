@@ -208,7 +208,7 @@ pub extern "C" fn dozhumek_sheet(
         return TOO_SHORT;
     }
     let verdict = verdict_in(outcome);
-    let written = sheet(
+    let line = sheet(
         table,
         state,
         verdict,
@@ -217,6 +217,6 @@ pub extern "C" fn dozhumek_sheet(
         third as usize,
         buffer,
     );
-    put_found(out, written.number, written.length as u64);
-    written.number
+    put_found(out, line.number, line.length as u64);
+    line.number
 }

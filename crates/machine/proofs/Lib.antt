@@ -1,6 +1,6 @@
 -- What is proved of the definitions themselves: `played`, the ten marked examples, `rehearsals`, what is printed of refused and of long streams,
 -- `chained`, an example of a chain of calls, `kind-table`, the table of kinds line by line, `crossings`, that zeros leave no trace at a detector,
--- and `clappers`, what a clapper does, with the law of its motion.
+-- `clappers`, what a clapper does, with the law of its motion, and `sheet-examples`, worked sheet lines.
 pub mod Computing
 pub mod Played
 pub mod Rehearsals
@@ -8,3 +8,4 @@ pub mod Chained
 pub mod KindTable
 pub mod Crossings
 pub mod Clappers
+pub mod SheetExamples

@@ -21,6 +21,7 @@ pub mod Previews
 pub mod Score
 pub mod Rehearse
 pub mod Sheet
+pub mod SheetExamples
 pub mod Played
 pub mod Rehearsals
 pub mod KindTable
