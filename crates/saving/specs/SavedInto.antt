@@ -2,14 +2,13 @@
 use Prim.Native.Nat.{ℕ}
 use mathlib.Core.Path.{_≡_, refl}
 use mathlib.Core.Bool.{true, false, cond, _&&_}
-use mathlib.Core.Logic.{_⊎_, inl, inr}
 use mathlib.Core.List.{List}
 use Rattle.machine.specs.declared.model.Written.{Written}
 use Rattle.machine.specs.Model.{trimmed}
 use Rattle.machine.specs.Sound.{sound}
 use Rattle.machine.specs.Writing.{WrittenAs}
 use Rattle.machine.specs.Save.{saved-bytes, save-refusal}
-use Rattle.laws.specs.Bools.{either, and-false-cases}
+use Rattle.laws.specs.Bools.{cond-either}
 use Rattle.store.specs.Held.{held}
 use Rattle.store.specs.Form.{spelled}
 
@@ -28,10 +27,4 @@ sound-saved ts ss spells sounds = rw (spells, sounds) refl
 
 pub unsound-refused : (ts ss : List ℕ) → (spelled ts ss && sound (trimmed (held ts ss))) ≡ false → lent-refusal ts ss ≡ 24
 unfolding lent-refusal save-refusal
-unsound-refused ts ss none = cases (and-false-cases (spelled ts ss) (sound (trimmed (held ts ss))) none) (either (spelled ts ss))
-  where
-    cases : (spelled ts ss ≡ false) ⊎ (sound (trimmed (held ts ss)) ≡ false) → (spelled ts ss ≡ true) ⊎ (spelled ts ss ≡ false) →
-        _≡_ {A = ℕ} (cond (spelled ts ss) (cond (sound (trimmed (held ts ss))) 0 24) 24) 24
-    cases (inl no-model) known = rw no-model refl
-    cases (inr unsound) (inl spells) = rw (spells, unsound) refl
-    cases (inr unsound) (inr no-model) = rw no-model refl
+unsound-refused ts ss none = cond-either (spelled ts ss) (sound (trimmed (held ts ss))) 0 24 none

@@ -17,7 +17,7 @@ use Rattle.machine.specs.Model.{trimmed-part}
 use Rattle.machine.specs.Sound.{sound}
 use Rattle.machine.specs.Rehearse.{decimal, signal-text}
 use Rattle.machine.specs.Sheet.{step-width, rounds-width, revisions-width, output-width, ShownStep, ShownRefusal, output-of, shown, texts-fit, field-texts, shown-fits, has-part, sheet-line, sheet-refusal, number-taken}
-use Rattle.laws.specs.Bools.{either, and-false-cases, and-left, and-right}
+use Rattle.laws.specs.Bools.{either, and-left, and-right, cond-both, cond-either}
 use Rattle.soundness.specs.SoundParts.{sound-time, sound-output}
 use Rattle.printing.specs.SheetLines.{shown-length}
 use Rattle.printing.specs.SheetCounts.{tick-short, microstep-short, signal-short}
@@ -107,24 +107,13 @@ module _ (ts ss : List ℕ) (v : Verdict) (a b c : ℕ) where
   -- words that spell no sound model
   pub unsound-sheet : (spelled ts ss && sound (lent-model ts ss)) ≡ false → lent-sheet-refusal ts ss v a b c ≡ 24
   unfolding lent-sheet-refusal sheet-refusal
-  unsound-sheet none = cases (and-false-cases (spelled ts ss) (sound (lent-model ts ss)) none) (either (spelled ts ss))
-    where
-      cases : (spelled ts ss ≡ false) ⊎ (sound (lent-model ts ss) ≡ false) → (spelled ts ss ≡ true) ⊎ (spelled ts ss ≡ false) →
-          lent-sheet-refusal ts ss v a b c ≡ 24
-      cases (inl no-model) known = rw no-model refl
-      cases (inr unsound) (inl spells) = rw (spells, unsound) refl
-      cases (inr unsound) (inr no-model) = rw no-model refl
+  unsound-sheet none = cond-either (spelled ts ss) (sound (lent-model ts ss)) _ 24 none
 
   module _ (sounds : (spelled ts ss && sound (lent-model ts ss)) ≡ true) where
     -- words that spell one leave the number to the choice and to what is shown
     told-sheet : lent-sheet-refusal ts ss v a b c ≡ cond (all-there (parts-lent ts) a b c && shown-fits (shown (verdict-answer ts ss v) a b c)) 0 26
     unfolding lent-sheet-refusal sheet-refusal
-    told-sheet =
-        rw (
-          and-left (spelled ts ss) (sound (lent-model ts ss)) sounds,
-          and-right (spelled ts ss) (sound (lent-model ts ss)) sounds,
-          there-lent ts ss a b c,
-        ) refl
+    told-sheet = cond-both (spelled ts ss) (sound (lent-model ts ss)) _ 24 sounds ∙ rw (there-lent ts ss a b c) refl
 
     -- a chosen part is not there
     pub missing-sheet : all-there (parts-lent ts) a b c ≡ false → lent-sheet-refusal ts ss v a b c ≡ 26
