@@ -6,7 +6,6 @@ use mathlib.Core.Bool.{true, false}
 use mathlib.Core.List.{List, [], _∷_, _++_}
 use lib.ListN.{replicate}
 use lib.IntN.{pos, negsuc}
-use Rattle.machine.specs.declared.signal.Signal.{Signal}
 use Rattle.machine.specs.declared.signal.Signal.the-variants.{Absent, Value}
 use Rattle.machine.specs.Rehearse.{blank, hyphen, line-feed, refused-text}
 use Rattle.machine.specs.Sheet.{ShownStep, ShownRefusal, shown-line, shown-fits}

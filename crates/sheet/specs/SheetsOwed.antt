@@ -32,7 +32,7 @@ use Rattle.store.specs.Form.{spelled}
 use Rattle.master.specs.declared.verdict.Verdict.{Verdict}
 use Rattle.master.specs.Into.{lent-model}
 use Rattle.sheet.specs.SheetInto.{verdict-answer, lent-sheet-refusal, SheetInto}
-use Rattle.sheet.specs.LentSheet.{all-there, output-lent, step-shown, refusal-shown, counted-sheet, sheet-free, shown-taken, line-length}
+use Rattle.sheet.specs.LentSheet.{all-there, output-lent, step-shown, counted-sheet, sheet-free, shown-taken, line-length}
 
 -- advancing leaves the number of parts
 answer-many : (m : Model) (w : ℕ) → length (advance m w .model .parts) ≡ length (m .parts)

@@ -1,22 +1,19 @@
 -- `put_line` puts the row of what is shown, which the words tell: of a refused answer its number, of a committed one the point, the counts and the stored outputs.
-use Prim.Native.Nat.{ℕ, _+_, _*_, _≤_, _<_}
+use Prim.Native.Nat.{ℕ, _+_, _≤_, _<_}
 use native.Mathlib.Omega.{arith}
 use mathlib.Core.Path.{_≡_, refl, sym, ap, _∙_}
-use mathlib.Core.Bool.{true}
 use mathlib.Core.List.{List}
 use lib.ListN.{length}
 use Rattle.machine.specs.declared.time.Point.{Point}
 use Rattle.machine.specs.declared.signal.Signal.{Signal}
 use Rattle.machine.specs.Time.{tick}
 use Rattle.machine.specs.Model.{trimmed}
-use Rattle.machine.specs.Sheet.{ShownStep, shown, shown-line, shown-fits, sheet-line, refused-row}
-use Rattle.writing.specs.Put.{Put}
+use Rattle.machine.specs.Sheet.{ShownStep, shown, shown-line, shown-fits, sheet-line}
 use Rattle.store.specs.Held.{held, parts-lent, state-words-of, stored-point, stored-state}
 use Rattle.store.specs.Spelling.{spelled-room}
 use Rattle.master.specs.declared.verdict.Verdict.{Verdict}
-use Rattle.master.specs.Into.{lent-model}
 use Rattle.sheet.specs.SheetInto.{verdict-answer, lent-sheet-refusal}
-use Rattle.sheet.specs.LentSheet.{output-lent, refusal-shown, step-shown, SheetFree, sheet-free}
+use Rattle.sheet.specs.LentSheet.{output-lent, refusal-shown, step-shown, sheet-free}
 use borrow.Author.Needs.{needs}
 use Rattle.sheet.proofs.put_line.Statement.{statement}
 use Rattle.sheet.proofs.put_line.Tie as tie
@@ -75,9 +72,11 @@ put-step-row-requires c κs =
     let second = third .before in
     let first = second .before in
     let point = first .before in
-    let start = point .before .before .before .before .before .before in
-    (ap shown-fits (sym (words-shown _ _ _ _ _ _ (start .pre .0) (point .before .if1 .left) (point .point-of .ensures) (first .output-at .ensures)
-    (second .output-at2 .ensures) (third .output-at3 .ensures))) ∙ sheet-free _ _ _ _ _ _ (start .pre .0) .fits, start .pre .1)
+    let start = point .before .before .before .before .before .before in (
+      ap shown-fits (sym (words-shown _ _ _ _ _ _ (start .pre .0) (point .before .if1 .left) (point .point-of .ensures) (first .output-at .ensures)
+          (second .output-at2 .ensures) (third .output-at3 .ensures))) ∙ sheet-free _ _ _ _ _ _ (start .pre .0) .fits,
+      start .pre .1,
+    )
 
 same-length-2 : tie.Need-same-length-2
 same-length-2 c = search needs

@@ -1,10 +1,9 @@
 -- `sheet` has the number of the tests that come first, then looks at the room, and puts the line, which has 79 bytes whatever it shows.
 use Prim.Native.Nat.{ℕ, _≤_, _<_}
 use native.Mathlib.Omega.{arith}
-use mathlib.Core.Path.{_≡_, sym, subst, _∙_}
+use mathlib.Core.Path.{_≡_, sym, _∙_}
 use mathlib.Core.List.{List}
 use lib.ListN.{length}
-use Rattle.machine.specs.declared.model.Written.{Written}
 use Rattle.machine.specs.Sheet.{sheet-line}
 use Rattle.machine.specs.Writing.{too-short}
 use Rattle.writing.specs.Put.{Put}

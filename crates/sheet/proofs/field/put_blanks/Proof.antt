@@ -1,9 +1,8 @@
 -- `put_blanks` puts one blank after the other. The invariant: the first i were put, in a buffer as long as it was; the measure is how many are left.
-use Prim.Native.Nat.{ℕ, suc, _+_, _-_, _≤_, _<_}
-use native.Mathlib.Numerals.{add-one}
+use Prim.Native.Nat.{ℕ, _+_, _-_, _≤_}
 use native.Mathlib.Omega.{arith}
-use mathlib.Core.Path.{_≡_, sym, ap, _∙_}
-use mathlib.Core.List.{List, [], _∷_, _++_}
+use mathlib.Core.Path.{_≡_}
+use mathlib.Core.List.{List, [], _∷_}
 use lib.ListN.{length, replicate, length-replicate, replicate-append-replicate}
 use Rattle.machine.specs.Rehearse.{blank}
 use Rattle.writing.specs.Put.{Put}

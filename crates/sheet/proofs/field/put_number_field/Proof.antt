@@ -1,5 +1,4 @@
 -- `put_number_field` puts as many blanks as the digits leave of the width, the digits, and a blank behind them.
-use native.Mathlib.Omega.{arith}
 use mathlib.Core.Path.{ap}
 use Prim.Native.Nat.{ℕ, _-_}
 use Rattle.writing.specs.Pieces.{put-then}

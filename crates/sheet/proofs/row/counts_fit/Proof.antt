@@ -1,5 +1,5 @@
 -- `counts_fit` asks of each count in turn whether it has more digits than its field has columns.
-use mathlib.Core.Path.{refl, sym}
+use mathlib.Core.Path.{refl}
 use borrow.Author.Tests.{le-leb, lt-leb}
 use borrow.Author.Needs.{needs}
 use Rattle.sheet.proofs.row.counts_fit.Statement.{statement}

@@ -1,0 +1,4 @@
+-- Laws of the sheet that `printsheet` prints.
+pub mod SheetCalls
+pub mod TurnLines
+pub mod Openings
