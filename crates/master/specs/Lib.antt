@@ -1,4 +1,4 @@
--- The search turn by turn, what bars a call, calls on lent words and by value; and demand 3 of the calls themselves
+-- The search turn by turn, what bars a call, calls on lent words and by value, what a caller has of a call on words that spell a model; and demand 3 of the calls themselves
 -- (`EveryList`).
 pub mod Searching
 pub mod Barring
@@ -7,3 +7,4 @@ pub mod IntoLaws
 pub mod ByValue
 pub mod EveryList
 pub mod EveryLent
+pub mod SoundCalls

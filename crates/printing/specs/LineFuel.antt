@@ -7,7 +7,7 @@ use mathlib.Core.Bool.{Bool, true, false, cond}
 use mathlib.Core.List.{List, _∷_, _++_}
 use lib.ListN.{length}
 use lib.Dec.{eqb, leb, ltb}
-use borrow.Author.Tests.{ltb-false, le-ltb, lt-ltb, eqb-true}
+use borrow.Author.Tests.{ltb-true, ltb-false, le-ltb, lt-ltb, eqb-true}
 use Rattle.machine.specs.declared.model.Model.{Model}
 use Rattle.machine.specs.declared.model.Score.{Score}
 use Rattle.machine.specs.declared.model.Score.the-variants.{End, Wanted, Refused}
@@ -35,12 +35,37 @@ command-later bs at b =
     (λ other. tt))
     (λ unknown. tt)
 
-pub score-later : (bs : List ℕ) (at : ℕ) → Later at (score-at bs at)
+score-later : (bs : List ℕ) (at : ℕ) → Later at (score-at bs at)
 unfolding score-at
 score-later bs at = cond-cases (Later at) (ltb at (length bs)) _ _ (λ inside. command-later bs at (byte-at bs at)) (λ past. tt)
 
+-- where a step is wanted, its position lies within the stream
+abbrev Inside : ℕ → ℕ → Score → Type 0
+Inside at n End = Unit {0}
+Inside at n (Wanted w next) = at < n
+Inside at n (Refused number position) = Unit {0}
+
+inside-any : (at n : ℕ) (s : Score) → at < n → Inside at n s
+inside-any at n End h = tt
+inside-any at n (Wanted w next) h = h
+inside-any at n (Refused number position) h = tt
+
+score-inside : (bs : List ℕ) (at : ℕ) → Inside at (length bs) (score-at bs at)
+unfolding score-at
+score-inside bs at =
+    cond-cases (Inside at (length bs)) (ltb at (length bs)) _ _
+    (λ inside. inside-any at (length bs) (score-command bs at (byte-at bs at)) (ltb-true at (length bs) inside))
+    (λ past. tt)
+
+-- and the next command lies later
+pub wanted-later : (bs : List ℕ) (at w next : ℕ) → score-at bs at ≡ Wanted w next → (at < next) × (at < length bs)
+wanted-later bs at w next e =
+    let later = score-later bs at in
+    let inside = score-inside bs at in
+    (rw e at later, rw e at inside)
+
 -- past the stream's end the score has ended
-score-past : (bs : List ℕ) (at : ℕ) → length bs ≤ at → score-at bs at ≡ End
+pub score-past : (bs : List ℕ) (at : ℕ) → length bs ≤ at → score-at bs at ≡ End
 unfolding score-at
 score-past bs at past = cond-false (ltb at (length bs)) _ _ (le-ltb at (length bs) past)
 

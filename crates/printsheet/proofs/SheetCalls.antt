@@ -1,51 +1,32 @@
 -- A call on words of which a sheet can be printed, with room for the new state, is the machine's advance, and the line that `sheet` writes of its numbers and of the state
--- left is the answer's. The idea: a call that commits made a round, so that its new state spells the answer's model, and a refused one leaves the old; every answer of a sound
--- model is printed, so that nothing but the room could refuse the line. Assumes nothing.
+-- left is the answer's (`SoundCalls` of `master`). The idea: every answer of a sound model is printed, so that nothing but the room could refuse the line. Assumes nothing.
 use Prim.Native.Nat.{ℕ, _≤_, _<_}
 use native.Mathlib.Omega.{arith}
-use mathlib.Core.Path.{_≡_, refl, sym, ap, ap₂, _∙_}
+use mathlib.Core.Path.{_≡_, refl, ap, _∙_}
 use mathlib.Core.Bool.{true, false}
 use mathlib.Core.List.{List}
-use lib.Dec.{eqb}
 use lib.ListN.{length, take, length-take}
-use borrow.Author.Tests.{ne-eqb}
 use Rattle.machine.specs.declared.model.Model.{Model}
 use Rattle.machine.specs.declared.model.Answer.{Answer}
 use Rattle.machine.specs.declared.model.Written.{Written}
 use Rattle.machine.specs.Model.{most-parts}
-use Rattle.machine.specs.Step.{step-made}
-use Rattle.machine.specs.Advance.{outcome, answer-with, advance}
+use Rattle.machine.specs.Advance.{advance}
 use Rattle.machine.specs.Writing.{WrittenAs}
-use Rattle.laws.specs.Bools.{cond-false}
 use Rattle.wholelist.specs.Bounds.{answer-sound}
 use Rattle.writing.specs.Fitting.{enough-room, written-whole}
-use Rattle.store.specs.Held.{state-words-of}
+use Rattle.store.specs.Held.{parts-lent, state-words-of}
 use Rattle.store.specs.Form.{spelled}
 use Rattle.store.specs.Spelling.{spelled-few}
 use Rattle.steps.specs.LentReading.{lent-many}
 use Rattle.master.specs.declared.verdict.Verdict.{Verdict}
-use Rattle.master.specs.Into.{verdict-of, lent-model, outcome-with, CalledInto}
-use Rattle.master.specs.IntoLaws.{spelled-call, into-machine}
+use Rattle.master.specs.Into.{lent-model, outcome-with, CalledInto}
+use Rattle.master.specs.SoundCalls.{moved-model, moved-form, kept-model, answer-told}
 use Rattle.sheet.specs.SheetInto.{verdict-answer, lent-sheet-refusal, SheetInto}
 use Rattle.sheet.specs.LentSheet.{line-length}
 use Rattle.sheet.specs.SheetsOwed.{every-answer-printed}
 use Rattle.printsheet.specs.declared.choice.Choice.{Choice}
 use Rattle.printsheet.specs.SheetPrinted.{chosen-line}
 use Rattle.printsheet.specs.SheetTurns.{Printable, WantedPrinted}
-
--- the answer of a model and a verdict
-abbrev answer-of : Model → Verdict → Answer
-answer-of m v = record { model = m; number = v .number; step = v .step; rounds = v .rounds; revisions = v .revisions; ceiling = v .ceiling }
-
--- it is the machine's, where the model and the verdict are
-by-model : (m n : Model) (w : ℕ) (v : Verdict) → n ≡ advance m w .model → v ≡ verdict-of (outcome m w) → answer-of n v ≡ advance m w
-unfolding advance answer-with
-by-model m n w v model ends = ap₂ answer-of model ends
-
--- a refused call has the model handed in
-model-kept : (m : Model) (w : ℕ) → (outcome m w .number ≡ 0 → ⊥) → advance m w .model ≡ m
-unfolding advance answer-with
-model-kept m w other = cond-false (eqb (outcome m w .number) 0) (step-made m (outcome m w .step)) m (ne-eqb (outcome m w .number) 0 other)
 
 -- a text that was written where nothing refuses it and there is room for it is in front of the buffer
 pub in-front : (text before after : List ℕ) (x : Written) → WrittenAs 0 text before after x → length text ≤ length before →
@@ -66,11 +47,9 @@ module _
   abbrev asked-of : Model
   asked-of = lent-model ts os
 
-  -- the call is the machine's
-  by-machine : CalledInto (outcome asked-of w) ts os a b v
-  by-machine =
-      let few = spelled-few ts os (words .form) in
-      rw (into-machine ts os w (length a) (words .form) (omega arith)) at (spelled-call ts os a b w v (words .form) called)
+  -- there is room for a state of the model
+  room-for : state-words-of (parts-lent ts) ≤ length a
+  room-for = let few = spelled-few ts os (words .form) in omega arith
 
   -- the line that is written of a state that spells the answer's model
   line-of : (ss before after : List ℕ) (x : Written) → v .number < 18446744073709551616 → spelled ts ss ≡ true → lent-model ts ss ≡ advance asked-of w .model →
@@ -82,7 +61,7 @@ module _
       let one : ch .first < length (asked-of .parts) = rw many (words .chosen .first) in
       let two : ch .second < length (asked-of .parts) = rw many (words .chosen .second) in
       let three : ch .third < length (asked-of .parts) = rw many (words .chosen .third) in
-      let is : verdict-answer ts ss v ≡ advance asked-of w = by-model asked-of (lent-model ts ss) w v model (by-machine .ends) in
+      let is : verdict-answer ts ss v ≡ advance asked-of w = answer-told ts os a b w v (words .form) room-for called (lent-model ts ss) model in
       let free : lent-sheet-refusal ts ss v (ch .first) (ch .second) (ch .third) ≡ 0 =
       rw (form, is) (every-answer-printed asked-of w (ch .first) (ch .second) (ch .third) (words .sounds) one two three) in
       let size = line-length ts ss v (ch .first) (ch .second) (ch .third) small free in
@@ -90,16 +69,12 @@ module _
       (front .0 ∙ ap (λ (r : Answer). chosen-line r ch) is, front .1)
 
   -- a committed call: the new state is the answer's
-  moved-model : v .number ≡ 0 → lent-model ts b ≡ advance asked-of w .model
-  unfolding advance
-  moved-model z = by-machine .next (by-machine .asked z)
-
   pub line-moved : (next : ℕ) (before after : List ℕ) (x : Written) → v .number ≡ 0 → v .number < 18446744073709551616 → 79 ≤ length before →
       SheetInto ts b v (ch .first) (ch .second) (ch .third) before after x →
       WantedPrinted ts os w next ch b after (record { ended = false; at = next; length = x .length; moved = true })
   line-moved next before after x z small long written =
-      let form = by-machine .form (by-machine .asked z) in
-      let model = moved-model z in
+      let form = moved-form ts os a b w v (words .form) room-for called z in
+      let model = moved-model ts os a b w v (words .form) room-for called z in
       let line = line-of b before after x small form model long written in
       record {
         line = line .0;
@@ -115,7 +90,6 @@ module _
       SheetInto ts os v (ch .first) (ch .second) (ch .third) before after x →
       WantedPrinted ts os w next ch os after (record { ended = false; at = next; length = x .length; moved = false })
   line-kept next before after x other small long written =
-      let number : v .number ≡ outcome asked-of w .number = ap (λ (y : Verdict). y .number) (by-machine .ends) in
-      let model = sym (model-kept asked-of w (λ z. other (number ∙ z))) in
+      let model = kept-model ts os a b w v (words .form) room-for called other in
       let line = line-of os before after x small (words .form) model long written in
       record { line = line .0; within = line .1; model = model; words = words; goes = refl; position = refl }

@@ -5,20 +5,16 @@ use native.Mathlib.Omega.{arith}
 use mathlib.Core.Path.{_≡_, refl, sym, ap, _∙_}
 use mathlib.Core.Bool.{Bool, true, false, not, cond, true≢false}
 use mathlib.Core.List.{List, [], _++_, append-assoc, append-nil}
-use lib.Dec.{ltb}
 use lib.ListN.{length, take}
-use borrow.Author.Tests.{ltb-true, le-ltb}
 use Rattle.machine.specs.declared.model.Model.{Model}
 use Rattle.machine.specs.declared.model.Score.{Score}
 use Rattle.machine.specs.declared.model.Score.the-variants.{End, Wanted, Refused}
 use Rattle.machine.specs.declared.model.Written.{Written}
-use Rattle.machine.specs.Load.{byte-at}
 use Rattle.machine.specs.Advance.{advance}
-use Rattle.machine.specs.Score.{score-command, score-at}
+use Rattle.machine.specs.Score.{score-at}
 use Rattle.machine.specs.Rehearse.{refused-at-line}
 use Rattle.machine.specs.Writing.{WrittenAs}
-use Rattle.laws.specs.Bools.{cond-cases, cond-false}
-use Rattle.printing.specs.LineFuel.{score-later}
+use Rattle.printing.specs.LineFuel.{wanted-later, score-past}
 use Rattle.writing.specs.Fitting.{size-told}
 use Rattle.master.specs.Into.{lent-model}
 use Rattle.printsheet.specs.declared.choice.Choice.{Choice}
@@ -27,43 +23,13 @@ use Rattle.printsheet.specs.SheetPrinted.{on-output, chosen-line, sheet-
 use Rattle.printsheet.specs.SheetTurns.{Printable, sheet-left, stood-in, WantedPrinted, TurnPrinted, SheetSoFar}
 use Rattle.printsheet.proofs.SheetCalls.{in-front}
 
--- where a step is wanted, its position lies within the stream
-abbrev WithinStream : ℕ → ℕ → Score → Type 0
-WithinStream at n End = Unit {0}
-WithinStream at n (Wanted w next) = at < n
-WithinStream at n (Refused number position) = Unit {0}
-
-within-any : (at n : ℕ) (s : Score) → at < n → WithinStream at n s
-within-any at n End h = tt
-within-any at n (Wanted w next) h = h
-within-any at n (Refused number position) h = tt
-
-score-within : (bs : List ℕ) (at : ℕ) → WithinStream at (length bs) (score-at bs at)
-unfolding score-at
-score-within bs at =
-    cond-cases (WithinStream at (length bs)) (ltb at (length bs)) _ _
-    (λ inside. within-any at (length bs) (score-command bs at (byte-at bs at)) (ltb-true at (length bs) inside))
-    (λ past. tt)
-
--- and the next command lies later
-wanted-goes-on : (bs : List ℕ) (at w next : ℕ) → score-at bs at ≡ Wanted w next → (at < next) × (at < length bs)
-wanted-goes-on bs at w next e =
-    let later = score-later bs at in
-    let inside = score-within bs at in
-    (rw e at later, rw e at inside)
-
--- past the stream's end the score has ended
-score-over : (bs : List ℕ) (at : ℕ) → length bs ≤ at → score-at bs at ≡ End
-unfolding score-at
-score-over bs at past = cond-false (ltb at (length bs)) _ _ (le-ltb at (length bs) past)
-
 -- enough turns make no difference to the lines
 sheet-enough : (n k : ℕ) (bs : List ℕ) (at : ℕ) (m : Model) (ch : Choice) → length bs < at + n → length bs < at + k →
     sheet-from n bs at m ch ≡ sheet-from k bs at m ch
 unfolding sheet-from
 sheet-enough zero zero bs at m ch few many = refl
-sheet-enough zero (suc k) bs at m ch few many = rw (score-over bs at (omega arith))
-sheet-enough (suc n) zero bs at m ch few many = rw (score-over bs at (omega arith))
+sheet-enough zero (suc k) bs at m ch few many = rw (score-past bs at (omega arith))
+sheet-enough (suc n) zero bs at m ch few many = rw (score-past bs at (omega arith))
 sheet-enough (suc n) (suc k) bs at m ch few many = by-score (score-at bs at) refl (sheet-enough n k bs)
   where
     by-score : (s : Score) → score-at bs at ≡ s →
@@ -72,7 +38,7 @@ sheet-enough (suc n) (suc k) bs at m ch few many = by-score (score-at bs at) ref
         sheet-lines s (λ r next. sheet-from k bs next (r .model) ch) (advance m) ch
     by-score End e rest = refl
     by-score (Wanted w next) e rest =
-        let later = wanted-goes-on bs at w next e in
+        let later = wanted-later bs at w next e in
         ap (λ text. chosen-line (advance m w) ch ++ text) (rest next (advance m w .model) ch (omega arith) (omega arith))
     by-score (Refused number position) e rest = refl
 
@@ -90,7 +56,7 @@ module _ (bs : List ℕ) (at : ℕ) (ch : Choice) where
       sheet-at bs at m ch ≡ chosen-line (advance m w) ch ++ sheet-at bs next n ch
   unfolding sheet-at sheet-from
   lines-wanted m n w next e answered =
-      let later = wanted-goes-on bs at w next e in
+      let later = wanted-later bs at w next e in
       let more = sheet-enough (length bs) (suc (length bs)) bs next n ch (omega arith) (omega arith) in
       let same : sheet-from (length bs) bs next (advance m w .model) ch ≡ sheet-from (length bs) bs next n ch =
       ap (λ (z : Model). sheet-from (length bs) bs next z ch) (sym answered) in
@@ -127,7 +93,7 @@ module _ (bs : List ℕ) (at : ℕ) (ch : Choice) where
           text = rw (wanted .goes, wanted .position, lines-wanted (lent-model ts os) (lent-model ts ns) w next e (wanted .model), wanted .line) refl;
           within = wanted .within;
           words = wanted .words;
-          later = λ goes. rw (wanted .position) (wanted-goes-on bs at w next e);
+          later = λ goes. rw (wanted .position) (wanted-later bs at w next e);
         }
 
 -- the words in which a rehearsal stands, by the flag

@@ -1,24 +1,19 @@
 -- Laws of playing: a line written into the part of a buffer that is left is put behind what the buffer holds, and the lines from a position on begin with
 -- the line of the command there. Assumes nothing.
-use Prim.Native.Nat.{ℕ, suc, _+_, _-_, _≤_, _<_}
+use Prim.Native.Nat.{ℕ, suc, _+_, _-_, _≤_}
 use native.Mathlib.Omega.{arith}
 use mathlib.Core.Path.{_≡_, refl, sym, ap, _∙_}
 use mathlib.Core.Bool.{Bool, true, false, not, cond, true≢false}
 use mathlib.Core.List.{List, [], _++_, append-assoc, append-nil}
 use lib.ListN.{length, take, drop, length-append, length-take, length-drop, drop-of-length-le}
 use lib.Seq.{take-all, take-at, drop-at, drop-drop}
-use lib.Dec.{ltb}
-use borrow.Author.Tests.{ltb-true}
 use Rattle.machine.specs.declared.model.Model.{Model}
-use Rattle.machine.specs.declared.model.Score.{Score}
 use Rattle.machine.specs.declared.model.Score.the-variants.{End, Wanted, Refused}
 use Rattle.machine.specs.Model.{trimmed}
 use Rattle.machine.specs.Advance.{advance}
-use Rattle.machine.specs.Score.{score-command, score-at}
-use Rattle.machine.specs.Load.{byte-at}
+use Rattle.machine.specs.Score.{score-at}
 use Rattle.machine.specs.Rehearse.{answer-line, refused-at-line, lines-from}
-use Rattle.laws.specs.Bools.{cond-cases}
-use Rattle.printing.specs.LineFuel.{score-later, lines-enough}
+use Rattle.printing.specs.LineFuel.{wanted-later, lines-enough}
 use Rattle.machine.specs.declared.model.Written.{Written}
 use Rattle.writing.specs.Put.{Put}
 use Rattle.writing.specs.Fitting.{size-told, text-put}
@@ -54,31 +49,7 @@ put-part {xs = xs} used room written short =
     let all : take k (drop used xs) ≡ drop used xs = take-all k (drop used xs) (simp length-drop (omega arith)) in
     put-behind used k room (omega arith) (rw all at written) short
 
--- where a command is played, its position lies within the stream
-abbrev Inside : ℕ → ℕ → Score → Type 0
-Inside at n End = Unit {0}
-Inside at n (Wanted w next) = at < n
-Inside at n (Refused number position) = Unit {0}
-
-inside-any : (at n : ℕ) (s : Score) → at < n → Inside at n s
-inside-any at n End h = tt
-inside-any at n (Wanted w next) h = h
-inside-any at n (Refused number position) h = tt
-
-score-inside : (bs : List ℕ) (at : ℕ) → Inside at (length bs) (score-at bs at)
-unfolding score-at
-score-inside bs at =
-    cond-cases (Inside at (length bs)) (ltb at (length bs)) _ _
-    (λ inside. inside-any at (length bs) (score-command bs at (byte-at bs at)) (ltb-true at (length bs) inside))
-    (λ past. tt)
-
 module _ (bs : List ℕ) (at : ℕ) where
-  wanted-later : (w next : ℕ) → score-at bs at ≡ Wanted w next → (at < next) × (at < length bs)
-  wanted-later w next e =
-      let later = score-later bs at in
-      let inside = score-inside bs at in
-      (rw e at later, rw e at inside)
-
   -- the lines from a position on, by what the score holds there
   lines-end : (m : Model) → score-at bs at ≡ End → lines-at bs at m ≡ []
   unfolding lines-at lines-from
@@ -92,7 +63,7 @@ module _ (bs : List ℕ) (at : ℕ) where
       lines-at bs at m ≡ answer-line (advance (trimmed m) w) ++ lines-at bs next n
   unfolding lines-at lines-from
   lines-wanted m n w next e answered =
-      let later = wanted-later w next e in
+      let later = wanted-later bs at w next e in
       let more = lines-enough (length bs) (suc (length bs)) bs next (trimmed n) (omega arith) (omega arith) in
       let same : lines-from (length bs) bs next (advance (trimmed m) w .model) ≡ lines-from (length bs) bs next (trimmed n) =
       ap (lines-from (length bs) bs next) (sym answered) in
@@ -130,7 +101,7 @@ module _ (bs : List ℕ) (at : ℕ) where
               (sym (append-assoc (take used before) _ _));
           room = room;
           playable = wanted .playable;
-          later = λ goes. rw place (wanted-later w next e);
+          later = λ goes. rw place (wanted-later bs at w next e);
         }
 
 -- the words in which a rehearsal stands, by the flag
