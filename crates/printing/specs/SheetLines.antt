@@ -18,7 +18,7 @@ use Rattle.machine.specs.Sheet.{Shown, ShownStep, ShownRefusal, SheetLine, shee
 use Rattle.laws.specs.Bools.{and-left, and-right}
 use Rattle.laws.specs.Alls.{every-all, all-append, all-give}
 use Rattle.laws.specs.ListLaws.{all-at}
-use Rattle.printing.specs.Decimal.{few-digits}
+use Rattle.printing.specs.Decimal.{word-digits}
 use Rattle.printing.specs.SheetReads.{Digit, all-digits, read-append, read-blanks, decimal-read, number-aligned, signal-aligned}
 use Rattle.printing.specs.SheetRows.{LineColumns, Filled, fit-filled, row-columns, row-fields, filled-length, all-filled}
 
@@ -98,7 +98,7 @@ module _ (k : ℕ) (taken : k < 18_446_744_073_709_551_616) where
   refusal-columns : LineColumns Printed sheet-columns (shown-line (ShownRefusal k))
   unfolding shown-line refused-row
   refusal-columns =
-      let few : length (decimal k) ≤ 20 = few-digits 19 k (omega arith) in
+      let few : length (decimal k) ≤ 20 = word-digits k taken in
       let text = refused-text ++ decimal k in
       let printed = all-append Printed refused-text (decimal k) printed-word (plain-printed (decimal k) (plain-decimal k)) in
       record {

@@ -6,7 +6,7 @@ use mathlib.Core.Path.{_≡_, refl, _∙_}
 use mathlib.Core.Bool.{Bool, true, false, cond}
 use mathlib.Core.Logic.{_⊎_, inl, inr}
 use mathlib.Core.List.{List, [], _∷_, _++_}
-use lib.ListN.{length, getD, replicate, length-append}
+use lib.ListN.{length, getD, replicate}
 use lib.IntN.{pos, negsuc}
 use lib.Dec.{eqb, leb, ltb}
 use borrow.Author.Tests.{le-leb, ltb-true, ltb-false, ne-eqb}
@@ -18,7 +18,7 @@ use Rattle.machine.specs.Sheet.{right-aligned, is-digit, digits-read, number-re
 use Rattle.laws.specs.Bools.{either, and-intro}
 use Rattle.laws.specs.Alls.{all-append}
 use Rattle.laws.specs.ListLaws.{any-intro, all-at}
-use Rattle.printing.specs.Decimal.{one-digit, more-digits}
+use Rattle.printing.specs.Decimal.{one-digit, more-digits, some-digits}
 
 -- the character is one of ten
 abbrev pub Digit : ℕ → Type 0
@@ -101,17 +101,11 @@ signal-unfilled w t =
     let k = w - length t in
     rw (any-unfilled is-digit k t refl, any-unfilled (eqb hyphen) k t refl, number-unfilled w t) refl
 
--- a number in base ten has a character ..
-some-digit : (n : ℕ) → 0 < length (decimal n)
-some-digit =
-    by-digits (λ n. 0 < length (decimal n)) (λ n h. rw (one-digit n h) (omega arith)) (λ n h tenth.
-    rw (more-digits n h, length-append (decimal (n / 10)) ((48 + n % 10) ∷ [])) (omega arith))
-
--- .. and so a digit
+-- a number in base ten has a digit
 has-digit : (n : ℕ) → any is-digit (decimal n) ≡ true
 has-digit n =
-    any-intro is-digit (decimal n) 0 0 (some-digit n)
-    (digit-passes (getD (decimal n) 0 0) (all-at Digit (decimal n) 0 0 (all-digits n) (some-digit n)))
+    any-intro is-digit (decimal n) 0 0 (some-digits n)
+    (digit-passes (getD (decimal n) 0 0) (all-at Digit (decimal n) 0 0 (all-digits n) (some-digits n)))
 
 -- a test that fails of each element, as that of a hyphen of each digit
 any-none : (f : ℕ → Bool) (P : ℕ → Type 0) (l : List ℕ) → ((a : ℕ) → P a → f a ≡ false) → All P l → any f l ≡ false
