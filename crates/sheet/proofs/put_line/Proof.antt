@@ -1,5 +1,5 @@
 -- `put_line` puts the row of what is shown, which the words tell: of a refused answer its number, of a committed one the point, the counts and the stored outputs.
-use Prim.Native.Nat.{ℕ, _+_, _≤_, _<_}
+use Prim.Native.Nat.{ℕ, _+_, _≤_}
 use native.Mathlib.Omega.{arith}
 use mathlib.Core.Path.{_≡_, refl, sym, ap, _∙_}
 use mathlib.Core.List.{List}
@@ -9,7 +9,7 @@ use Rattle.machine.specs.declared.signal.Signal.{Signal}
 use Rattle.machine.specs.Time.{tick}
 use Rattle.machine.specs.Model.{trimmed}
 use Rattle.machine.specs.Sheet.{ShownStep, shown, shown-line, shown-fits, sheet-line}
-use Rattle.store.specs.Held.{held, parts-lent, state-words-of, stored-point, stored-state}
+use Rattle.store.specs.Held.{held, state-words-of, stored-point, stored-state}
 use Rattle.store.specs.Spelling.{spelled-room}
 use Rattle.master.specs.declared.verdict.Verdict.{Verdict}
 use Rattle.sheet.specs.SheetInto.{verdict-answer, lent-sheet-refusal}
@@ -28,9 +28,18 @@ words-shown ts ss v a b c free none at first second third =
     step-shown ts ss v a b c none ∙
     rw (at, first, second, third, output-lent ts ss a (chosen .first), output-lent ts ss b (chosen .second), output-lent ts ss c (chosen .third)) refl
 
--- the words of a chosen part's state are there
-room-of : (ts ss : List ℕ) (v : Verdict) (a b c k : ℕ) → lent-sheet-refusal ts ss v a b c ≡ 0 → k < parts-lent ts → state-words-of (k + 1) ≤ length ss
-room-of ts ss v a b c k free low = omega (arith, spelled-room ts ss (sheet-free ts ss v a b c free .spells) .state)
+-- the words of each chosen part's state are there
+record ChosenRooms (a b c : ℕ) (ss : List ℕ) : Type 0 where
+  first : state-words-of (a + 1) ≤ length ss
+  second : state-words-of (b + 1) ≤ length ss
+  third : state-words-of (c + 1) ≤ length ss
+
+chosen-rooms : (ts ss : List ℕ) (v : Verdict) (a b c : ℕ) → lent-sheet-refusal ts ss v a b c ≡ 0 → ChosenRooms a b c ss
+chosen-rooms ts ss v a b c free =
+    let told = sheet-free ts ss v a b c free in
+    let words = spelled-room ts ss (told .spells) .state in
+    let chosen = told .chosen in
+    record { first = omega (arith, chosen .first); second = omega (arith, chosen .second); third = omega (arith, chosen .third) }
 
 put-refusal-row-requires : tie.Need-put-refusal-row-requires
 put-refusal-row-requires c κs = search needs
@@ -53,18 +62,18 @@ point-of-requires c κs =
 
 output-at-requires : tie.Need-output-at-requires
 output-at-requires c κs =
-    let start = c .before .before .before .before .before .before in
-    room-of _ _ _ _ _ _ _ (start .pre .0) (sheet-free _ _ _ _ _ _ (start .pre .0) .chosen .first)
+    let room = chosen-rooms _ _ _ _ _ _ (c .before .before .before .before .before .before .pre .0) in
+    omega (arith, room .first, room .second, room .third)
 
 output-at-requires-2 : tie.Need-output-at-requires-2
 output-at-requires-2 c κs =
-    let start = c .before .before .before .before .before .before .before in
-    room-of _ _ _ _ _ _ _ (start .pre .0) (sheet-free _ _ _ _ _ _ (start .pre .0) .chosen .second)
+    let room = chosen-rooms _ _ _ _ _ _ (c .before .before .before .before .before .before .before .pre .0) in
+    omega (arith, room .first, room .second, room .third)
 
 output-at-requires-3 : tie.Need-output-at-requires-3
 output-at-requires-3 c κs =
-    let start = c .before .before .before .before .before .before .before .before in
-    room-of _ _ _ _ _ _ _ (start .pre .0) (sheet-free _ _ _ _ _ _ (start .pre .0) .chosen .third)
+    let room = chosen-rooms _ _ _ _ _ _ (c .before .before .before .before .before .before .before .before .pre .0) in
+    omega (arith, room .first, room .second, room .third)
 
 put-step-row-requires : tie.Need-put-step-row-requires
 put-step-row-requires c κs =
