@@ -1,8 +1,9 @@
 -- From the machine's answer to what a call on lent words promises: an answer of the search, told of the model that words mean, is what the search in
--- words owes; a call that is barred writes nothing; and where nothing bars it the search's promise is the call's. Assumes nothing.
+-- words owes; a call that is barred writes nothing; and where nothing bars it the search's promise is the call's. What the words lent for the new state held
+-- before does not count. Assumes nothing.
 use Prim.Native.Nat.{ℕ, _≤_, _<_}
 use native.Mathlib.Omega.{arith}
-use mathlib.Core.Path.{_≡_, refl, sym, ap, _∙_}
+use mathlib.Core.Path.{_≡_, refl, sym, ap, subst, _∙_}
 use mathlib.Core.Bool.{Bool, true, false, not, _&&_}
 use mathlib.Core.Logic.{_⊎_, inl, inr}
 use mathlib.Core.List.{List}
@@ -140,3 +141,17 @@ pub into-machine : (ts os : List ℕ) (w room : ℕ) → spelled ts os ≡ true 
 unfolding outcome-into outcome-with unless-short
 into-machine ts os w room spells enough =
     rw (spells, le-leb (state-words-of (parts-lent ts)) room enough, and-not-true (eqb (barred (lent-model ts os) w) 0)) refl
+
+-- request 6, "Each call keeps its answers, whatever outputs those records held before": two calls on the same words, with as many lent for the new state, end alike
+-- whatever those held, and where a round was made the new states mean the same model
+pub called-anyway :
+    (ts os : List ℕ) (w : ℕ) (a b a′ b′ : List ℕ) (r r′ : Verdict) → length a ≡ length a′ → CalledInto (outcome-into ts os w (length a)) ts os a b r →
+    CalledInto (outcome-into ts os w (length a′)) ts os a′ b′ r′ → (r ≡ r′) × (0 < r .rounds → lent-model ts b ≡ lent-model ts b′)
+called-anyway ts os w a b a′ b′ r r′ e one other =
+    let o : ℕ → Outcome = outcome-into ts os w in
+    let ends : r ≡ r′ = one .ends ∙ ap (λ (n : ℕ). verdict-of (o n)) e ∙ sym (other .ends) in (
+      ends,
+      λ asked.
+          one .next asked ∙ ap (λ (n : ℕ). answer-with (lent-model ts os) (o n) .model) e ∙
+          sym (other .next (subst (λ (v : Verdict). 0 < v .rounds) ends asked)),
+    )

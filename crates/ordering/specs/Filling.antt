@@ -70,26 +70,32 @@ module _ (old : List Part) (now : Point) where
       (filled-other ks (set ps k (shown old now ps (part-at ps k))) k out ∙ getD-set-same ps k (shown old now ps (part-at ps k)) blank-part h)
 
   module _ (ps : List Part) (ks : List ℕ) (complete : CompleteOrder (components ps) ks) where
-    -- a part's output is its row for the outputs that are stored at the end: those of its direct sources were filled before it
+    -- what a direct source of a part stores when the part's turn comes it stores at the end: it was filled before, and no output is written twice
+    pub source-filled : (front back : List ℕ) (i j : ℕ) → ks ≡ front ++ i ∷ back → DirectWire (components ps) j i →
+        stored (filled old now front ps) j ≡ stored (filled old now ks ps) j
+    source-filled front back i j e wire =
+        rw (e, filled-append front (i ∷ back) ps)
+        (ap (λ (p : Part). p .state .output) (sym (filled-other (i ∷ back) (filled old now front ps) j unwritten)))
+      where
+        unwritten : List·Memᴰ j (i ∷ back) → ⊥
+        unwritten m =
+            let there : j < length (components ps) = complete .below j (rw e (Memᴰ·append-right front m)) in
+            once-apart front (i ∷ back) j (rw e at (complete .once)) (complete .after front back j i e wire there) m
+
+    -- a part's output is its row for the outputs that are stored at the end
     filled-row : (front back : List ℕ) (i : ℕ) → ks ≡ front ++ i ∷ back → i < length ps →
         stored (filled old now ks ps) i ≡ row old now (filled old now ks ps) (part-at ps i)
     filled-row front back i e h =
-        rw (e, filled-append front (i ∷ back) ps)
+        ap (λ (qs : List Part). stored qs i) (ap (λ (l : List ℕ). filled old now l ps) e ∙ filled-append front (i ∷ back) ps) ∙
         (filled-first i back half (omega (arith, kept-length ps half (filled-kept front ps))) (once-rest front (i ∷ back) once .0) ∙
         (ap (row old now half) (filled-other front ps i (λ m. once-apart front (i ∷ back) i once m (List·Memᴰ·head refl))) ∙
-        row-at old now ps half (filled old now (i ∷ back) half) i h
-        (λ j wire. ap (λ (p : Part). p .state .output) (sym (filled-other (i ∷ back) half j (unwritten j wire))))))
+        row-at old now ps half (filled old now ks ps) i h (λ j wire. source-filled front back i j e wire)))
       where
         half : List Part
         half = filled old now front ps
 
         once : Once (front ++ i ∷ back)
         once = rw e at (complete .once)
-
-        unwritten : (j : ℕ) → DirectWire (components ps) j i → List·Memᴰ j (i ∷ back) → ⊥
-        unwritten j wire m =
-            let there : j < length (components ps) = complete .below j (rw e (Memᴰ·append-right front m)) in
-            once-apart front (i ∷ back) j once (complete .after front back j i e wire there) m
 
     -- filling in a complete order is a filling
     pub filled-filling : Filling old now ps (filled old now ks ps)

@@ -5,3 +5,4 @@ pub mod Stuck
 pub mod Row
 pub mod Filling
 pub mod Models
+pub mod StaleOutputs

@@ -15,7 +15,7 @@ ghost use mathlib.Core.Path.{_≡_};
 ghost use mathlib.Core.Bool.{true, cond};
 ghost use lib.Dec.{ltb};
 ghost use Rattle.machine.specs.Signal.{first-present, is-signal, sampled};
-ghost use Rattle.machine.specs.Kind.{mark-signal, output};
+ghost use Rattle.machine.specs.Kind.{direct0, direct1, mark-signal, output};
 ghost use Rattle.point.specs.PartRanges.{PartFits};
 
 // `x` if it is present, else `y`.
@@ -60,11 +60,12 @@ fn mark_signal_of(mark: Mark) -> Signal
 }
 
 // The part's output at the point `now`: `x` and `y` are the readings of ports 0 and 1 there, and
-// `before` that of port 0 at the point before.
+// `before` that of port 0 at the point before. A reading that the output does not depend on, of a port that is not
+// direct, may be anything.
 pub fn output_of(p: Part, now: Point, x: Signal, y: Signal, before: Signal) -> Signal
     requires { ⌜ PartFits p ⌝ }
-    requires { ⌜ is-signal x ≡ true ⌝ }
-    requires { ⌜ is-signal y ≡ true ⌝ }
+    requires { ⌜ (direct0 (p .component .kind) ≡ true → is-signal x ≡ true) ⌝ }
+    requires { ⌜ (direct1 (p .component .kind) ≡ true → is-signal y ≡ true) ⌝ }
     ensures { λ r. ⌜ r ≡ output p now x y before ⌝ }
 {
     let c = p.component;

@@ -152,3 +152,13 @@ pub range-first-refuted : (ts os a b : List ℕ) → spelled ts os ≡ false →
 unfolding outcome-into
 range-first-refuted ts os a b none previewed =
     let h : _≡_ {A = ℕ} 20 24 = rw none at (ap (λ (v : Verdict). v .number) (previewed .ends)) in omega arith
+
+-- request 6 of previews: two on the same words, with as many lent for the new state, end alike whatever those held, and where a state can be shown they tell the same
+-- answer
+pub previewed-anyway :
+    (ts os : List ℕ) (w : ℕ) (a b a′ b′ : List ℕ) (r r′ : Verdict) → length a ≡ length a′ → PreviewedInto ts os w a b r →
+    PreviewedInto ts os w a′ b′ r′ → (r ≡ r′) × (shows ts os (length a) ≡ true → told ts b r ≡ told ts b′ r′)
+previewed-anyway ts os w a b a′ b′ r r′ e one other = (
+  one .ends ∙ ap (λ (n : ℕ). verdict-of (outcome-into ts os w n)) e ∙ sym (other .ends),
+  λ can. one .answer can ∙ sym (other .answer (sym (ap (shows ts os) e) ∙ can)),
+)

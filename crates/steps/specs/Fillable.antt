@@ -1,7 +1,7 @@
 -- What a model must be for its outputs to be filled, and for its parts to be settled, and what that says of the places in use. Assumes nothing.
 use Prim.Native.Nat.{ℕ, _≤_, _<_}
 use native.Mathlib.Omega.{arith}
-use mathlib.Core.Path.{_≡_, sym, subst, _∙_}
+use mathlib.Core.Path.{_≡_, refl, sym, subst, _∙_}
 use mathlib.Core.List.{List, map}
 use lib.ListN.{length}
 use Rattle.machine.specs.declared.time.Point.{Point}
@@ -10,12 +10,15 @@ use Rattle.machine.specs.declared.part.Part.{Part}
 use Rattle.machine.specs.declared.model.Model.{Model}
 use Rattle.machine.specs.Lists.{All}
 use Rattle.machine.specs.Time.{last-tick}
+use Rattle.machine.specs.Signal.{is-signal}
 use Rattle.machine.specs.Kind.{period}
 use Rattle.machine.specs.Model.{most-parts, blank-part, part-at, with-parts, reading, trimmed, trimmed-part, trimmed-component}
-use Rattle.laws.specs.Alls.{all-same-map, length-same-map}
+use Rattle.laws.specs.Alls.{all-same-map, length-same-map, members-all}
 use Rattle.laws.specs.ListLaws.{all-at}
 use Rattle.laws.specs.Partway.{mapped-places}
 use Rattle.soundness.specs.RangesKept.{InRange}
+use Rattle.ordering.specs.Order.{CompleteOrder}
+use Rattle.ordering.specs.Row.{unshown, components, components-length}
 use Rattle.steps.specs.Reading.{SourceBelow, WiredBelow, part-trimmed, reading-trimmed}
 use Rattle.steps.specs.Trimmed.{Changed}
 
@@ -25,16 +28,30 @@ pub record Wired (m : Model) : Type 0 where
   pub counted : m .count ≡ length (m .parts)
   pub sources : All (λ (p : Part). WiredBelow (m .count) (p .component)) (m .parts)
 
--- the outputs of the model `new` can be filled, `old` standing at the point before
+-- a part is in range, its stored output aside
+abbrev pub InRangeUnshown : Part → Type 0
+InRangeUnshown p = InRange (unshown p)
+
+pub in-range-unshown : (p : Part) → InRange p → InRangeUnshown p
+unfolding is-signal
+in-range-unshown p r = record { a = r .a; b = r .b; held = r .held; speed = r .speed; signal = r .signal; output = refl }
+
+-- the outputs of the model `new` can be filled, `old` standing at the point before. Nothing is asked of the outputs that `new` has stored
 pub record Fillable (old new : Model) : Type 0 where
   pub wired : Wired new
   pub counted : old .count ≡ length (old .parts)
   pub same : old .count ≡ new .count
   pub places : new .count ≡ length (new .order)
-  pub order : All (λ (k : ℕ). k < new .count) (new .order)
+  pub complete : CompleteOrder (components (new .parts)) (new .order)
   pub periods : All (λ (p : Part). period p ≤ last-tick) (new .parts)
   pub before : All InRange (old .parts)
-  pub ranges : All InRange (new .parts)
+  pub ranges : All InRangeUnshown (new .parts)
+
+-- the numbers of the order are those of parts
+pub fillable-numbers : (old new : Model) → Fillable old new → All (λ (k : ℕ). k < new .count) (new .order)
+fillable-numbers old new fit =
+    members-all (λ (k : ℕ). k < new .count) (new .order)
+    (λ k among. omega (arith, fit .complete .below k among, components-length (new .parts), fit .wired .counted))
 
 -- a model with other parts of the same components is wired as before
 pub kept-wired :

@@ -11,9 +11,9 @@ use Rattle.machine.specs.declared.time.Point.{Point}
 use Rattle.machine.specs.declared.signal.Signal.{Signal}
 use Rattle.machine.specs.declared.part.Part.{Part}
 use Rattle.machine.specs.Signal.{is-signal}
-use Rattle.machine.specs.Kind.{output}
+use Rattle.machine.specs.Kind.{direct0, direct1, output}
 use Rattle.machine.specs.Model.{most-parts, part-at, with-parts, reading0, reading1, trimmed}
-use Rattle.machine.specs.Step.{with-output, shown, filled}
+use Rattle.machine.specs.Step.{with-output, shown}
 use Rattle.point.specs.PartRanges as point
 use Rattle.store.specs.Held.{WordsThere, table-words, state-words-of, parts-lent, stored-number, stored-part, stored-point, stored-state, held}
 use Rattle.store.specs.Updated.{SameBehind}
@@ -22,6 +22,7 @@ use Rattle.store.specs.Shown.{OutputPut, held-shown}
 use Rattle.steps.specs.Reading.{WiredBelow, source-index, index-below, heard, heard0, heard1}
 use Rattle.steps.specs.Trimmed.{Changed}
 use Rattle.steps.specs.Fillable.{Fillable}
+use Rattle.steps.specs.Anyway.{FilledAnyway, filled-whatever}
 use Rattle.steps.specs.Showing.{partly, Showable, number-below, half-wired, showable, shown-next, all-filled, heard-shown}
 use Rattle.steps.specs.LentReading.{lent-heard, lent-wired}
 
@@ -44,9 +45,9 @@ pub record LentTurn (ts os ns₀ ns : List ℕ) (i k : ℕ) (p : Part) : Type 0 
   pub source0 : source-index (p .component .port0) < parts-lent ts
   pub source1 : source-index (p .component .port1) < parts-lent ts
   pub ranges : point.PartFits p
-  pub signal0 : (k0 : ℕ) (out0 x : Signal) → k0 ≡ source-index (p .component .port0) → out0 ≡ stored-state ns k0 .output →
+  pub signal0 : direct0 (p .component .kind) ≡ true → (k0 : ℕ) (out0 x : Signal) → k0 ≡ source-index (p .component .port0) → out0 ≡ stored-state ns k0 .output →
       x ≡ heard (p .component .port0) out0 → is-signal x ≡ true
-  pub signal1 : (k1 : ℕ) (out1 y : Signal) → k1 ≡ source-index (p .component .port1) → out1 ≡ stored-state ns k1 .output →
+  pub signal1 : direct1 (p .component .kind) ≡ true → (k1 : ℕ) (out1 y : Signal) → k1 ≡ source-index (p .component .port1) → out1 ≡ stored-state ns k1 .output →
       y ≡ heard (p .component .port1) out1 → is-signal y ≡ true
   -- what was heard, shown and written fills one output more
   pub fills : (now : Point) (k0 k1 : ℕ) (out0 out1 earlier x y before out : Signal) (then : List ℕ) → now ≡ stored-point ns₀ →
@@ -117,18 +118,20 @@ module _
       let some : 0 < n = omega arith in
       let below0 : source-index (p .component .port0) < n = index-below n (p .component .port0) some (next-wired .port0) in
       let below1 : source-index (p .component .port1) < n = index-below n (p .component .port1) some (next-wired .port1) in
-      let signals0 : is-signal (reading0 qs p) ≡ true = subst (λ (q : Part). is-signal (reading0 qs q) ≡ true) next-part (next-showable .signal0) in
-      let signals1 : is-signal (reading1 qs p) ≡ true = subst (λ (q : Part). is-signal (reading1 qs q) ≡ true) next-part (next-showable .signal1) in
+      let signals0 : direct0 (p .component .kind) ≡ true → is-signal (reading0 qs p) ≡ true =
+      subst (λ (q : Part). direct0 (q .component .kind) ≡ true → is-signal (reading0 qs q) ≡ true) next-part (next-showable .signal0) in
+      let signals1 : direct1 (p .component .kind) ≡ true → is-signal (reading1 qs p) ≡ true =
+      subst (λ (q : Part). direct1 (q .component .kind) ≡ true → is-signal (reading1 qs q) ≡ true) next-part (next-showable .signal1) in
       record {
         place = next-showable .place;
         number = number-low;
         source0 = below0;
         source1 = below1;
         ranges = subst point.PartFits next-part (next-showable .ranges);
-        signal0 = λ k0 out0 x e0 eo ex.
-            rw (heard0 qs p k0 x e0 (lent-heard ts ns (p .component .port0) k0 out0 x (rw e0 below0) eo ex)) signals0;
-        signal1 = λ k1 out1 y e1 eo ey.
-            rw (heard1 qs p k1 y e1 (lent-heard ts ns (p .component .port1) k1 out1 y (rw e1 below1) eo ey)) signals1;
+        signal0 = λ direct k0 out0 x e0 eo ex.
+            rw (heard0 qs p k0 x e0 (lent-heard ts ns (p .component .port0) k0 out0 x (rw e0 below0) eo ex)) (signals0 direct);
+        signal1 = λ direct k1 out1 y e1 eo ey.
+            rw (heard1 qs p k1 y e1 (lent-heard ts ns (p .component .port1) k1 out1 y (rw e1 below1) eo ey)) (signals1 direct);
         fills = λ now k0 k1 out0 out1 earlier x y before out then en e0 e1 eo0 eo1 eoe ex ey eb eo put.
             next-filled out then
             (heard-shown (held ts os .parts) qs (held ts ns₀ .point) p k0 k1 x y before out e0 e1
@@ -149,10 +152,11 @@ module _
       subst (LentTurn ts os ns₀ ns i k) (sym ep)
       (subst (λ (j : ℕ). LentTurn ts os ns₀ ns i j (stored-part ts ns j)) (sym ek) next-turn)
 
--- all of them filled is the model filled
+-- all of them filled is the model filled, whatever outputs it held before
 pub lent-filled :
     (ts os ns₀ ns : List ℕ) → Fillable (trimmed (held ts os)) (trimmed (held ts ns₀)) → (i : ℕ) →
     Changed (held ts ns₀) (partly (held ts os) (held ts ns₀) i) (held ts ns) → parts-lent ts ≤ i →
-    Changed (held ts ns₀) (filled (trimmed (held ts os) .parts) (held ts ns₀ .point) (trimmed (held ts ns₀) .order) (trimmed (held ts ns₀) .parts)) (held ts ns)
+    FilledAnyway (held ts os) (held ts ns₀) (held ts ns)
 unfolding held
-lent-filled ts os ns₀ ns fit i half past = all-filled (held ts os) (held ts ns₀) fit (held ts ns) i half past
+lent-filled ts os ns₀ ns fit i half past =
+    filled-whatever (held ts os) (held ts ns₀) (held ts ns) fit (all-filled (held ts os) (held ts ns₀) fit (held ts ns) i half past)

@@ -2,7 +2,7 @@
 -- their state. The idea: the new state's words are those of the old one, copied whole, so that the model in words stands for the one at the point before
 -- too. Assumes nothing.
 use Prim.Native.Nat.{ℕ, _≤_}
-use mathlib.Core.Path.{_≡_, sym, ap, subst, _∙_}
+use mathlib.Core.Path.{_≡_, refl, sym, ap, subst, _∙_}
 use mathlib.Core.List.{List}
 use Rattle.machine.specs.declared.model.Model.{Model}
 use Rattle.machine.specs.Model.{most-parts, trimmed}
@@ -15,6 +15,7 @@ use Rattle.transfer.specs.ModelPut.{ModelPut}
 use Rattle.transfer.specs.Recalled.{Recalled}
 use Rattle.steps.specs.Trimmed.{Changed}
 use Rattle.steps.specs.Fillable.{Wired, Fillable}
+use Rattle.steps.specs.Anyway.{FilledAnyway}
 use Rattle.steps.specs.StepMade.{filled-settled, filled-settleable}
 use Rattle.steps.specs.Start.{Unfilled, unfilled, unfilled-fillable, started-is}
 
@@ -34,13 +35,11 @@ module _ (m : Model) (u : Unfilled m) (ts os ns : List ℕ) (put : ModelPut m ts
   start-fillable = rw (copied, put .is, u .is) (unfilled-fillable (u .table) (u .fits))
 
   -- the words fs, the outputs filled
-  module _
-      (fs : List ℕ)
-      (fills :
-      Changed (held ts ns) (filled (trimmed (held ts os) .parts) (held ts ns .point) (trimmed (held ts ns) .order) (trimmed (held ts ns) .parts)) (held ts fs)) where
+  module _ (fs : List ℕ) (fills : FilledAnyway (held ts os) (held ts ns) (held ts fs)) where
     -- what settling asks
     pub start-settleable : Wired (trimmed (held ts fs))
-    start-settleable = filled-settleable (trimmed (held ts os) .parts) (held ts ns) (held ts fs) (start-fillable .wired) fills
+    start-settleable =
+        filled-settleable (trimmed (held ts os) .parts) (held ts ns) (held ts fs) (start-fillable .wired) (fills (trimmed (held ts ns) .parts) refl)
 
     -- the words ss, the parts settled: the model that takes their state is the fresh one
     pub start-is :
@@ -52,5 +51,5 @@ module _ (m : Model) (u : Unfilled m) (ts os ns : List ℕ) (put : ModelPut m ts
         started-is (held ts os) (held ts ss)
         (subst
         (λ (ws : List ℕ). Changed (held ts ws) (all-settled (filled old (held ts ws .point) (trimmed (held ts ws) .order) (trimmed (held ts ws) .parts))) (held ts ss))
-        copied (filled-settled old (held ts ns) (held ts fs) (held ts ss) fills settles))
+        copied (filled-settled old (held ts ns) (held ts fs) (held ts ss) (fills (trimmed (held ts ns) .parts) refl) settles))
         t (put .is ∙ e)

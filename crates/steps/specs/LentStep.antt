@@ -2,7 +2,7 @@
 -- idea: the new state's words, with the parts moved and the point written, mean the moved model at the new point, of which the laws of a step speak.
 -- Assumes nothing.
 use Prim.Native.Nat.{ℕ, _+_, _≤_, _<_}
-use mathlib.Core.Path.{_≡_, sym, ap, subst, _∙_}
+use mathlib.Core.Path.{_≡_, refl, sym, ap, subst, _∙_}
 use mathlib.Core.Bool.{true}
 use mathlib.Core.List.{List}
 use Rattle.machine.specs.declared.time.Point.{Point}
@@ -17,6 +17,7 @@ use Rattle.store.specs.Updated.{PointPut, SameBehind}
 use Rattle.store.specs.StoreFrame.{held-pointed, behind-pointed, behind-through}
 use Rattle.steps.specs.Trimmed.{Changed}
 use Rattle.steps.specs.Fillable.{Fillable}
+use Rattle.steps.specs.Anyway.{FilledAnyway}
 use Rattle.steps.specs.StepMade.{at-point, never-past, leads-to, moved-is, made-fillable}
 use Rattle.steps.specs.StepShown.{step-shown}
 
@@ -55,15 +56,14 @@ module _
   -- the words f, the outputs filled
   module _
       (f : List ℕ)
-      (fills :
-      Changed (held ts b) (filled (trimmed (held ts os) .parts) (held ts b .point) (trimmed (held ts b) .order) (trimmed (held ts b) .parts)) (held ts f)) where
+      (fills : FilledAnyway (held ts os) (held ts b) (held ts f)) where
     -- the outputs shown
     pub lent-shown : to ≡ led-to (held ts os .point) h → trimmed (held ts f) ≡ step-shown (trimmed (held ts os)) h
     unfolding step-shown trimmed
     lent-shown leads =
         let old = trimmed (held ts os) .parts in
         let moves-all = all-moved (tick (held ts os .point)) h old in
-        fills .is ∙
+        fills (trimmed (held ts b) .parts) refl .is ∙
         ap (λ (x : Model). with-parts (trimmed x) (x .point) (filled old (x .point) (trimmed x .order) (trimmed x .parts))) pointed ∙
         ap (λ (y : Model). with-parts y to (filled old to (y .order) (y .parts))) (moved-is (held ts os) (held ts a) to moves-all moves) ∙
         ap (λ (p : Point). with-parts (trimmed (held ts os)) p (filled old p (trimmed (held ts os) .order) moves-all)) leads

@@ -7,6 +7,7 @@ pub mod InPlace
 pub mod Moving
 pub mod Settling
 pub mod FillingInOrder
+pub mod Anyway
 pub mod Showing
 pub mod LentReading
 pub mod LentFilling
@@ -16,3 +17,4 @@ pub mod LentMoving
 pub mod LentStep
 pub mod Start
 pub mod LentStart
+pub mod CallsAnyway

@@ -19,16 +19,16 @@ use Rattle.machine.specs.Table.{Table, component-ratio, periods-fit, part-order
 use Rattle.machine.specs.Step.{with-output, shown, filled, all-settled}
 use Rattle.machine.specs.Fresh.{first-part, first-parts, fresh}
 use Rattle.machine.specs.Sound.{table-fits}
-use Rattle.laws.specs.Alls.{all-map, every-all}
+use Rattle.laws.specs.Alls.{all-map, every-all, all-give}
 use Rattle.soundness.specs.Facts.{ComponentFits, table-facts}
 use Rattle.soundness.specs.RangesKept.{InRange}
 use Rattle.soundness.specs.FreshSound.{first-in-range}
-use Rattle.ordering.specs.Order.{order-length}
+use Rattle.ordering.specs.Order.{order-complete, order-length}
+use Rattle.ordering.specs.Models.{first-components}
 use Rattle.steps.specs.Reading.{WiredBelow}
 use Rattle.steps.specs.Trimmed.{Changed}
-use Rattle.steps.specs.Fillable.{Fillable}
+use Rattle.steps.specs.Fillable.{Fillable, InRangeUnshown, in-range-unshown}
 use Rattle.steps.specs.WiredParts.{component-wired}
-use Rattle.steps.specs.StepMade.{order-numbers}
 
 -- the model of a table before its start point is filled
 unfoldable pub unfilled : Table → Model
@@ -59,14 +59,14 @@ unfilled-fillable t fits =
       counted = sym (length-map (t .parts) (first-part t));
       same = refl;
       places = sym (order-length (t .parts) (table .order));
-      order = order-numbers (t .parts);
+      complete = rw (first-components t) (order-complete (t .parts) (table .order));
       periods =
           all-map (first-part t) (λ (c : Component). c .p * component-ratio t c ≤ last-tick) (λ (p : Part). period p ≤ last-tick) (t .parts)
           (λ c small. small)
           (every-all (λ (c : Component). c .p * component-ratio t c ≤ last-tick) (λ (c : Component). leb (c .p * component-ratio t c) last-tick) (t .parts)
           (λ c small. leb-true (c .p * component-ratio t c) last-tick small) (table .periods));
       before = ranges;
-      ranges = ranges;
+      ranges = all-give InRange InRangeUnshown (first-parts t) in-range-unshown ranges;
     }
 
 -- at the start point no output reads the point before

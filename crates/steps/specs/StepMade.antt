@@ -9,29 +9,24 @@ use lib.ListN.{length}
 use borrow.Author.Tests.{eqb-true, le-leb}
 use Rattle.machine.specs.declared.time.Point.{Point}
 use Rattle.machine.specs.declared.time.Stepped.the-variants.{To, Past}
-use Rattle.machine.specs.declared.part.Component.{Component}
 use Rattle.machine.specs.declared.part.Part.{Part}
 use Rattle.machine.specs.declared.model.Model.{Model}
-use Rattle.machine.specs.Lists.{All}
 use Rattle.machine.specs.Time.{in-time, last-microstep, last-tick, led-to, stepped, tick}
 use Rattle.machine.specs.Kind.{period}
 use Rattle.machine.specs.Model.{with-parts, reading0, trimmed}
-use Rattle.machine.specs.Table.{table-of, part-order}
+use Rattle.machine.specs.Table.{table-of}
 use Rattle.machine.specs.Step.{moved, all-moved, filled, all-settled}
 use Rattle.machine.specs.Sound.{sound}
-use Rattle.laws.specs.Alls.{map-kept, all-map, members-all}
+use Rattle.laws.specs.Alls.{map-kept, all-map, all-give}
 use Rattle.soundness.specs.Facts.{table-facts, sound-facts}
-use Rattle.soundness.specs.RangesKept.{all-moved-in-range}
+use Rattle.soundness.specs.RangesKept.{InRange, all-moved-in-range}
 use Rattle.soundness.specs.CoreKept.{filled-kept}
 use Rattle.soundness.specs.Stepped.{in-range}
-use Rattle.ordering.specs.Order.{order-below, order-length}
+use Rattle.ordering.specs.Order.{order-complete, order-length}
+use Rattle.ordering.specs.Models.{moved-components}
 use Rattle.steps.specs.Trimmed.{Changed}
-use Rattle.steps.specs.Fillable.{Wired, Fillable, kept-wired, changed-wired}
+use Rattle.steps.specs.Fillable.{Wired, Fillable, InRangeUnshown, in-range-unshown, kept-wired, changed-wired}
 use Rattle.steps.specs.WiredParts.{sound-wired, sound-periods, sound-many}
-
--- the numbers of a part order are those of the components
-pub order-numbers : (cs : List Component) → All (λ (k : ℕ). k < length cs) (part-order cs)
-order-numbers cs = members-all (λ (k : ℕ). k < length cs) (part-order cs) (order-below cs)
 
 -- once a sound model's parts are moved, its outputs can be filled
 pub moved-fillable :
@@ -47,11 +42,11 @@ moved-fillable m now h s =
       counted = facts .counted;
       same = refl;
       places = sym (ap length (facts .order) ∙ order-length cs (table-facts (table-of m) (facts .table) .order) ∙ sound-many m s);
-      order = rw (facts .order, ← sound-many m s) (order-numbers cs);
+      complete = rw (moved-components t h (m .parts), facts .order) (order-complete cs (table-facts (table-of m) (facts .table) .order));
       periods =
           all-map f (λ (p : Part). period p ≤ last-tick) (λ (p : Part). period p ≤ last-tick) (m .parts) (λ p w. w) (sound-periods m s);
       before = in-range m s;
-      ranges = all-moved-in-range t h (m .parts) (in-range m s);
+      ranges = all-give InRange InRangeUnshown (all-moved t h (m .parts)) in-range-unshown (all-moved-in-range t h (m .parts) (in-range m s));
     }
 
 -- a model with its outputs filled, and then settled

@@ -1,7 +1,7 @@
 // The outputs of a point, filled in part order in the words of the new state.
 //
-// Its contract cites `machine`'s `specs/Step.antt`, `store`'s `specs/Held.antt` and `specs/Updated.antt`, and this crate's
-// `specs/Trimmed.antt` and `specs/Fillable.antt`.
+// Its contract cites `store`'s `specs/Held.antt` and `specs/Updated.antt`, and this crate's `specs/Fillable.antt` and
+// `specs/Anyway.antt`.
 use crate::heard::heard_of;
 use crate::heard::source_index;
 use point::output::output_of;
@@ -12,18 +12,19 @@ use store::lookup::parts_of;
 use store::lookup::point_of;
 use store::update::put_output;
 ghost use Rattle.machine.specs.Model.{trimmed};
-ghost use Rattle.machine.specs.Step.{filled};
 ghost use Rattle.store.specs.Held.{WordsThere, held, parts-lent};
 ghost use Rattle.store.specs.Updated.{SameBehind};
-ghost use Rattle.steps.specs.Trimmed.{Changed};
 ghost use Rattle.steps.specs.Fillable.{Fillable};
+ghost use Rattle.steps.specs.Anyway.{FilledAnyway};
 
-// The outputs of `new` at its point, in the table's part order; `old` stands at the point before, which delays read.
+// The outputs of `new` at its point, in the table's part order, worked out in its own words: there is no array of signals. `old`
+// stands at the point before, which delays read. Nothing is asked of the outputs that `new` holds: whatever they are, the
+// definition's are there afterwards.
 pub(crate) fn filled_into(table: &[u64], old: &[u64], new: &mut [u64])
     requires { ⌜ WordsThere (now table) (now old) ⌝ }
     requires { ⌜ WordsThere (now table) (now new) ⌝ }
     requires { ⌜ Fillable (trimmed (held (now table) (now old))) (trimmed (held (now table) (now new))) ⌝ }
-    ensures { λ r. ⌜ Changed (held (now (table .entry)) (now (new .entry))) (filled (trimmed (held (now (table .entry)) (now (old .entry))) .parts) (held (now (table .entry)) (now (new .entry)) .point) (trimmed (held (now (table .entry)) (now (new .entry))) .order) (trimmed (held (now (table .entry)) (now (new .entry))) .parts)) (held (now (table .entry)) (now (new .exit))) ⌝ }
+    ensures { λ r. ⌜ FilledAnyway (held (now (table .entry)) (now (old .entry))) (held (now (table .entry)) (now (new .entry))) (held (now (table .entry)) (now (new .exit))) ⌝ }
     ensures { λ r. ⌜ SameBehind (parts-lent (now (table .entry))) (now (new .entry)) (now (new .exit)) ⌝ }
 {
     let count = parts_of(table);

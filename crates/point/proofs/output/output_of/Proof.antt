@@ -1,6 +1,6 @@
 -- `output_of` is `output`: each arm of the match knows the kind, and calls the function whose contract is that kind's clause of `output-as`. A
 -- signed number that passes through a local is read back from its bits, as the number itself, since it fits.
-use mathlib.Core.Path.{_≡_}
+use mathlib.Core.Path.{_≡_, refl}
 use mir.Syntax.{w64}
 use mir.Val.{ofZ, toZ}
 use mir.ValLaws.{toZ-ofZ}
@@ -33,14 +33,20 @@ enum-told c = search needs
 enum-told-2 : tie.Need-enum-told-2
 enum-told-2 c = search needs
 
+-- a gain's port 0 is direct, so it reads a signal
 product-of-requires : tie.Need-product-of-requires
-product-of-requires c κs = search needs
+product-of-requires c κs =
+    let period = c .before .before in
+    (rw (a-back period) (start period .pre .0 .a), start period .pre .1 .0 (rw (c .enum-told2 .given .1) refl))
 
 enum-told-3 : tie.Need-enum-told-3
 enum-told-3 c = search needs
 
+-- so are both ports of an adder
 total-of-requires : tie.Need-total-of-requires
-total-of-requires c κs = search needs
+total-of-requires c κs =
+    let s = start (c .before .before) in
+    (s .pre .1 .0 (rw (c .enum-told3 .given .1) refl), s .pre .1 .1 (rw (c .enum-told3 .given .1) refl))
 
 enum-told-4 : tie.Need-enum-told-4
 enum-told-4 c = search needs

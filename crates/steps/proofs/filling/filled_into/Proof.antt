@@ -156,9 +156,9 @@ output-of-requires c κs =
     let out1 = outs .before in (
       at .ranges,
       (
-        at .signal0 (first .source-index .result) (out0 .output-at .result) (c .before .before .heard-of .result) (first .source-index .ensures)
+        λ direct. at .signal0 direct (first .source-index .result) (out0 .output-at .result) (c .before .before .heard-of .result) (first .source-index .ensures)
             (out0 .output-at .ensures) (c .before .before .heard-of .ensures),
-        at .signal1 (second .source-index2 .result) (out1 .output-at2 .result) (c .before .heard-of2 .result) (second .source-index2 .ensures)
+        λ direct. at .signal1 direct (second .source-index2 .result) (out1 .output-at2 .result) (c .before .heard-of2 .result) (second .source-index2 .ensures)
             (out1 .output-at2 .ensures) (c .before .heard-of2 .ensures),
       ),
     )
