@@ -1,6 +1,8 @@
 // The line of a call on lent words, written into a buffer that the caller lends: the numbers of the call, and the point and
-// the outputs of the state that it left. The promises cite the machine's `Rehearse.antt` and `Writing.antt`, and `store`'s
-// `specs/Held.antt`.
+// the outputs of the state that it left. The line is put straight into the buffer, once it is known to have room for it. The
+// promises cite the machine's `Rehearse.antt` and `Writing.antt`, `writing`'s `specs/Put.antt` and `store`'s `specs/Held.antt`.
+use crate::length::output_length;
+use crate::line::numbers_length;
 use crate::line::put_numbers;
 use crate::line::write_refused;
 use crate::text::put_output;
@@ -9,18 +11,57 @@ use store::lookup::output_at;
 use store::lookup::parts_of;
 use store::lookup::point_of;
 use writing::put::put_byte;
-use writing::written::write_text;
-ghost use Prim.Native.Nat.{ℕ, _≤_};
-ghost use Rattle.machine.specs.Rehearse.{answer-line};
-ghost use Rattle.store.specs.Held.{WordsThere, parts-lent};
+use writing::written::TOO_SHORT;
+ghost use mathlib.Core.Path.{_≡_};
+ghost use Prim.Native.Nat.{ℕ, _+_, _*_, _≤_};
+ghost use lib.ListN.{length};
+ghost use Rattle.machine.specs.Rehearse.{answer-line, outputs-text};
+ghost use Rattle.store.specs.Held.{WordsThere, held, parts-lent};
 ghost use Rattle.machine.specs.Writing.{WrittenAs};
+ghost use Rattle.writing.specs.Put.{Put};
 ghost use Rattle.lines.specs.LentLines.{lent-answer};
 
-// How many bytes a line is built in. The longest line of a committed advance has 777: five numbers of
-// 20 digits with four blanks, 32 outputs of 20 characters with a blank before each, and a line feed.
-const ROOM: usize = 1024;
+// How many bytes the line of a committed advance has at most besides its outputs, five numbers of 20 digits with four blanks
+// and a line feed, and how many each output, a blank, a hyphen and 19 digits: 777 for 32 parts.
+const MOST_NUMBERS: usize = 105;
 
-// The line of a call that ended so, the state `state` being that of its answer. No line shows the last ceiling.
+const MOST_OUTPUT: usize = 21;
+
+// How many bytes the outputs of all parts take.
+fn outputs_length(table: &[u64], state: &[u64]) -> usize
+    requires { ⌜ WordsThere (now table) (now state) ⌝ }
+    requires { ⌜ parts-lent (now table) ≤ 32 ⌝ }
+    ensures { λ r. ⌜ r ≡ length (outputs-text (held (now (table .entry)) (now (state .entry)) .parts)) ⌝ }
+{
+    let count = parts_of(table);
+    let mut length: usize = 0;
+    let mut i: usize = 0;
+    while i < count {
+        length += output_length(output_at(state, i));
+        i += 1;
+    }
+    length
+}
+
+// The outputs of all parts, one behind the other, into a line that has room for them.
+fn put_outputs(line: &mut [u8], at: usize, table: &[u64], state: &[u64]) -> usize
+    requires { ⌜ WordsThere (now table) (now state) ⌝ }
+    requires { ⌜ at + length (outputs-text (held (now table) (now state) .parts)) ≤ length (now line) ⌝ }
+    ensures { λ r. ⌜ Put (21 * parts-lent (now (table .entry))) (outputs-text (held (now (table .entry)) (now (state .entry)) .parts)) at (now (line .entry)) (now (line .exit)) r ⌝ }
+{
+    let count = parts_of(table);
+    let mut next = at;
+    let mut i: usize = 0;
+    while i < count {
+        let output = output_at(state, i);
+        next = put_output(line, next, output);
+        i += 1;
+    }
+    next
+}
+
+// The line of a call that ended so, the state `state` being that of its answer. No line shows the last ceiling. It is measured
+// before it is put only where the buffer is shorter than the longest line of so many parts.
 pub fn write_lent(
     table: &[u64],
     state: &[u64],
@@ -39,15 +80,20 @@ pub fn write_lent(
         return write_refused(number, buf);
     }
     let now = point_of(state);
-    let mut line = [0u8; ROOM];
-    let mut at = put_numbers(&mut line, now.t.0, now.n, step, rounds, revisions);
-    let count = parts_of(table);
-    let mut i = 0;
-    while i < count {
-        let output = output_at(state, i);
-        at = put_output(&mut line, at, output);
-        i += 1;
+    if buf.len() < MOST_NUMBERS + MOST_OUTPUT * parts_of(table) {
+        let numbers = numbers_length(now.t.0, now.n, step, rounds, revisions);
+        let length = numbers + outputs_length(table, state) + 1;
+        if buf.len() < length {
+            return Written {
+                number: TOO_SHORT,
+                length: length,
+            };
+        }
     }
-    at = put_byte(&mut line, at, b'\n');
-    write_text(&line[..at], buf)
+    let at = put_numbers(buf, now.t.0, now.n, step, rounds, revisions);
+    let at = put_outputs(buf, at, table, state);
+    Written {
+        number: 0,
+        length: put_byte(buf, at, b'\n'),
+    }
 }

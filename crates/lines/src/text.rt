@@ -48,7 +48,7 @@ pub fn put_value(line: &mut [u8], at: usize, v: i64) -> usize
 
 // A blank and an output: its value, or a hyphen where it is absent.
 pub(crate) fn put_output(line: &mut [u8], at: usize, output: Signal) -> usize
-    requires { ⌜ at + 22 ≤ length (now line) ⌝ }
+    requires { ⌜ at + length (blank ∷ signal-text output) ≤ length (now line) ⌝ }
     ensures { λ r. ⌜ Put 22 (blank ∷ signal-text output) at (now (line .entry)) (now (line .exit)) r ⌝ }
 {
     let next = put_byte(line, at, b' ');

@@ -1,11 +1,11 @@
 // The fields of a sheet line, put into a buffer: a number or an output, right-aligned in its width, and the character behind it. Each function puts its piece
 // at a position and returns the position after it; the machine's `specs/Sheet.antt` says what is put, and `writing`'s `specs/Put.antt` what is left in the buffer.
+use lines::length::characters_of;
+use lines::length::digits_of;
 use lines::text::put_decimal;
 use lines::text::put_value;
 use machine::signal::Signal;
-use writing::number::absolute;
 use writing::put::put_byte;
-ghost use mathlib.Core.Path.{_≡_};
 ghost use mathlib.Core.List.{_∷_, [], _++_};
 ghost use Prim.Native.Nat.{_+_, _≤_};
 ghost use lib.ListN.{length, replicate};
@@ -15,30 +15,6 @@ ghost use Rattle.writing.specs.Put.{Put};
 
 // The width of an output's field.
 const OUTPUT_WIDTH: usize = 11;
-
-// How many digits a number has.
-pub(crate) fn digits_of(n: u64) -> usize
-    ensures { λ r. ⌜ r ≡ length (decimal n) ⌝ }
-{
-    let mut rest = n;
-    let mut digits: usize = 1;
-    while rest >= 10 {
-        rest = rest / 10;
-        digits += 1;
-    }
-    digits
-}
-
-// How many characters a value has.
-fn characters_of(v: i64) -> usize
-    ensures { λ r. ⌜ r ≡ length (signed-decimal v) ⌝ }
-{
-    let digits = digits_of(absolute(v));
-    if v < 0 {
-        return digits + 1;
-    }
-    digits
-}
 
 // Blanks.
 pub(crate) fn put_blanks(out: &mut [u8], at: usize, count: usize) -> usize

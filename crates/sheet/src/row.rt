@@ -1,8 +1,8 @@
 // A whole sheet line, put at the front of a buffer that has room for it. The widths of the fields are those of the machine's `specs/Sheet.antt`.
-use crate::field::digits_of;
 use crate::field::put_blanks;
 use crate::field::put_number_field;
 use crate::field::put_output_field;
+use lines::length::digits_of;
 use lines::line::put_refusal;
 use machine::signal::Signal;
 use writing::put::put_byte;

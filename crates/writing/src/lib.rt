@@ -1,5 +1,5 @@
-// What every call that writes into a lent buffer shares: bytes and texts put at a position, a signed number taken apart, and a text
-// written whole or not at all. Its contracts cite `specs/Put.antt` and the machine's `specs/Writing.antt`.
+// What every call that writes into a lent buffer shares: bytes and texts put at a position, a signed number taken apart, and the
+// number of a buffer that is too short. Its contracts cite `specs/Put.antt`.
 pub mod number;
 pub mod put;
 pub mod written;

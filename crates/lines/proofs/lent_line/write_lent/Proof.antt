@@ -1,79 +1,96 @@
--- `write_lent` builds the line in an array of its own and hands over its bytes, which are the definition's text. The invariant: the outputs of the
--- first i parts of the model that the words mean were put behind the numbers, in an array as long as it was; the measure is how many parts are left.
-use Prim.Native.Nat.{ℕ, _+_, _*_, _-_, _≤_, _<_}
+-- `write_lent` puts the line where the buffer has room for it: because it has room for any line of so many parts, or because the line was measured and
+-- is no longer. The three pieces that are put one behind the other are the definition's text, which is the line whatever the ceiling is.
+use Prim.Native.Nat.{ℕ, _+_, _*_, _≤_}
 use native.Mathlib.Omega.{arith}
-use mathlib.Core.Path.{_≡_, refl, sym}
-use mathlib.Core.List.{List, [], _∷_}
-use lib.ListN.{length, take, length-take}
-use lib.Dec.{lit≤}
+use mathlib.Core.Path.{_≡_}
+use mathlib.Core.Logic.{⊎-elim}
+use mathlib.Core.List.{List}
+use lib.ListN.{length, getD}
+use mir.Syntax.{w64}
+use mir.Val.{Fits}
 use borrow.Author.Needs.{needs}
 use Rattle.machine.specs.declared.time.Point.{Point}
-use Rattle.machine.specs.declared.signal.Signal.{Signal}
-use Rattle.machine.specs.Time.{tick}
-use Rattle.machine.specs.Model.{blank-part}
-use Rattle.machine.specs.Rehearse.{answer-line, blank, line-feed, outputs-text, signal-text}
-use Rattle.writing.specs.Put.{Put}
 use Rattle.machine.specs.declared.model.Written.{Written}
+use Rattle.machine.specs.Time.{tick}
+use Rattle.machine.specs.Rehearse.{answer-line, outputs-text}
 use Rattle.machine.specs.Writing.{WrittenAs}
-use Rattle.writing.specs.Pieces.{put-nothing, put-then, put-as}
-use Rattle.store.specs.Held.{held, parts-lent, stored-point, stored-state}
-use Rattle.store.specs.StoreFrame.{held-many}
+use Rattle.writing.specs.Pieces.{put-then}
+use Rattle.store.specs.Held.{held, parts-lent, stored-point}
 use Rattle.lines.specs.LineNumbers.{numbers-text}
 use Rattle.lines.specs.LentLines.{lent-answer}
-use Rattle.lines.proofs.Outputs.{outputs-more, lent-output, refused-lent, committed-lent}
-use Rattle.lines.proofs.LineBounds.{bounded}
+use Rattle.lines.proofs.Outputs.{committed-lent, lent-most, lent-size, lent-text, refused-lent}
+use Rattle.lines.proofs.LineBounds.{Bounded, no-room, numbers-most, numbers-size, room}
 use Rattle.lines.proofs.lent_line.write_lent.Statement.{statement}
 use Rattle.lines.proofs.lent_line.write_lent.Tie as tie
 
-abbrev Inv-loop : tie.InvT-loop
-Inv-loop table state number step rounds revisions buf line₀ at₀ count i₀ line at i =
-    (i ≤ count) × (length line ≡ 1024) × Put (22 * i) (outputs-text (take i (held table state .parts))) at₀ line₀ line at
+-- from the point back to the words of the state, and to the start
+abbrev words-of : tie.After-point-of → tie.After-shared-slice-known2
+words-of point = point .before .before .before
 
-abbrev μ-loop : tie.MeasureT-loop
-μ-loop table state number step rounds revisions buf line₀ at₀ count i₀ line at i = count - i
+abbrev start-of : tie.After-point-of → tie.Start
+start-of point = words-of point .before .before
 
--- from the loop back to the numbers that the line begins with, from there to the point, to the test of the call's number, and to the start
-abbrev numbers-of : tie.At-loop Inv-loop μ-loop → tie.After-put-numbers Inv-loop μ-loop
-numbers-of loop = loop .before .before .before
+-- the numbers of a point that words hold fit a word
+point-fits : (ss : List ℕ) {now : Point} → now ≡ stored-point ss → ((k : ℕ) → Fits w64 (getD ss k 0)) → Fits w64 (tick now) × Fits w64 (now .n)
+unfolding stored-point
+point-fits ss same word = rw same (word 0, word 1)
 
-abbrev point-of : tie.After-put-numbers Inv-loop μ-loop → tie.After-point-of Inv-loop μ-loop
-point-of numbers = numbers .before .before
+-- the line of a committed call, how long it is, and at most
+abbrev line-of : tie.After-point-of → List ℕ
+line-of c =
+    let args = start-of c .args in
+    lent-text (args .table .now) (args .state .now) (c .point-of .result) (args .step) (args .rounds) (args .revisions)
 
-abbrev start-of : tie.After-point-of Inv-loop μ-loop → tie.Start Inv-loop μ-loop
-start-of point = point .before .before .before .before .before
+abbrev numbers-of : tie.After-point-of → List ℕ
+numbers-of c =
+    let args = start-of c .args in
+    numbers-text (tick (c .point-of .result)) (c .point-of .result .n) (args .step) (args .rounds) (args .revisions)
 
--- one output more behind those of the first i parts
-one-more : (ts ss : List ℕ) {i at₀ p q : ℕ} {l₀ l₁ l₂ : List ℕ} {s : Signal} → i < parts-lent ts → s ≡ stored-state ss i .output →
-    Put (22 * i) (outputs-text (take i (held ts ss .parts))) at₀ l₀ l₁ p → Put 22 (blank ∷ signal-text s) p l₁ l₂ q →
-    Put (22 * (i + 1)) (outputs-text (take (i + 1) (held ts ss .parts))) at₀ l₀ l₂ q
-one-more ts ss {i} low same before output =
-    let inside : i < length (held ts ss .parts) = rw (held-many ts ss) low in
-    let more = outputs-more (held ts ss .parts) i blank-part inside in
-    let put = put-then before (rw (same, lent-output ts ss i low) at output) in
-    put-as put more (rw (← more) (omega arith))
+few : (c : tie.After-point-of) → length (numbers-of c) ≤ 104
+few c =
+    let fits = start-of c .fits in
+    let point = point-fits (start-of c .args .state .now) (c .point-of .ensures) (words-of c .shared-slice-known2 .given) in
+    numbers-most (point .0) (point .1) (fits .step) (fits .rounds) (fits .revisions)
 
--- the numbers, the outputs of all parts and a line feed make the line of a committed advance
-line-built : (ts ss : List ℕ) (step rounds revisions : ℕ) {number a b d i p q end : ℕ} {now : Point} {l₀ l₁ l₂ l₃ : List ℕ} →
-    number ≡ 0 → now ≡ stored-point ss → i ≡ parts-lent ts → Put a (numbers-text (tick now) (now .n) step rounds revisions) 0 l₀ l₁ p →
-    Put b (outputs-text (take i (held ts ss .parts))) p l₁ l₂ q → Put d (line-feed ∷ []) q l₂ l₃ end → (ceiling : ℕ) →
-    take end l₃ ≡ answer-line (lent-answer ts ss number step rounds revisions ceiling)
-line-built ts ss step rounds revisions {number = number} committed same count numbers outputs feed ceiling =
-    let first = rw same at numbers in
-    let then = rw count at outputs in
-    rw (← committed-lent ts ss number step rounds revisions committed ceiling) (put-then (put-then first then) feed .line)
+size : (c : tie.After-point-of) →
+    let args = start-of c .args in
+    (length (line-of c) ≡ length (numbers-of c) + length (outputs-text (held (args .table .now) (args .state .now) .parts)) + 1) ×
+    (length (line-of c) ≤ 21 * parts-lent (args .table .now) + 105)
+size c =
+    let args = start-of c .args in
+    (lent-size (args .table .now) (args .state .now) _ _ _ _, lent-most (args .table .now) (args .state .now) _ _ _ _ (few c))
+
+short : (c : tie.After-point-of) → length (line-of c) ≤ 1024
+short c =
+    let line = size c in
+    omega arith
+
+-- there is room for it where the two ways meet
+enough : (c : tie.Joined2) → length (line-of (c .before .before)) ≤ length (start-of (c .before .before) .args .buf .now)
+enough c =
+    let line = size (c .before .before) in
+    ⊎-elim (λ w. omega arith) (λ w. omega arith) (c .if2 .came)
+
+-- it is the line of the call, whatever the ceiling
+same-line : (c : tie.After-point-of) (ceiling : ℕ) →
+    let args = start-of c .args in
+    line-of c ≡ answer-line (lent-answer (args .table .now) (args .state .now) (args .number) (args .step) (args .rounds) (args .revisions) ceiling)
+same-line c =
+    let args = start-of c .args in
+    committed-lent (args .table .now) (args .state .now) (args .number) (args .step) (args .rounds) (args .revisions) (c .before .if1 .left) (c .point-of .ensures)
 
 -- a text that is written is written under each of its names
 written-line : {text before after : List ℕ} {w : Written} {line : ℕ → List ℕ} → ((ceiling : ℕ) → text ≡ line ceiling) →
-    WrittenAs 0 text before after w × (w .length ≤ 1024) → ((ceiling : ℕ) → WrittenAs 0 (line ceiling) before after w) × (w .length ≤ 1024)
+    Bounded 1024 text before after w → ((ceiling : ℕ) → WrittenAs 0 (line ceiling) before after w) × (w .length ≤ 1024)
 written-line same written = (λ ceiling. rw (← same ceiling) (written .0), written .1)
 
-write-refused-requires : tie.Need-write-refused-requires Inv-loop μ-loop
-write-refused-requires c κs = tt
+write-refused-requires : tie.Need-write-refused-requires
+write-refused-requires c κs = search needs
 
-same-length : tie.Need-same-length Inv-loop μ-loop
+same-length : tie.Need-same-length
 same-length c = search needs
 
-returns : tie.Need-returns Inv-loop μ-loop
+returns : tie.Need-returns
 returns c =
     let written = c .before .before in
     let test = written .before .before in
@@ -81,101 +98,97 @@ returns c =
     written-line (refused-lent (args .table .now) (args .state .now) (args .number) (args .step) (args .rounds) (args .revisions) (test .if1 .taken))
     (written .write-refused .ensures .0, omega (arith, written .write-refused .ensures .1))
 
-point-of-requires : tie.Need-point-of-requires Inv-loop μ-loop
-point-of-requires c κs = omega arith
+point-of-requires : tie.Need-point-of-requires
+point-of-requires c κs = search needs
 
-slice-aggregate-put-numbers : tie.Need-slice-aggregate-put-numbers Inv-loop μ-loop
-slice-aggregate-put-numbers c = refl
+parts-of-requires : tie.Need-parts-of-requires
+parts-of-requires c κs = search needs
 
-put-numbers-requires : tie.Need-put-numbers-requires Inv-loop μ-loop
-put-numbers-requires c κs = lit≤ tt
+mul-if2 : tie.Need-mul-if2
+mul-if2 c = search needs
 
-parts-of-requires : tie.Need-parts-of-requires Inv-loop μ-loop
-parts-of-requires c κs = omega arith
+add-if2 : tie.Need-add-if2
+add-if2 c = search needs
 
-loop-holds : tie.Need-loop-holds Inv-loop μ-loop
-unfolding outputs-text
-loop-holds c = (omega arith, c .before .before .put-numbers .kept .0, put-nothing _ _)
+numbers-length-requires : tie.Need-numbers-length-requires
+numbers-length-requires c κs = search needs
 
-output-at-requires : tie.Need-output-at-requires Inv-loop μ-loop
-output-at-requires c κs = omega arith
+outputs-length-requires : tie.Need-outputs-length-requires
+outputs-length-requires c κs = search needs
 
-slice-aggregate-put-output : tie.Need-slice-aggregate-put-output Inv-loop μ-loop
-slice-aggregate-put-output c = sym (c .before .before .before .loop .inv .1)
+add-length : tie.Need-add-length
+add-length c =
+    let line = size (c .before .before .before .before) in
+    omega arith
 
-put-output-requires : tie.Need-put-output-requires Inv-loop μ-loop
-put-output-requires c κs = omega arith
+add-length-2 : tie.Need-add-length-2
+add-length-2 c =
+    let line = size (c .before .before .before .before) in
+    omega arith
 
-add-i : tie.Need-add-i Inv-loop μ-loop
-add-i c = omega arith
+returns-2 : tie.Need-returns-2
+returns-2 c =
+    let point = c .before .before .before .before .before in
+    let args = start-of point .args in
+    let line = size point in
+    written-line (same-line point)
+    (no-room 1024 (line-of point) (args .buf .now) _ (omega arith) (short point) (omega (arith, c .if3 .taken)))
 
-loop-less : tie.Need-loop-less Inv-loop μ-loop
-loop-less c = omega arith
+put-numbers-requires : tie.Need-put-numbers-requires
+put-numbers-requires c κs =
+    let met = c .before in
+    let line = simp numbers-size at (size (met .before .before) .0) in
+    simp numbers-size (omega (arith, enough met))
 
-loop-again : tie.Need-loop-again Inv-loop μ-loop
-loop-again c =
-    let put = c .before in
-    let read = put .before .before in
-    let turn = read .before .before in
-    let args = start-of (point-of (numbers-of turn)) .args in
-    let low : turn .loop .i < parts-lent (args .table .now) = omega arith in
-    (omega arith, omega arith, one-more (args .table .now) (args .state .now) low (read .output-at .ensures) (turn .loop .inv .2) (put .put-output .ensures))
+put-outputs-requires : tie.Need-put-outputs-requires
+put-outputs-requires c κs =
+    let numbers = c .before .before .before in
+    let met = numbers .before .before in
+    let point = met .before .before in
+    let line = simp numbers-size at (size point .0) in
+    let begun = simp numbers-size at (numbers .put-numbers .ensures .position) in
+    (start-of point .pre .0, omega (arith, enough met))
 
-slice-aggregate-put-byte : tie.Need-slice-aggregate-put-byte Inv-loop μ-loop
-slice-aggregate-put-byte c = sym (c .before .before .loop .inv .1)
+put-byte-requires : tie.Need-put-byte-requires
+put-byte-requires c κs =
+    let outputs = c .before .before .before in
+    let numbers = outputs .before .before .before .before in
+    let met = numbers .before .before in
+    let line = simp numbers-size at (size (met .before .before) .0) in
+    let begun = simp numbers-size at (numbers .put-numbers .ensures .position) in
+    omega (arith, enough met, outputs .put-outputs .ensures .position)
 
-put-byte-requires : tie.Need-put-byte-requires Inv-loop μ-loop
-put-byte-requires c κs = omega arith
-
-array-share-prefix-line : tie.Need-array-share-prefix-line Inv-loop μ-loop
-array-share-prefix-line c = omega arith
-
-slice-aggregate-write-text : tie.Need-slice-aggregate-write-text Inv-loop μ-loop
-slice-aggregate-write-text c = simp length-take (omega arith)
-
-write-text-requires : tie.Need-write-text-requires Inv-loop μ-loop
-write-text-requires c κs = tt
-
-same-length-2 : tie.Need-same-length-2 Inv-loop μ-loop
+same-length-2 : tie.Need-same-length-2
 same-length-2 c = search needs
 
-returns-2 : tie.Need-returns-2 Inv-loop μ-loop
-returns-2 c =
-    let written = c .before .before in
-    let ended = written .before .before .before .before in
-    let loop = ended .before .before .before in
-    let numbers = numbers-of loop in
-    let point = point-of numbers in
-    let args = start-of point .args in
-    let count : loop .loop .i ≡ parts-lent (args .table .now) = omega arith in
-    written-line (line-built (args .table .now) (args .state .now) (args .step) (args .rounds) (args .revisions) (point .before .if1 .left)
-    (point .point-of .ensures) count (numbers .put-numbers .ensures) (loop .loop .inv .2) (ended .put-byte .ensures))
-    (bounded 1024 (written .write-text .ensures) (simp length-take (omega arith)))
+returns-3 : tie.Need-returns-3
+returns-3 c =
+    let feed = c .before .before in
+    let outputs = feed .before .before .before .before in
+    let numbers = outputs .before .before .before .before in
+    let met = numbers .before .before in
+    let point = met .before .before in
+    let put = put-then (put-then (numbers .put-numbers .ensures) (outputs .put-outputs .ensures)) (feed .put-byte .ensures) in
+    written-line (same-line point) (room 1024 put (short point) (enough met))
 
 pub write-lent-spec : {M : Type 1} → statement M
 write-lent-spec =
     tie.close
     (tie.spec
-    Inv-loop
-    μ-loop
     write-refused-requires
     same-length
     returns
     point-of-requires
-    slice-aggregate-put-numbers
-    put-numbers-requires
     parts-of-requires
-    loop-holds
-    output-at-requires
-    slice-aggregate-put-output
-    put-output-requires
-    add-i
-    loop-less
-    loop-again
-    slice-aggregate-put-byte
+    mul-if2
+    add-if2
+    numbers-length-requires
+    outputs-length-requires
+    add-length
+    add-length-2
+    returns-2
+    put-numbers-requires
+    put-outputs-requires
     put-byte-requires
-    array-share-prefix-line
-    slice-aggregate-write-text
-    write-text-requires
     same-length-2
-    returns-2)
+    returns-3)

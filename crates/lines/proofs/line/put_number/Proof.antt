@@ -1,15 +1,11 @@
 -- `put_number` puts a number's digits, and a blank behind them.
-use native.Mathlib.Omega.{arith}
 use borrow.Author.Needs.{needs}
-use Rattle.printing.specs.Decimal.{word-digits}
 use Rattle.writing.specs.Pieces.{put-then}
 use Rattle.lines.proofs.line.put_number.Statement.{statement}
 use Rattle.lines.proofs.line.put_number.Tie as tie
 
 put-decimal-requires : tie.Need-put-decimal-requires
-put-decimal-requires c κs =
-    let start = c .before .before in
-    omega (arith, word-digits (start .args .n) (omega (arith, start .fits .n)))
+put-decimal-requires c κs = search needs
 
 put-byte-requires : tie.Need-put-byte-requires
 put-byte-requires c κs = search needs

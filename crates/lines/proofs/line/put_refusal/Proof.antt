@@ -1,7 +1,6 @@
 -- `put_refusal` puts the text `refused `, and the number's digits behind it.
 use native.Mathlib.Omega.{arith}
 use borrow.Author.Needs.{needs}
-use Rattle.printing.specs.Decimal.{word-digits}
 use Rattle.writing.specs.Pieces.{put-then}
 use Rattle.lines.proofs.line.put_refusal.Statement.{statement}
 use Rattle.lines.proofs.line.put_refusal.Tie as tie
@@ -13,9 +12,7 @@ put-text-requires : tie.Need-put-text-requires
 put-text-requires c κs = search needs
 
 put-decimal-requires : tie.Need-put-decimal-requires
-put-decimal-requires c κs =
-    let start = c .before .before .before .before .before .before .before in
-    omega (arith, word-digits (start .args .number) (omega (arith, start .fits .number)))
+put-decimal-requires c κs = omega arith
 
 same-length : tie.Need-same-length
 same-length c = search needs

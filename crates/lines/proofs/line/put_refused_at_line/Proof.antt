@@ -3,29 +3,39 @@ use native.Mathlib.Omega.{arith}
 use mathlib.Core.List.{append-assoc}
 use borrow.Author.Needs.{needs}
 use Rattle.machine.specs.Rehearse.{refused-at-line}
-use Rattle.printing.specs.Decimal.{word-digits}
 use Rattle.writing.specs.Pieces.{put-then}
+use Rattle.lines.proofs.LineBounds.{refused-at-size}
 use Rattle.lines.proofs.line.put_refused_at_line.Statement.{statement}
 use Rattle.lines.proofs.line.put_refused_at_line.Tie as tie
 
 put-refusal-requires : tie.Need-put-refusal-requires
-put-refusal-requires c κs = search needs
+put-refusal-requires c κs =
+    let room = simp refused-at-size at (c .before .before .pre) in
+    omega arith
 
 slice-aggregate-put-text : tie.Need-slice-aggregate-put-text
 slice-aggregate-put-text c = search needs
 
 put-text-requires : tie.Need-put-text-requires
-put-text-requires c κs = search needs
+put-text-requires c κs =
+    let refusal : tie.After-put-refusal = c .before .before .before .before in
+    let room = simp refused-at-size at (refusal .before .before .before .pre) in
+    omega arith
 
 put-decimal-requires : tie.Need-put-decimal-requires
 put-decimal-requires c κs =
     let text = c .before .before .before in
     let refusal : tie.After-put-refusal = text .before .before .before .before .before in
-    let start = refusal .before .before .before in
-    omega (arith, word-digits (start .args .position) (omega (arith, start .fits .position)))
+    let room = simp refused-at-size at (refusal .before .before .before .pre) in
+    omega arith
 
 put-byte-requires : tie.Need-put-byte-requires
-put-byte-requires c κs = search needs
+put-byte-requires c κs =
+    let position = c .before .before .before in
+    let text = position .before .before .before .before in
+    let refusal : tie.After-put-refusal = text .before .before .before .before .before in
+    let room = simp refused-at-size at (refusal .before .before .before .pre) in
+    omega (arith, position .put-decimal .ensures .position, text .put-text .ensures .position, refusal .put-refusal .ensures .position)
 
 same-length : tie.Need-same-length
 same-length c = search needs

@@ -1,16 +1,23 @@
 -- `put_refused_line` puts what every refusal begins with, and a line feed behind it.
+use native.Mathlib.Omega.{arith}
 use mathlib.Core.List.{append-assoc}
 use borrow.Author.Needs.{needs}
 use Rattle.machine.specs.Rehearse.{refused-line}
 use Rattle.writing.specs.Pieces.{put-then}
+use Rattle.lines.proofs.LineBounds.{refused-size}
 use Rattle.lines.proofs.line.put_refused_line.Statement.{statement}
 use Rattle.lines.proofs.line.put_refused_line.Tie as tie
 
 put-refusal-requires : tie.Need-put-refusal-requires
-put-refusal-requires c κs = search needs
+put-refusal-requires c κs =
+    let room = simp refused-size at (c .before .before .pre) in
+    omega arith
 
 put-byte-requires : tie.Need-put-byte-requires
-put-byte-requires c κs = search needs
+put-byte-requires c κs =
+    let start = c .before .before .before .before .before .before in
+    let room = simp refused-size at (start .pre) in
+    omega arith
 
 same-length : tie.Need-same-length
 same-length c = search needs

@@ -1,43 +1,55 @@
--- `write_refused` builds the line in an array of its own and hands over the line's bytes, which are the definition's text.
+-- `write_refused` works out how long the line is, and puts it where it fits. Its number has at most 20 digits, so that the line has at most 29 characters.
+use Prim.Native.Nat.{_≤_}
 use native.Mathlib.Omega.{arith}
-use lib.ListN.{length-take}
+use lib.ListN.{length}
 use borrow.Author.Needs.{needs}
-use Rattle.lines.proofs.LineBounds.{bounded}
+use Rattle.machine.specs.Rehearse.{refused-line}
+use Rattle.printing.specs.Decimal.{word-digits}
+use Rattle.lines.proofs.LineBounds.{no-room, room, refused-size}
 use Rattle.lines.proofs.line.write_refused.Statement.{statement}
 use Rattle.lines.proofs.line.write_refused.Tie as tie
 
-slice-aggregate-put-refused-line : tie.Need-slice-aggregate-put-refused-line
-slice-aggregate-put-refused-line c = search needs
+-- the start, from the length that was worked out of what the line begins with
+abbrev start-of : tie.After-refusal-length → tie.Start
+start-of measured = measured .before .before
+
+-- no line is longer
+few : (start : tie.Start) → length (refused-line (start .args .number)) ≤ 29
+few start = omega (arith, refused-size (start .args .number), word-digits (start .args .number) (omega (arith, start .fits .number)))
+
+refusal-length-requires : tie.Need-refusal-length-requires
+refusal-length-requires c κs = search needs
+
+add-length : tie.Need-add-length
+add-length c =
+    let most = simp refused-size at (few (start-of c)) in
+    omega arith
+
+returns : tie.Need-returns
+returns c =
+    let start = start-of (c .before) in
+    let line = refused-line (start .args .number) in
+    no-room 64 line (start .args .buf .now) _ (simp refused-size (omega arith)) (omega (arith, few start)) (omega (arith, c .if1 .taken))
 
 put-refused-line-requires : tie.Need-put-refused-line-requires
-put-refused-line-requires c κs = search needs
-
-array-share-prefix-line : tie.Need-array-share-prefix-line
-array-share-prefix-line c = search needs
-
-slice-aggregate-write-text : tie.Need-slice-aggregate-write-text
-slice-aggregate-write-text c = simp length-take (omega arith)
-
-write-text-requires : tie.Need-write-text-requires
-write-text-requires c κs = search needs
+put-refused-line-requires c κs = simp refused-size (omega arith)
 
 same-length : tie.Need-same-length
 same-length c = search needs
 
-returns : tie.Need-returns
-returns c =
-    let written = c .before .before in
-    let put = written .before .before .before .before in
-    rw (← put .put-refused-line .ensures .line) (bounded 64 (written .write-text .ensures) (simp length-take (omega arith)))
+returns-2 : tie.Need-returns-2
+returns-2 c =
+    let put = c .before .before in
+    let start = start-of (put .before .before .before) in
+    room 64 (put .put-refused-line .ensures) (omega (arith, few start)) (simp refused-size (omega arith))
 
 pub write-refused-spec : {M : Type 1} → statement M
 write-refused-spec =
     tie.close
     (tie.spec
-    slice-aggregate-put-refused-line
+    refusal-length-requires
+    add-length
+    returns
     put-refused-line-requires
-    array-share-prefix-line
-    slice-aggregate-write-text
-    write-text-requires
     same-length
-    returns)
+    returns-2)

@@ -2,12 +2,11 @@
 use native.Mathlib.Omega.{arith}
 use mathlib.Core.Path.{refl}
 use mir.Syntax.{w64}
-use mir.Val.{SFits}
 use mir.ValLaws.{toZ-ofZ}
 use borrow.Author.Needs.{needs}
 use Rattle.machine.specs.Rehearse.{signal-text}
-use Rattle.printing.specs.Decimal.{signed-short}
 use Rattle.writing.specs.Pieces.{put-then, put-as}
+use Rattle.lines.proofs.LineBounds.{absent-size, value-size}
 use Rattle.lines.proofs.text.put_output.Statement.{statement}
 use Rattle.lines.proofs.text.put_output.Tie as tie
 
@@ -18,7 +17,7 @@ enum-told : tie.Need-enum-told
 enum-told c = search needs
 
 put-byte-requires-2 : tie.Need-put-byte-requires-2
-put-byte-requires-2 c κs = search needs
+put-byte-requires-2 c κs = omega (arith, absent-size (c .before .enum-told .given .1))
 
 enum-known-output : tie.Need-enum-known-output
 enum-known-output c = search needs
@@ -26,9 +25,9 @@ enum-known-output c = search needs
 put-value-requires : tie.Need-put-value-requires
 put-value-requires c κs =
     let told = c .before in
-    let v = told .before .output .given .0 .0 in
-    let fits : SFits w64 v = record { sfits = told .known-told .given .0 .1 } in
-    rw (toZ-ofZ w64 v fits) (omega (arith, signed-short v fits))
+    let present = told .before .output .given in
+    let back = toZ-ofZ w64 (present .0 .0) (record { sfits = told .known-told .given .0 .1 }) in
+    rw back (omega (arith, value-size (present .1)))
 
 same-length : tie.Need-same-length
 same-length c = search needs

@@ -1,6 +1,7 @@
 -- `put_refusal_row` puts what every refusal begins with, blanks up to the last column, and a line feed.
 use native.Mathlib.Omega.{arith}
 use Rattle.machine.specs.Sheet.{refused-row}
+use Rattle.printing.specs.Decimal.{word-digits}
 use Rattle.writing.specs.Pieces.{put-then}
 use borrow.Author.Needs.{needs}
 use Rattle.sheet.proofs.Fields.{filled-put}
@@ -8,7 +9,9 @@ use Rattle.sheet.proofs.row.put_refusal_row.Statement.{statement}
 use Rattle.sheet.proofs.row.put_refusal_row.Tie as tie
 
 put-refusal-requires : tie.Need-put-refusal-requires
-put-refusal-requires c κs = search needs
+put-refusal-requires c κs =
+    let start = c .before .before in
+    omega (arith, word-digits (start .args .number) (omega (arith, start .fits .number)))
 
 sub-put-blanks : tie.Need-sub-put-blanks
 sub-put-blanks c = search needs

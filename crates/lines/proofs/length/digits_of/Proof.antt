@@ -6,8 +6,8 @@ use mathlib.Core.Path.{_≡_, ap}
 use lib.ListN.{length}
 use Rattle.machine.specs.Rehearse.{decimal}
 use Rattle.printing.specs.Decimal.{one-digit, some-digits, tenth-digits, word-digits}
-use Rattle.sheet.proofs.field.digits_of.Statement.{statement}
-use Rattle.sheet.proofs.field.digits_of.Tie as tie
+use Rattle.lines.proofs.length.digits_of.Statement.{statement}
+use Rattle.lines.proofs.length.digits_of.Tie as tie
 
 abbrev Inv-loop : tie.InvT-loop
 Inv-loop n rest₀ digits₀ rest digits = digits + length (decimal rest) ≡ length (decimal n) + 1

@@ -8,8 +8,8 @@ use mir.ValLaws.{toZ-ofZ}
 use Rattle.machine.specs.Rehearse.{decimal}
 use Rattle.printing.specs.Decimal.{signed-short, negative-length, other-text}
 use borrow.Author.Needs.{needs}
-use Rattle.sheet.proofs.field.characters_of.Statement.{statement}
-use Rattle.sheet.proofs.field.characters_of.Tie as tie
+use Rattle.lines.proofs.length.characters_of.Statement.{statement}
+use Rattle.lines.proofs.length.characters_of.Tie as tie
 
 absolute-requires : tie.Need-absolute-requires
 absolute-requires c κs = search needs
