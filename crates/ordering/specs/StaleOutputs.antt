@@ -88,6 +88,7 @@ first-shows (p ∷ ps) = present (p .state .output)
 abbrev alone : Signal → List Part
 alone held = gain held ∷ []
 
+-- its order is complete
 alone-complete : CompleteOrder (components (alone Absent)) (part-order (components (alone Absent)))
 unfolding source-placed ready lowest-ready placed part-order ordered
 alone-complete = order-complete (components (alone Absent)) refl

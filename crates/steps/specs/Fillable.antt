@@ -32,6 +32,7 @@ pub record Wired (m : Model) : Type 0 where
 abbrev pub InRangeUnshown : Part → Type 0
 InRangeUnshown p = InRange (unshown p)
 
+-- as every part is that is in range
 pub in-range-unshown : (p : Part) → InRange p → InRangeUnshown p
 unfolding is-signal
 in-range-unshown p r = record { a = r .a; b = r .b; held = r .held; speed = r .speed; signal = r .signal; output = refl }
