@@ -114,13 +114,12 @@ components ps = map (λ (p : Part). p .component) ps
 pub components-length : (ps : List Part) → length (components ps) ≡ length ps
 components-length ps = length-map ps (λ (p : Part). p .component)
 
--- the same of part k of a list, whose direct wires are its components'
+-- what feeds a direct port of part k of a list is wired to it, among its components
+pub feeds-wire : (ps : List Part) (k i : ℕ) → k < length ps → Feeds i (part-at ps k .component) → DirectWire (components ps) i k
+feeds-wire ps k i h feeds =
+    (omega (arith, components-length ps), subst (Feeds i) (sym (List·getD-map (λ (p : Part). p .component) ps k blank-part)) feeds)
+
+-- so a row of part k is the same where the sources of its direct wires show the same
 pub row-at : (old : List Part) (now : Point) (ps qs rs : List Part) (k : ℕ) → k < length ps →
     ((i : ℕ) → DirectWire (components ps) i k → stored qs i ≡ stored rs i) → row old now qs (part-at ps k) ≡ row old now rs (part-at ps k)
-row-at old now ps qs rs k h same =
-    row-direct old now qs rs (part-at ps k)
-    (λ i feeds.
-    same i (
-      omega (arith, components-length ps),
-      subst (Feeds i) (sym (List·getD-map (λ (p : Part). p .component) ps k blank-part)) feeds,
-    ))
+row-at old now ps qs rs k h same = row-direct old now qs rs (part-at ps k) (λ i feeds. same i (feeds-wire ps k i h feeds))

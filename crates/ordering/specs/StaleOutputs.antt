@@ -1,7 +1,7 @@
 -- Request 6, "Each call keeps its answers, whatever outputs those records held before", of any way to fill a point's outputs: filling has it, and two ways that look at the
 -- outputs held before have it not. The idea: a gain with no wire shows nothing, and both show what it held. Assumes nothing.
 use Prim.Native.Nat.{ℕ}
-use mathlib.Core.Path.{_≡_, refl, ap}
+use mathlib.Core.Path.{_≡_, refl, sym, ap, _∙_}
 use mathlib.Core.Bool.{Bool, true, false, true≢false}
 use mathlib.Core.List.{List, [], _∷_, map}
 use lib.ListN.{set}
@@ -93,11 +93,22 @@ alone-complete : CompleteOrder (components (alone Absent)) (part-order (componen
 unfolding source-placed ready lowest-ready placed part-order ordered
 alone-complete = order-complete (components (alone Absent)) refl
 
--- both ways show the value that it held, and nothing where it held none
+-- its outputs filled in a way, where it held an output
+abbrev alone-filled : Shows → Signal → List Part
+alone-filled shows held = filled-by shows [] start (part-order (components (alone Absent))) (alone held)
+
+-- a way that shows the value that it held, and nothing where it held none, has it not
+held-refuted : (shows : Shows) → first-shows (alone-filled shows (Value (pos 5))) ≡ true → first-shows (alone-filled shows Absent) ≡ false →
+    WhateverHeld shows → ⊥
+held-refuted shows held none same =
+    true≢false
+    (sym held ∙ (ap first-shows (same [] start (alone Absent) (alone (Value (pos 5))) (part-order (components (alone Absent))) alone-complete refl) ∙ none))
+
+-- both ways do
 pub keeping-refuted : WhateverHeld keeping → ⊥
 unfolding filled-by keeping kept-unwired shown output output-as product reading reading0 reading1 source-placed ready lowest-ready placed part-order
-keeping-refuted same = true≢false (ap first-shows (same [] start (alone Absent) (alone (Value (pos 5))) (part-order (components (alone Absent))) alone-complete refl))
+keeping-refuted = held-refuted keeping refl refl
 
 pub stale-refuted : WhateverHeld stale → ⊥
 unfolding filled-by stale output output-as product reading reading0 reading1 source-placed ready lowest-ready placed part-order
-stale-refuted same = true≢false (ap first-shows (same [] start (alone Absent) (alone (Value (pos 5))) (part-order (components (alone Absent))) alone-complete refl))
+stale-refuted = held-refuted stale refl refl

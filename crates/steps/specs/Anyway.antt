@@ -3,11 +3,10 @@
 -- filled alike, so that what filling shows is what it shows from parts that store none; and when a part's turn comes its direct sources have been filled.
 -- Assumes nothing.
 use Prim.Native.Nat.{ℕ, _<_}
-use native.Mathlib.Omega.{arith}
 use mathlib.Core.Path.{_≡_, sym, subst}
 use mathlib.Core.Bool.{true}
 use mathlib.Core.List.{List, _∷_, _++_, map, map-map}
-use lib.ListN.{length, List·getD-map}
+use lib.ListN.{length}
 use Rattle.machine.specs.declared.time.Point.{Point}
 use Rattle.machine.specs.declared.part.Source.{Source}
 use Rattle.machine.specs.declared.part.Source.the-variants.{From}
@@ -15,12 +14,12 @@ use Rattle.machine.specs.declared.part.Part.{Part}
 use Rattle.machine.specs.declared.model.Model.{Model}
 use Rattle.machine.specs.Lists.{All}
 use Rattle.machine.specs.Signal.{is-signal}
-use Rattle.machine.specs.Model.{blank-part, part-at, reading, trimmed}
+use Rattle.machine.specs.Model.{part-at, reading, trimmed}
 use Rattle.machine.specs.Step.{filled}
 use Rattle.laws.specs.Alls.{all-map}
 use Rattle.soundness.specs.RangesKept.{InRange, reading-signal, filled-in-range}
 use Rattle.ordering.specs.Order.{CompleteOrder}
-use Rattle.ordering.specs.Row.{unshown, Feeds, components, components-length, reading-same}
+use Rattle.ordering.specs.Row.{unshown, Feeds, components, reading-same, feeds-wire}
 use Rattle.ordering.specs.Filling.{source-filled, filled-anyway}
 use Rattle.steps.specs.Trimmed.{Changed}
 use Rattle.steps.specs.Fillable.{Fillable, InRangeUnshown}
@@ -61,8 +60,5 @@ module _
       ((j : ℕ) → s ≡ From j → Feeds j (part-at ps k .component)) → is-signal (reading (filled old now front ps) s) ≡ true
   direct-signal front back k s e there feeds =
       rw (reading-same (filled old now front ps) (filled old now ks ps) s
-      (λ j from. source-filled old now ps ks complete front back k j e (
-        omega (arith, components-length ps),
-        subst (Feeds j) (sym (List·getD-map (λ (p : Part). p .component) ps k blank-part)) (feeds j from),
-      )))
+      (λ j from. source-filled old now ps ks complete front back k j e (feeds-wire ps k j there (feeds j from))))
       (reading-signal (filled old now ks ps) s filled-signals)
