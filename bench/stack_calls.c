@@ -6,24 +6,16 @@
 //   stack_calls streams FOLDER  writes the tables with a score behind them to FOLDER, as COUNT-NUMBER.bin
 //
 // Status 1 if a table is not accepted, or some number that a call can answer was answered by none.
+#include "../include/dozhumek.h"
 #include "stack_painted.h"
 #include <stdbool.h>
 #include <string.h>
 
-// The most parts that a table can have (refusal 6 is the next one's), the three counts at which the calls are measured, and
-// the places for spans.
-#define MOST 32
-static const size_t counts[] = {2, 20, MOST};
+// The three counts of parts at which the calls are measured; the next part behind the most is refused with 6.
+static const size_t counts[] = {2, 20, DOZHUMEK_PARTS};
 #define COUNTS (sizeof counts / sizeof *counts)
-#define SPANS 8
 
-#define TABLE(parts) (18 * (parts) + 2)
-#define STATE(parts) (9 * (parts) + 2)
-// A part with eight spans and two wires has 63 bytes.
-#define BYTES(parts) (63 * (parts) + 3)
-#define LINE 79
-
-uint64_t dozhumek_load(), dozhumek_advance(), dozhumek_preview(), dozhumek_save(), dozhumek_sheet();
+// A call that does nothing, to see what the measuring itself writes.
 static uint64_t empty(void) {
     return 0;
 }
@@ -85,8 +77,8 @@ static void put_span(uint32_t span) {
 }
 
 static void put_spans(void) {
-    static const uint32_t spans[SPANS] = {1, 2, 3, 5, 8, 13, 200, 1000000000};
-    for (int i = 0; i < SPANS; i++) put_span(spans[i]);
+    static const uint32_t spans[DOZHUMEK_SPANS] = {1, 2, 3, 5, 8, 13, 200, 1000000000};
+    for (int i = 0; i < DOZHUMEK_SPANS; i++) put_span(spans[i]);
 }
 
 static const int ports[13] = {0, 1, 2, 0, 0, 1, 1, 2, 1, 1, 2, 1, 1};
@@ -143,32 +135,34 @@ static void put_table(size_t number, size_t parts) {
 
 // The words that are lent, with the ends of each slice as long as the parts need.
 
-static uint64_t table[TABLE(MOST)], state[STATE(MOST)], next[STATE(MOST)], out[5], outcome[5];
-static uint8_t buffer[BYTES(MOST)];
+static uint64_t table[DOZHUMEK_TABLE_WORDS(DOZHUMEK_PARTS)], out[DOZHUMEK_LOAD_OUT], outcome[DOZHUMEK_ADVANCE_OUT];
+static uint64_t state[DOZHUMEK_STATE_WORDS(DOZHUMEK_PARTS)], next[DOZHUMEK_STATE_WORDS(DOZHUMEK_PARTS)];
+static uint8_t buffer[DOZHUMEK_SAVE_BYTES(DOZHUMEK_PARTS)];
 
 static uint64_t load(size_t bytes, size_t parts) {
-    uint64_t words[8] = {
-        (uint64_t)stream, bytes, (uint64_t)table, TABLE(parts), (uint64_t)state, STATE(parts), (uint64_t)out, 2};
+    uint64_t words[8] = {(uint64_t)stream, bytes, (uint64_t)table, DOZHUMEK_TABLE_WORDS(parts), (uint64_t)state,
+        DOZHUMEK_STATE_WORDS(parts), (uint64_t)out, DOZHUMEK_LOAD_OUT};
     return make(LOAD, words);
 }
 
 static uint64_t go(int call, uint64_t wanted, size_t parts, size_t room) {
-    uint64_t words[9] = {
-        (uint64_t)table, TABLE(parts), (uint64_t)state, STATE(parts), wanted, (uint64_t)next, room, (uint64_t)outcome, 5};
+    uint64_t words[9] = {(uint64_t)table, DOZHUMEK_TABLE_WORDS(parts), (uint64_t)state, DOZHUMEK_STATE_WORDS(parts), wanted,
+        (uint64_t)next, room, (uint64_t)outcome, DOZHUMEK_ADVANCE_OUT};
     uint64_t number = make(call, words);
-    if (outcome[3] > 0) dropped = true;
+    if (outcome[DOZHUMEK_OUT_REVISIONS] > 0) dropped = true;
     return number;
 }
 
 static uint64_t save(size_t parts, size_t room) {
-    uint64_t words[8] = {
-        (uint64_t)table, TABLE(parts), (uint64_t)state, STATE(parts), (uint64_t)buffer, room, (uint64_t)out, 2};
+    uint64_t words[8] = {(uint64_t)table, DOZHUMEK_TABLE_WORDS(parts), (uint64_t)state, DOZHUMEK_STATE_WORDS(parts),
+        (uint64_t)buffer, room, (uint64_t)out, DOZHUMEK_SAVE_OUT};
     return make(SAVE, words);
 }
 
 static uint64_t sheet(size_t parts, uint64_t third, size_t room) {
-    uint64_t words[13] = {(uint64_t)table, TABLE(parts), (uint64_t)state, STATE(parts), (uint64_t)outcome, 5, 0, parts / 2,
-        third, (uint64_t)buffer, room, (uint64_t)out, 2};
+    uint64_t words[13] = {(uint64_t)table, DOZHUMEK_TABLE_WORDS(parts), (uint64_t)state, DOZHUMEK_STATE_WORDS(parts),
+        (uint64_t)outcome, DOZHUMEK_ADVANCE_OUT, 0, parts / 2, third, (uint64_t)buffer, room, (uint64_t)out,
+        DOZHUMEK_SHEET_OUT};
     return make(SHEET, words);
 }
 
@@ -177,29 +171,31 @@ static const uint64_t wants[] = {8, 1, 60, 5000, 1000000000, 3, 0, UINT64_MAX, 2
 
 // Sheets of the outcome as it is, and of others: every width, and too wide.
 static void sheets(size_t parts) {
-    sheet(parts, parts - 1, LINE), sheet(parts, parts - 1, LINE - 1), sheet(parts, parts, LINE);
-    static const uint64_t others[][5] = {{0, 9999999999, 9999, 99, 1}, {0, 10000000000, 1, 1, 1}, {0, 1, 10000, 1, 1},
-        {UINT64_MAX, 1, 1, 1, 1}, {21, 0, UINT64_MAX, UINT64_MAX, 0}};
+    sheet(parts, parts - 1, DOZHUMEK_SHEET_LINE), sheet(parts, parts - 1, DOZHUMEK_SHEET_LINE - 1);
+    sheet(parts, parts, DOZHUMEK_SHEET_LINE);
+    static const uint64_t others[][DOZHUMEK_ADVANCE_OUT] = {{0, 9999999999, 9999, 99, 1}, {0, 10000000000, 1, 1, 1},
+        {0, 1, 10000, 1, 1}, {UINT64_MAX, 1, 1, 1, 1}, {21, 0, UINT64_MAX, UINT64_MAX, 0}};
     for (size_t i = 0; i < sizeof others / sizeof *others; i++) {
         memcpy(outcome, others[i], sizeof outcome);
-        sheet(parts, parts - 1, LINE);
+        sheet(parts, parts - 1, DOZHUMEK_SHEET_LINE);
     }
 }
 
 static void play(size_t parts, int turns) {
+    const size_t room = DOZHUMEK_STATE_WORDS(parts);
     for (int i = 0; i < turns; i++) {
         uint64_t wanted = wants[(size_t)i % WANTS];
-        go(PREVIEW, wanted, parts, STATE(parts)), go(PREVIEW, wanted, parts, STATE(parts) - 1);
-        save(parts, BYTES(parts)), save(parts, 0);
-        go(ADVANCE, wanted, parts, STATE(parts) - 1);
-        if (go(ADVANCE, wanted, parts, STATE(parts)) == 0) memcpy(state, next, sizeof state);
+        go(PREVIEW, wanted, parts, room), go(PREVIEW, wanted, parts, room - 1);
+        save(parts, DOZHUMEK_SAVE_BYTES(parts)), save(parts, 0);
+        go(ADVANCE, wanted, parts, room - 1);
+        if (go(ADVANCE, wanted, parts, room) == 0) memcpy(state, next, sizeof state);
         sheets(parts);
     }
 }
 
 static void measured_call(size_t parts) {
-    if (measured == ADVANCE || measured == PREVIEW) go(measured, 5, parts, STATE(parts));
-    save(parts, BYTES(parts)), sheet(parts, parts - 1, LINE);
+    if (measured == ADVANCE || measured == PREVIEW) go(measured, 5, parts, DOZHUMEK_STATE_WORDS(parts));
+    save(parts, DOZHUMEK_SAVE_BYTES(parts)), sheet(parts, parts - 1, DOZHUMEK_SHEET_LINE);
 }
 
 // Every word altered, one at a time: words that spell no model, unsound models, and sound ones that no call led to.
@@ -208,7 +204,8 @@ static void alter(uint64_t *words, size_t size, size_t parts) {
         uint64_t kept = words[i], tried[] = {0, 1, 2, UINT64_MAX, kept + 1, kept - 1, kept ^ ((uint64_t)1 << 40)};
         for (size_t k = 0; k < sizeof tried / sizeof *tried; k++) {
             words[i] = tried[k];
-            outcome[0] = 0, outcome[1] = 1, outcome[2] = 1, outcome[3] = 0;
+            outcome[DOZHUMEK_OUT_NUMBER] = 0, outcome[DOZHUMEK_OUT_STEP] = 1, outcome[DOZHUMEK_OUT_ROUNDS] = 1;
+            outcome[DOZHUMEK_OUT_REVISIONS] = 0;
             measured_call(parts);
         }
         words[i] = kept;
@@ -217,8 +214,9 @@ static void alter(uint64_t *words, size_t size, size_t parts) {
 
 // The model at a tick and a microstep, each part's local count the tick by its ratio.
 static void place(uint64_t tick, uint64_t microstep, size_t parts) {
-    state[0] = tick, state[1] = microstep;
-    for (size_t i = 0; i < parts; i++) state[2 + 9 * i] = tick / table[2 + 18 * i + 16];
+    state[DOZHUMEK_STATE_T] = tick, state[DOZHUMEK_STATE_N] = microstep;
+    for (size_t i = 0; i < parts; i++)
+        state[DOZHUMEK_STATE_AT(i, DOZHUMEK_STATE_LOCAL)] = tick / table[DOZHUMEK_TABLE_AT(i, DOZHUMEK_TABLE_RATIO)];
 }
 
 static void table_played(size_t number, size_t parts) {
@@ -228,7 +226,8 @@ static void table_played(size_t number, size_t parts) {
     place(1000000000000000000 - 1000000000, 0, parts), play(parts, 5);
     place(1000000000000000000 - 999999999, 999, parts), play(parts, 5);
     place(1000000000000000000, 999, parts), play(parts, 5);
-    if (measured != LOAD) alter(table, TABLE(parts), parts), alter(state, STATE(parts), parts);
+    if (measured == LOAD) return;
+    alter(table, DOZHUMEK_TABLE_WORDS(parts), parts), alter(state, DOZHUMEK_STATE_WORDS(parts), parts);
 }
 
 // The stream cut anywhere, and with any of its bytes altered.
@@ -248,7 +247,7 @@ static void loads(size_t number, size_t parts) {
 static void other_loads(size_t parts) {
     length = 0, put(1, 1), put(0, 1), put(5, 1), load(length, parts);
     length = 0, put(1, 1), put(0, 1);
-    for (size_t i = 0; i <= MOST; i++) put_part(0, 255, 1, 0, 0);
+    for (size_t i = 0; i <= DOZHUMEK_PARTS; i++) put_part(0, 255, 1, 0, 0);
     put(5, 1), load(length, parts);
     length = 0, put(1, 1), put(0, 1), put_part(11, 255, 1, 0, 0), put_spans(), put_span(1000000000), put(5, 1),
     load(length, parts);
@@ -288,7 +287,7 @@ static void all_answered(void) {
                      saved[] = {0, 24, 25}, printed[] = {0, 24, 25, 26};
     answered(LOAD, loaded, 13), answered(ADVANCE, gone, 7), answered(PREVIEW, gone, 7), answered(SAVE, saved, 3),
         answered(SHEET, printed, 4);
-    if (!dropped) fail("no trial was dropped", MOST);
+    if (!dropped) fail("no trial was dropped", DOZHUMEK_PARTS);
 }
 
 static void write_streams(const char *folder) {

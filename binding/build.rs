@@ -3,11 +3,18 @@
 use std::env;
 use std::path::PathBuf;
 
+/// Tells cargo where the archive is, or that it is not there.
 fn main() {
     println!("cargo:rerun-if-env-changed=DOZHUMEK_LIB");
-    let beside = || PathBuf::from(env::var("CARGO_MANIFEST_DIR").unwrap()).join("../target/staticlib");
-    let folder = env::var("DOZHUMEK_LIB").map_or_else(|_| beside(), PathBuf::from);
-    println!("cargo:rerun-if-changed={}", folder.join("libboundary.a").display());
+    let root = PathBuf::from(env::var("CARGO_MANIFEST_DIR").unwrap()).join("..");
+    let folder = env::var("DOZHUMEK_LIB").map_or_else(|_| root.join("target/staticlib"), PathBuf::from);
+    let archive = folder.join("libboundary.a");
+    println!("cargo:rerun-if-changed={}", archive.display());
+    if !archive.is_file() {
+        let advice = "run `rt staticlib boundary` at the repository's root, or name its folder by DOZHUMEK_LIB";
+        println!("cargo::error={} is not there: {advice}", archive.display());
+        return;
+    }
     println!("cargo:rustc-link-search=native={}", folder.display());
     println!("cargo:rustc-link-lib=static=boundary");
 }

@@ -2,11 +2,36 @@
 //! static library, and work in words of 64 bits that they are lent (`load_into`, `advance_into`, `preview_into`, `save_into`,
 //! `sheet_into`); here is the owner of those words, and what they say as typed records. The crate `store` of the repository
 //! defines the words, in `specs/Held.antt` and `specs/Form.antt`.
+//!
+//! ```
+//! use dozhumek::{load, Refusal, Score};
+//! // A constant of 3, and a score of two wanted steps, 7 and 0.
+//! let stream = [1, 0, 2, 0, 255, 3, 0, 0, 0, 0, 0, 0, 0, 0, 0, 0, 0, 5, 6, 7, 0, 0, 0, 6, 0, 0, 0, 0];
+//! let loaded = load(&stream)?;
+//! let mut model = loaded.model;
+//! let mut refused = Vec::new();
+//! for wanted in Score::new(&stream, loaded.position) {
+//!     match model.advance(wanted?.into()) {
+//!         Ok(answer) => println!("{} ticks on, at {}: {:?}", answer.step, model.t(), model.outputs()),
+//!         Err(barred) => refused.push(barred.refusal),
+//!     }
+//! }
+//! assert_eq!(model.t(), 7);
+//! assert_eq!(refused, [Refusal::WantedOutOfRange]);
+//! # Ok::<(), dozhumek::RefusedAt>(())
+//! ```
 mod calls;
 mod part;
+mod refusal;
+mod score;
 
 pub use calls::{advance_into, load_into, preview_into, save_into, sheet_into};
 pub use part::{Kind, Mark, Part, Side, KINDS};
+pub use refusal::{Refusal, RefusedAt};
+pub use score::Score;
+
+use std::error::Error;
+use std::fmt;
 
 /// How many parts a model has room for, and how many spans a part.
 pub const PARTS: usize = 32;
@@ -16,6 +41,11 @@ pub const SPANS: usize = 8;
 pub const TABLE_RECORD: usize = 18;
 pub const STATE_RECORD: usize = 9;
 pub const HEAD: usize = 2;
+
+/// The last tick, the last microstep, and the most that can be wanted of a step.
+pub const LAST_TICK: u64 = 1_000_000_000_000_000_000;
+pub const LAST_MICROSTEP: u64 = 999;
+pub const MOST_WANTED: u64 = 1_000_000_000;
 
 /// How many bytes a sheet's line has, with its line feed.
 pub const SHEET_LINE: usize = 79;
@@ -39,13 +69,11 @@ pub struct Model {
     next: Vec<u64>,
 }
 
-/// What loading answers: the number (0: accepted), the position, and the model, which is one of no parts with all else 0
-/// where the number is not 0.
+/// An accepted load: the model, and the position behind End, where the score begins.
 #[derive(Clone, Debug)]
 pub struct Loaded {
-    pub number: u64,
-    pub position: u64,
     pub model: Model,
+    pub position: usize,
 }
 
 /// What advancing answers: the number (0: committed), and the counts.
@@ -58,8 +86,22 @@ pub struct Answer {
     pub ceiling: u64,
 }
 
-/// What previewing answers: the answer that an advance would have, and the model that it would then stand at, which is the
-/// given one where it is refused.
+/// A refused advance or preview: why, and the whole answer, whose counts say how far the search had come. The model is kept.
+#[derive(Clone, Copy, Debug, PartialEq, Eq)]
+pub struct Refused {
+    pub refusal: Refusal,
+    pub answer: Answer,
+}
+
+impl fmt::Display for Refused {
+    fn fmt(&self, f: &mut fmt::Formatter<'_>) -> fmt::Result {
+        self.refusal.fmt(f)
+    }
+}
+
+impl Error for Refused {}
+
+/// What previewing answers where an advance would be committed: its answer, and the model that it would then stand at.
 #[derive(Clone, Debug)]
 pub struct Preview {
     pub answer: Answer,
@@ -67,30 +109,21 @@ pub struct Preview {
 }
 
 /// The table at the start of a stream, loaded.
-pub fn load(stream: &[u8]) -> Loaded {
+pub fn load(stream: &[u8]) -> Result<Loaded, RefusedAt> {
     let mut table = vec![0; table_words(PARTS)];
     let mut state = vec![0; state_words(PARTS)];
     let mut out = [0; 2];
-    load_into(stream, &mut table, &mut state, &mut out);
-    let [number, position] = out;
-    // There was room for the most parts, so that the words of a refused load are all 0, and so is their count.
+    let number = load_into(stream, &mut table, &mut state, &mut out);
+    let position = out[1] as usize;
+    if number != 0 {
+        return Err(RefusedAt { refusal: Refusal::answered(number), position });
+    }
     let count = table[1] as usize;
     table.truncate(table_words(count));
     table.shrink_to_fit();
     state.truncate(state_words(count));
     state.shrink_to_fit();
-    Loaded { number, position, model: Model::from_words(table, state) }
-}
-
-/// One advance of a model, by at most `wanted`. Where the number is 0 the model stands at the new point; otherwise it is kept.
-pub fn advance(model: &mut Model, wanted: u64) -> Answer {
-    let mut out = [0; 5];
-    advance_into(&model.table, &model.state, wanted, &mut model.next, &mut out);
-    let answer = Answer::of_words(out);
-    if answer.number == 0 {
-        std::mem::swap(&mut model.state, &mut model.next);
-    }
-    answer
+    Ok(Loaded { model: Model::from_words(table, state), position })
 }
 
 impl Answer {
@@ -103,6 +136,14 @@ impl Answer {
     fn words(&self) -> [u64; 5] {
         [self.number, self.step, self.rounds, self.revisions, self.ceiling]
     }
+
+    /// The answer where it is committed, and else its refusal.
+    fn committed(self) -> Result<Answer, Refused> {
+        match self.number {
+            0 => Ok(self),
+            number => Err(Refused { refusal: Refusal::answered(number), answer: self }),
+        }
+    }
 }
 
 impl Model {
@@ -112,55 +153,66 @@ impl Model {
         Model { table, state, next }
     }
 
-    /// What an advance by at most `wanted` would answer. The model is kept, whatever the number is.
-    pub fn preview(&self, wanted: u64) -> Preview {
-        // Where nothing is written, it is the given state still.
+    /// One advance, by at most `wanted`: the model then stands at the new point. Where it is refused it is kept.
+    pub fn advance(&mut self, wanted: u64) -> Result<Answer, Refused> {
+        let mut out = [0; 5];
+        advance_into(&self.table, &self.state, wanted, &mut self.next, &mut out);
+        let answer = Answer::of_words(out).committed()?;
+        std::mem::swap(&mut self.state, &mut self.next);
+        Ok(answer)
+    }
+
+    /// What an advance by at most `wanted` would answer. The model is kept, whatever comes of it.
+    pub fn preview(&self, wanted: u64) -> Result<Preview, Refused> {
         let mut state = self.state.clone();
         let mut out = [0; 5];
         preview_into(&self.table, &self.state, wanted, &mut state, &mut out);
-        Preview { answer: Answer::of_words(out), model: Model::from_words(self.table.clone(), state) }
+        let answer = Answer::of_words(out).committed()?;
+        Ok(Preview { answer, model: Model::from_words(self.table.clone(), state) })
     }
 
     /// The bytes of the model's table, from which `load` makes the fresh model again, wherever this one stands. Where it is not
-    /// sound it has none, and the number, 24, is told.
+    /// sound it has none, and is refused.
     ///
     /// ```
     /// // A constant of 3.
     /// let stream = [1, 0, 2, 0, 255, 3, 0, 0, 0, 0, 0, 0, 0, 0, 0, 0, 0, 5];
-    /// let mut model = dozhumek::load(&stream).model;
-    /// dozhumek::advance(&mut model, 7);
-    /// assert_eq!(model.save(), Ok(stream.to_vec()));
+    /// let mut model = dozhumek::load(&stream)?.model;
+    /// model.advance(7)?;
+    /// assert_eq!(model.save()?, stream);
+    /// # Ok::<(), Box<dyn std::error::Error>>(())
     /// ```
-    pub fn save(&self) -> Result<Vec<u8>, u64> {
+    pub fn save(&self) -> Result<Vec<u8>, Refusal> {
         // With no room at all the length is told, unless something else bars the call.
         let mut out = [0; 2];
         save_into(&self.table, &self.state, &mut [], &mut out);
         let mut bytes = vec![0; out[1] as usize];
         match save_into(&self.table, &self.state, &mut bytes, &mut out) {
             0 => Ok(bytes),
-            number => Err(number),
+            number => Err(Refusal::answered(number)),
         }
     }
 
     /// The sheet's line of an answer whose model this is, with the outputs of three parts: t in 19 columns, n in 3, step in 10,
-    /// rounds in 4, revisions in 2 and the outputs in 11 each, or `refused` and the number; then a line feed. Where it has none
-    /// the number is told: 24, the model is not sound, or 26, there is no such part, or a number of a committed answer is
-    /// wider than its field, which none is that an advance or a preview of a sound model gives.
+    /// rounds in 4, revisions in 2 and the outputs in 11 each, or `refused` and the number; then a line feed. Refused is a model
+    /// that is not sound, a part that is not there, and a number of a committed answer that is wider than its field, which
+    /// none is that an advance or a preview of a sound model gives.
     ///
     /// ```
     /// // A constant of 3.
     /// let stream = [1, 0, 2, 0, 255, 3, 0, 0, 0, 0, 0, 0, 0, 0, 0, 0, 0, 5];
-    /// let mut model = dozhumek::load(&stream).model;
-    /// let answer = dozhumek::advance(&mut model, 7);
+    /// let mut model = dozhumek::load(&stream)?.model;
+    /// let answer = model.advance(7)?;
     /// let due = format!("{:19} {:3} {:10} {:4} {:2} {:11} {:11} {:11}\n", 7, 0, 7, 1, 0, 3, 3, 3);
-    /// assert_eq!(model.sheet(&answer, [0, 0, 0]).as_ref().map(|line| &line[..]), Ok(due.as_bytes()));
-    /// assert_eq!(model.sheet(&answer, [0, 0, 1]), Err(26));
+    /// assert_eq!(model.sheet(&answer, [0, 0, 0])?, due.as_bytes());
+    /// assert_eq!(model.sheet(&answer, [0, 0, 1]), Err(dozhumek::Refusal::NotPrintable));
+    /// # Ok::<(), Box<dyn std::error::Error>>(())
     /// ```
-    pub fn sheet(&self, answer: &Answer, choice: [u64; 3]) -> Result<[u8; SHEET_LINE], u64> {
+    pub fn sheet(&self, answer: &Answer, choice: [u64; 3]) -> Result<[u8; SHEET_LINE], Refusal> {
         let mut line = [0; SHEET_LINE];
         match sheet_into(&self.table, &self.state, &answer.words(), choice, &mut line, &mut [0; 2]) {
             0 => Ok(line),
-            number => Err(number),
+            number => Err(Refusal::answered(number)),
         }
     }
 
@@ -220,6 +272,7 @@ impl Model {
         (0..self.in_use()?).map(|number| u16::try_from(*last(number)?).ok()).collect()
     }
 
+    /// How many parts are in use. None where there are more than there is room for.
     fn in_use(&self) -> Option<usize> {
         usize::try_from(self.count()).ok().filter(|&count| count <= PARTS)
     }

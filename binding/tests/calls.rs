@@ -1,7 +1,7 @@
 //! Document 01's played examples and a clapper through the binding, previewed, played, saved and printed: what lies in the words
 //! comes back whole, and words that spell no model are refused.
-use dozhumek::{advance, load, preview_into, save_into, sheet_into, state_words, table_words};
-use dozhumek::{Answer, Kind, Mark, Model, Part, Preview, Side};
+use dozhumek::{load, load_into, preview_into, save_into, sheet_into, state_words, table_words};
+use dozhumek::{Answer, Kind, Mark, Model, Part, Preview, Refusal, Refused, Side, PARTS};
 
 /// A Part command.
 fn part(kind: u8, a: i32, b: i32, p: u32) -> Vec<u8> {
@@ -30,6 +30,54 @@ fn span(ticks: u32) -> Vec<u8> {
 
 fn wire(source: u8, receiver: u8, port: u8) -> Vec<u8> {
     vec![4, source, receiver, port]
+}
+
+/// The model of a stream that is accepted up to its end.
+fn accepted(stream: &[u8]) -> Model {
+    let loaded = load(stream).unwrap();
+    assert_eq!(loaded.position, stream.len());
+    loaded.model
+}
+
+/// The number and the position of a refused load, which leaves all words of a zeroed table and state 0.
+fn refused_load(stream: &[u8]) -> (u64, usize) {
+    let refused = load(stream).unwrap_err();
+    let (mut table, mut state, mut out) = (vec![0; table_words(PARTS)], vec![0; state_words(PARTS)], [0; 2]);
+    let number = load_into(stream, &mut table, &mut state, &mut out);
+    assert!(table.iter().chain(&state).all(|&word| word == 0));
+    assert_eq!((number, out), (refused.refusal.number(), [number, refused.position as u64]));
+    (number, refused.position)
+}
+
+/// The answer of an advance or a preview, which is refused exactly where its number is not 0, and by that number.
+fn told(answered: Result<Answer, Refused>) -> Answer {
+    let (number, answer) = match answered {
+        Ok(answer) => (0, answer),
+        Err(refused) => (refused.refusal.number(), refused.answer),
+    };
+    assert_eq!(number, answer.number);
+    answer
+}
+
+/// One advance: its answer, committed or refused.
+fn advance(model: &mut Model, wanted: u64) -> Answer {
+    told(model.advance(wanted))
+}
+
+/// One preview: its answer, and its model, which where it is refused is the one of the state that the exported call leaves.
+fn tried(model: &Model, wanted: u64) -> (Answer, Model) {
+    // A preview that could move its model would have another type.
+    let preview: fn(&Model, u64) -> Result<Preview, Refused> = Model::preview;
+    let (mut state, mut out) = (model.state().to_vec(), [0; 5]);
+    let number = preview_into(model.table(), model.state(), wanted, &mut state, &mut out);
+    let left = Model::from_words(model.table().to_vec(), state);
+    let (answered, ahead) = match preview(model, wanted) {
+        Ok(preview) => (Ok(preview.answer), preview.model),
+        Err(refused) => (Err(refused), left.clone()),
+    };
+    let answer = told(answered);
+    assert_eq!((answer.number, words(&ahead)), (number, words(&left)));
+    (answer, ahead)
 }
 
 /// t, n, step, rounds, revisions.
@@ -75,7 +123,7 @@ impl Sheet<'_> {
 }
 
 /// The sheet's line of a model's answer, as text.
-fn line_of(model: &Model, answer: &Answer, choice: [u64; 3]) -> Result<String, u64> {
+fn line_of(model: &Model, answer: &Answer, choice: [u64; 3]) -> Result<String, Refusal> {
     model.sheet(answer, choice).map(|line| String::from_utf8(line.to_vec()).unwrap())
 }
 
@@ -94,23 +142,21 @@ fn refused(table: Vec<u64>, state: Vec<u64>) {
         Sheet { table: &table, state: &state, outcome: &outcome, choice }.refused(24);
     }
     let mut model = Model::from_words(table.clone(), state.clone());
-    assert_eq!(model.save(), Err(24));
+    assert_eq!(model.save(), Err(Refusal::NotSound));
     let answer = previewed(&mut model, 1);
-    assert_eq!(model.sheet(&answer, [0; 3]), Err(24));
+    assert_eq!(model.sheet(&answer, [0; 3]), Err(Refusal::NotSound));
     assert_eq!(answer, Answer { number: 24, step: 0, rounds: 0, revisions: 0, ceiling: 0 });
     assert_eq!(words(&model), (table, state));
 }
 
 /// Previews a model and then advances it, and fails unless the preview leaves the model and has the advance's answer and model.
 fn previewed(model: &mut Model, wanted: u64) -> Answer {
-    // A preview that could move its model would have another type.
-    let preview: fn(&Model, u64) -> Preview = Model::preview;
     let before = words(model);
-    let tried = preview(model, wanted);
+    let (due, ahead) = tried(model, wanted);
     assert_eq!(words(model), before);
     let answer = advance(model, wanted);
-    assert_eq!((tried.answer, tried.model.outputs()), (answer, model.outputs()));
-    assert_eq!(words(&tried.model), words(model));
+    assert_eq!((due, ahead.outputs()), (answer, model.outputs()));
+    assert_eq!(words(&ahead), words(model));
     assert_eq!(words(model) == before, answer.number != 0);
     answer
 }
@@ -118,9 +164,7 @@ fn previewed(model: &mut Model, wanted: u64) -> Answer {
 #[test]
 fn constant_into_drive() {
     let stream = table(&[part(0, 1, 0, 0), part(11, 0, 0, 0), span(2), span(5), wire(0, 1, 0)]);
-    let loaded = load(&stream);
-    assert_eq!((loaded.number, loaded.position), (0, stream.len() as u64));
-    let mut model = loaded.model;
+    let mut model = accepted(&stream);
     let drive = model.part(1).unwrap();
     assert_eq!((model.magnitude(), model.count(), drive.kind, drive.port0), (0, 2, Kind::Drive, Some(0)));
     assert_eq!((drive.span_count, drive.spans[..2].to_vec()), (2, vec![2, 5]));
@@ -140,7 +184,7 @@ fn constant_into_drive() {
 #[test]
 fn integrator_into_detector() {
     let stream = table(&[part(0, 2, 0, 0), part(6, -7, 0, 0), part(8, 0, 0, 1), wire(0, 1, 0), wire(1, 2, 0)]);
-    let mut model = load(&stream).model;
+    let mut model = accepted(&stream);
     let parts = model.parts().unwrap();
     assert_eq!((parts[1].a, parts[1].output), (-7, Some(-7)));
     assert_eq!(parts[2].side, Side::Negative);
@@ -166,9 +210,7 @@ fn motion(part: &Part) -> (i64, i64, Option<i64>) {
 #[test]
 fn constant_into_clapper() {
     let stream = table(&[part(0, 3, 0, 0), part(12, 10, -2, 0), wire(0, 1, 0)]);
-    let loaded = load(&stream);
-    assert_eq!((loaded.number, loaded.position), (0, stream.len() as u64));
-    let mut model = loaded.model;
+    let mut model = accepted(&stream);
     let clapper = model.part(1).unwrap();
     assert_eq!((clapper.kind, clapper.a, clapper.b, clapper.port0), (Kind::Clapper, 10, -2, Some(0)));
     assert_eq!(motion(&clapper), (10, -2, Some(10)));
@@ -200,42 +242,64 @@ fn constant_into_clapper() {
 fn clappers_refused() {
     let beyond = 1_000_000_001;
     for row in [part(12, beyond, 0, 0), part(12, 0, -beyond, 0), part(12, 0, 0, 1), part(13, 0, 0, 0)] {
-        let loaded = load(&table(&[row]));
-        assert_eq!((loaded.number, loaded.position, loaded.model.count()), (5, 2, 0));
+        assert_eq!(refused_load(&table(&[row])), (5, 2));
     }
-    let second_port = load(&table(&[part(0, 3, 0, 0), part(12, 10, -2, 0), wire(0, 1, 1)]));
-    assert_eq!((second_port.number, second_port.position, second_port.model.count()), (7, 32, 0));
+    let second_port = table(&[part(0, 3, 0, 0), part(12, 10, -2, 0), wire(0, 1, 1)]);
+    assert_eq!(refused_load(&second_port), (7, 32));
 }
 
 #[test]
 fn refusals() {
-    let empty = load(&[]);
-    assert_eq!((empty.number, empty.position, empty.model.count()), (1, 0, 0));
-    let loop_of_one = load(&table(&[part(1, 2, 0, 0), wire(0, 0, 0)]));
-    assert_eq!((loop_of_one.number, words(&loop_of_one.model)), (11, (vec![0, 0], vec![0, 0])));
+    assert_eq!(refused_load(&[]), (1, 0));
+    let loop_of_one = table(&[part(1, 2, 0, 0), wire(0, 0, 0)]);
+    assert_eq!(refused_load(&loop_of_one), (11, loop_of_one.len() - 1));
     refused(vec![0, 0], vec![0, 0]);
     refused(vec![], vec![]);
 }
 
+#[test]
+fn refused_advances_keep_the_model() {
+    let drive = table(&[part(0, 1, 0, 0), part(11, 0, 0, 0), span(2), span(5), wire(0, 1, 0)]);
+    let mut model = accepted(&drive);
+    model.advance(7).unwrap();
+    let before = words(&model);
+    let counts = |number, rounds, ceiling| Answer { number, step: 0, rounds, revisions: 0, ceiling };
+    // What is barred before the search has no counts, and leaves the words of the state before in the new one. By 1 the search
+    // is made and finds none.
+    for (wanted, refusal, answer) in [
+        (0, Refusal::WantedOutOfRange, counts(20, 0, 0)),
+        (1, Refusal::NoStepAccepted, counts(22, 2, 1)),
+        (1_000_000_001, Refusal::WantedOutOfRange, counts(20, 0, 0)),
+    ] {
+        let refused = Refused { refusal, answer };
+        assert_eq!((model.preview(wanted).unwrap_err(), model.advance(wanted)), (refused, Err(refused)));
+        assert_eq!(words(&model), before);
+        assert_eq!(refused.to_string(), refusal.to_string());
+    }
+    // The model then goes on as if there had been none.
+    let mut other = Model::from_words(before.0, before.1);
+    assert_eq!((model.advance(4), words(&model)), (other.advance(4), words(&other)));
+}
+
 /// The words of a constant into a clapper.
 fn spelled() -> (Vec<u64>, Vec<u64>) {
-    words(&load(&table(&[part(0, 3, 0, 0), part(12, 10, -2, 0), wire(0, 1, 0)])).model)
+    words(&accepted(&table(&[part(0, 3, 0, 0), part(12, 10, -2, 0), wire(0, 1, 0)])))
 }
 
 #[test]
 fn previews_before_their_advances() {
     let drive = table(&[part(0, 1, 0, 0), part(11, 0, 0, 0), span(2), span(5), wire(0, 1, 0)]);
-    let mut model = load(&drive).model;
+    let mut model = accepted(&drive);
     // Of other wanted steps: the advance behind them is the one that it is without them.
     for (wanted, number, t) in [(4, 0, 2), (9, 0, 5), (4, 0, 2), (1, 22, 0), (0, 20, 0)] {
-        let tried = model.preview(wanted);
-        assert_eq!((tried.answer.number, tried.model.t(), model.t()), (number, t, 0));
-        assert_eq!(tried.model.outputs(), Some(vec![Some(1), Some(t as i64)]));
+        let (answer, ahead) = tried(&model, wanted);
+        assert_eq!((answer.number, ahead.t(), model.t()), (number, t, 0));
+        assert_eq!(ahead.outputs(), Some(vec![Some(1), Some(t as i64)]));
     }
     let first = previewed(&mut model, 7);
     assert_eq!((first.number, line(&model, &first)), (0, [5, 0, 5, 2, 0]));
     // The model that a preview answers can be played on, and so can the given one.
-    let mut other = model.preview(4).model;
+    let mut other = model.preview(4).unwrap().model;
     assert_eq!((previewed(&mut other, 9).number, other.t(), model.t()), (0, 12, 5));
     for (wanted, number) in [(4, 0), (1, 22), (0, 20), (1_000_000_001, 20), (u64::MAX, 20)] {
         assert_eq!(previewed(&mut model, wanted).number, number);
@@ -246,7 +310,7 @@ fn previews_before_their_advances() {
 #[test]
 fn previews_of_a_detector() {
     let stream = table(&[part(0, 2, 0, 0), part(6, -7, 0, 0), part(8, 0, 0, 1), wire(0, 1, 0), wire(1, 2, 0)]);
-    let mut model = load(&stream).model;
+    let mut model = accepted(&stream);
     let answers = [8; 4].map(|wanted| previewed(&mut model, wanted));
     assert_eq!(answers.map(|answer| (answer.step, answer.revisions)), [(2, 2), (1, 3), (1, 3), (0, 0)]);
     assert_eq!((model.t(), model.n(), model.part(2).unwrap().output), (4, 1, Some(1)));
@@ -254,7 +318,7 @@ fn previews_of_a_detector() {
 
 #[test]
 fn previews_near_the_last_point() {
-    let mut model = load(&table(&[part(0, 1, 0, 0), part(5, 0, 0, 0), wire(0, 1, 0)])).model;
+    let mut model = accepted(&table(&[part(0, 1, 0, 0), part(5, 0, 0, 0), wire(0, 1, 0)]));
     let (table, mut state) = words(&model);
     state[1] = 998;
     model = Model::from_words(table.clone(), state.clone());
@@ -294,14 +358,14 @@ fn tables_saved() {
     // The wires in the opposite order, and one of them as soon as its parts are there.
     let early = [&parts[..4], &wires[2..3], &parts[4..]].concat();
     let stream = table(&[&early[..], &[wires[3].clone(), wires[1].clone(), wires[0].clone()]].concat());
-    let mut model = load(&stream).model;
+    let mut model = accepted(&stream);
     let fresh = words(&model);
     for _ in 0..3 {
         assert_eq!(model.save(), Ok(due.clone()));
         assert_eq!(advance(&mut model, 5).number, 0);
     }
-    let again = load(&model.save().unwrap());
-    assert_eq!((again.number, again.position, words(&again.model)), (0, due.len() as u64, fresh.clone()));
+    let again = load(&model.save().unwrap()).unwrap();
+    assert_eq!((again.position, words(&again.model)), (due.len(), fresh.clone()));
     assert_ne!(words(&model), fresh);
 }
 
@@ -310,7 +374,7 @@ fn the_default_magnitude_saved() {
     // The master's is 3.
     let mut stream = table(&[part(0, 1, 0, 0), part(0, 2, 0, 0)]);
     (stream[1], stream[4]) = (1, 3);
-    assert_eq!(load(&stream).model.save(), Ok(stream));
+    assert_eq!(accepted(&stream).save(), Ok(stream));
 }
 
 #[test]
@@ -334,9 +398,9 @@ fn saves_into_lent_bytes() {
 #[test]
 fn sheets_of_answers() {
     let drive = table(&[part(0, 1, 0, 0), part(11, 0, 0, 0), span(2), span(5), wire(0, 1, 0)]);
-    let mut model = load(&drive).model;
+    let mut model = accepted(&drive);
     let before = words(&model);
-    let tried = model.preview(7);
+    let tried = model.preview(7).unwrap();
     let line = "                  5   0          5    2  0           1           5           1\n";
     assert_eq!(line_of(&tried.model, &tried.answer, [0, 1, 0]).as_deref(), Ok(line));
     assert_eq!(words(&model), before);
@@ -353,7 +417,7 @@ fn sheets_of_answers() {
 
     // An absent output, a negative one, and revisions.
     let stream = table(&[part(0, 2, 0, 0), part(6, -7, 0, 0), part(8, 0, 0, 1), wire(0, 1, 0), wire(1, 2, 0)]);
-    let mut model = load(&stream).model;
+    let mut model = accepted(&stream);
     let first = advance(&mut model, 8);
     let line = "                  2   0          2    3  2           2          -3           -\n";
     assert_eq!(line_of(&model, &first, [0, 1, 2]).as_deref(), Ok(line));
@@ -365,7 +429,7 @@ fn sheets_of_answers() {
 #[test]
 fn sheets_of_the_widest() {
     let billion = 1_000_000_000;
-    let model = load(&table(&[part(0, -billion, 0, 0), part(0, billion, 0, 0)])).model;
+    let model = accepted(&table(&[part(0, -billion, 0, 0), part(0, billion, 0, 0)]));
     let (table, mut state) = words(&model);
     for at in [0, state_words(0), state_words(1)] {
         state[at] = 999_999_999_000_000_000;
@@ -385,7 +449,7 @@ fn sheets_of_the_widest() {
         Answer { step: u64::MAX, rounds: u64::MAX, revisions: u64::MAX, ..answer },
     ];
     for answer in wide {
-        assert_eq!(model.sheet(&answer, [0, 1, 0]), Err(26));
+        assert_eq!(model.sheet(&answer, [0, 1, 0]), Err(Refusal::NotPrintable));
         // A refused answer shows none of them.
         for number in [1, 24, 26, 256, 1 << 32, u64::MAX] {
             assert_eq!(line_of(&model, &Answer { number, ..answer }, [0, 1, 0]), Ok(refused_line(number)));

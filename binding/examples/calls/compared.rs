@@ -9,6 +9,7 @@ use crate::saved::{save, save_fresh};
 use crate::seen::Seen;
 use crate::sheeted::sheet;
 use crate::words::*;
+use dozhumek::{Answer, Refused};
 use second::Model;
 
 /// The number of a model that is not sound.
@@ -93,7 +94,7 @@ pub fn load(stream: &[u8], random: &mut Random, seen: &mut Seen) -> Result<Optio
     seen.load_numbers[said[0] as usize] += 1;
     if random.once_in(8) {
         load_bound(stream, said, count)?;
-        seen.count("load through the binding");
+        seen.count(if said[0] == 0 { "load through the binding" } else { "refused load through the binding" });
     }
     load_short(stream, said, count, random, seen)?;
     if let Some(model) = &loaded {
@@ -102,15 +103,27 @@ pub fn load(stream: &[u8], random: &mut Random, seen: &mut Seen) -> Result<Optio
     Ok(loaded)
 }
 
-/// The same load through the binding.
+/// The same load through the binding. Where it is refused it hands out no model, and the words of a zeroed table and state of
+/// the most parts are all 0 still.
 fn load_bound(stream: &[u8], said: [u64; 2], count: usize) -> Result<(), String> {
-    let bound = dozhumek::load(stream);
-    let (table, state) = (bound.model.table(), bound.model.state());
-    let again = lent::load(stream, [table_words(count), state_words(count), 2], 0);
-    if [bound.number, bound.position] != said || table != again.table || state != again.state {
-        return Err("the binding's load answers something else".to_string());
+    let differs = || Err("the binding's load answers something else".to_string());
+    match dozhumek::load(stream) {
+        Ok(bound) => {
+            let (table, state) = (bound.model.table(), bound.model.state());
+            let again = lent::load(stream, [table_words(count), state_words(count), 2], 0);
+            if [0, bound.position as u64] != said || table != again.table || state != again.state {
+                return differs();
+            }
+            same_records(&bound.model, &Words::of_lent(table, state))
+        }
+        Err(refused) => {
+            let again = lent::load(stream, [table_words(PARTS), state_words(PARTS), 2], 0);
+            if [refused.refusal.number(), refused.position as u64] != said || !again.kept(0) {
+                return differs();
+            }
+            same_records(&dozhumek::Model::from_words(again.table, again.state), &Words::none())
+        }
     }
-    same_records(&bound.model, &Words::of_lent(table, state))
 }
 
 /// The same load with too few words.
@@ -202,7 +215,8 @@ pub fn advance(given: &Words, w: u64, random: &mut Random, seen: &mut Seen) -> R
     }
     if random.once_in(8) {
         advance_bound(&table, &old, w, &want)?;
-        seen.count("advance through the binding");
+        let committed = want.counts[0] == 0;
+        seen.count(if committed { "advance through the binding" } else { "refused advance through the binding" });
     }
     short(&ADVANCE, &table, &old, w, &want, random, seen)?;
     let state = if want.counts[0] == 0 { &got.new } else { &old };
@@ -215,17 +229,23 @@ pub fn advance(given: &Words, w: u64, random: &mut Random, seen: &mut Seen) -> R
 fn advance_bound(table: &[u64], old: &[u64], w: u64, want: &Expected) -> Result<(), String> {
     let mut model = dozhumek::Model::from_words(table.to_vec(), old.to_vec());
     same_records(&model, &Words::of_lent(table, old))?;
-    let answer = dozhumek::advance(&mut model, w);
+    let answered = counts(model.advance(w));
     let after = Words::of_lent(model.table(), model.state());
-    if counts(&answer) != want.counts || model.table() != table || after.plain() != want.after(table, old).plain() {
+    let same = model.table() == table && after.plain() == want.after(table, old).plain();
+    if answered != Some(want.counts) || !same {
         return Err("the binding's advance answers something else".to_string());
     }
     same_records(&model, &after)
 }
 
-/// The numbers of the binding's answer.
-pub fn counts(answer: &dozhumek::Answer) -> [u64; 5] {
-    [answer.number, answer.step, answer.rounds, answer.revisions, answer.ceiling]
+/// The numbers of the binding's answer; none unless it is refused exactly where its number is not 0, and by that number.
+pub fn counts(answered: Result<Answer, Refused>) -> Option<[u64; 5]> {
+    let (refused_by, answer) = match answered {
+        Ok(answer) => (0, answer),
+        Err(refused) => (refused.refusal.number(), refused.answer),
+    };
+    let Answer { number, step, rounds, revisions, ceiling } = answer;
+    (refused_by == number).then_some([number, step, rounds, revisions, ceiling])
 }
 
 /// The same call with too few words. Whether they were too few for its state alone, and the number was 25.

@@ -27,7 +27,8 @@ pub fn preview(
     sheet_once(table, state, want, random, seen).map_err(|what| format!("sheet: {what}"))?;
     if random.once_in(8) {
         preview_bound(table, old, w, want)?;
-        seen.count("preview through the binding");
+        let committed = want.counts[0] == 0;
+        seen.count(if committed { "preview through the binding" } else { "refused preview through the binding" });
     }
     if short(&PREVIEW, table, old, w, want, random, seen)? {
         seen.preview(TOO_SHORT);
@@ -60,11 +61,16 @@ fn preview_bound(table: &[u64], old: &[u64], w: u64, want: &Expected) -> Result<
     if model.table() != table || model.state() != old {
         return Err("the binding's preview changes its model".to_string());
     }
-    let after = Words::of_lent(preview.model.table(), preview.model.state());
-    let kept = want.counts[0] == 0 || preview.model.state() == old;
-    let same = preview.model.table() == table && after.plain() == want.after(table, old).plain();
-    if counts(&preview.answer) != want.counts || !kept || !same {
+    // Where it is refused it hands out none, and the model is the given one.
+    let (answered, ahead) = match preview {
+        Ok(preview) => (Ok(preview.answer), preview.model),
+        Err(refused) => (Err(refused), model),
+    };
+    let after = Words::of_lent(ahead.table(), ahead.state());
+    let kept = want.counts[0] == 0 || ahead.state() == old;
+    let same = ahead.table() == table && after.plain() == want.after(table, old).plain();
+    if counts(answered) != Some(want.counts) || !kept || !same {
         return Err("the binding's preview answers something else".to_string());
     }
-    same_records(&preview.model, &after)
+    same_records(&ahead, &after)
 }

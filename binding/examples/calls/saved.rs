@@ -70,7 +70,7 @@ impl Given<'_> {
         }
         if random.once_in(8) {
             let due = if bytes.is_empty() { Err(NOT_SOUND) } else { Ok(bytes.clone()) };
-            if self.bound(dozhumek::Model::save)? != due {
+            if self.bound(|model| model.save().map_err(dozhumek::Refusal::number))? != due {
                 return Err("the binding's save answers something else".to_string());
             }
             seen.count("save through the binding");

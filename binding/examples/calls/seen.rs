@@ -27,8 +27,11 @@ pub struct Seen {
     most_revisions: u64,
 }
 
+/// A name of wanted steps, and whether one has it.
+type Wanted = (&'static str, fn(u64) -> bool);
+
 /// Wanted steps, by name.
-const WANTED: [(&str, fn(u64) -> bool); 10] = [
+const WANTED: [Wanted; 10] = [
     ("w 0", |w| w == 0),
     ("w 1", |w| w == 1),
     ("w to 10^9", |w| w > 1 && w < BILLION),
@@ -42,17 +45,20 @@ const WANTED: [(&str, fn(u64) -> bool); 10] = [
 ];
 
 /// What else has to be tried.
-const OTHERS: [&str; 62] = [
+const OTHERS: [&str; 65] = [
     "load through the binding",
+    "refused load through the binding",
     "load into too few words",
     "refused load into too few words",
     "load with too little room",
     "advance through the binding",
+    "refused advance through the binding",
     "advance of too few words",
     "advance into too few words",
     "barred advance into too few words",
     "advance with too little room",
     "preview through the binding",
+    "refused preview through the binding",
     "preview of too few words",
     "preview into too few words",
     "barred preview into too few words",

@@ -152,7 +152,7 @@ impl Given<'_> {
         };
         let [number, step, rounds, revisions, ceiling] = counts;
         let answer = dozhumek::Answer { number, step, rounds, revisions, ceiling };
-        if self.bound(|model| model.sheet(&answer, choice))? != due {
+        if self.bound(|model| model.sheet(&answer, choice).map_err(dozhumek::Refusal::number))? != due {
             return Err("the binding's sheet answers something else".to_string());
         }
         Ok(())

@@ -2,6 +2,7 @@
 //! whatever reads, alters and prints them is the same for both.
 
 use crate::words::Words;
+use dozhumek::{load_into, preview_into, state_words, table_words, Refused, PARTS};
 use second::Shown;
 
 /// What loading answers.
@@ -52,10 +53,27 @@ fn model_in(words: &Words) -> dozhumek::Model {
     dozhumek::Model::from_words(words.table(), words.state())
 }
 
-/// The binding's answer with its model.
-fn answer_of(answer: dozhumek::Answer, model: &dozhumek::Model) -> Answer {
-    let counts = [answer.number, answer.step, answer.rounds, answer.revisions, answer.ceiling];
-    Answer { counts, model: words_of(model) }
+/// The counts of the binding's answer. The number is 0 where it is not refused, and else the refusal's.
+fn counts_of(answered: Result<dozhumek::Answer, Refused>) -> [u64; 5] {
+    let (number, answer) = match answered {
+        Ok(answer) => (0, answer),
+        Err(refused) => (refused.refusal.number(), refused.answer),
+    };
+    [number, answer.step, answer.rounds, answer.revisions, answer.ceiling]
+}
+
+/// The words of a table and of a state of the most parts, all 0 before, behind a load.
+fn words_loaded(stream: &[u8]) -> Words {
+    let (mut table, mut state) = (vec![0; table_words(PARTS)], vec![0; state_words(PARTS)]);
+    load_into(stream, &mut table, &mut state, &mut [0; 2]);
+    Words::of_lent(&table, &state)
+}
+
+/// The words of a model whose state is what a preview of it leaves.
+fn words_previewed(model: &dozhumek::Model, wanted: u64) -> Words {
+    let mut state = model.state().to_vec();
+    preview_into(model.table(), model.state(), wanted, &mut state, &mut [0; 5]);
+    Words::of_lent(model.table(), &state)
 }
 
 /// What a writing call answers, of the two words that it writes.
@@ -68,19 +86,26 @@ fn written(call: impl FnOnce(&mut [u64]) -> u64) -> Written {
 
 impl Calls for Verified {
     fn load(stream: &[u8]) -> Loaded {
-        let dozhumek::Loaded { number, position, model } = dozhumek::load(stream);
-        Loaded { number, position, model: words_of(&model) }
+        let (number, position, model) = match dozhumek::load(stream) {
+            Ok(loaded) => (0, loaded.position, words_of(&loaded.model)),
+            Err(refused) => (refused.refusal.number(), refused.position, words_loaded(stream)),
+        };
+        Loaded { number, position: position as u64, model }
     }
 
     fn advance(model: &Words, wanted: u64) -> Answer {
         let mut model = model_in(model);
-        answer_of(dozhumek::advance(&mut model, wanted), &model)
+        let counts = counts_of(model.advance(wanted));
+        Answer { counts, model: words_of(&model) }
     }
 
     fn preview(model: &Words, wanted: u64) -> Preview {
         let model = model_in(model);
-        let preview = model.preview(wanted);
-        Preview { answer: answer_of(preview.answer, &preview.model), model: words_of(&model) }
+        let (answered, ahead) = match model.preview(wanted) {
+            Ok(preview) => (Ok(preview.answer), words_of(&preview.model)),
+            Err(refused) => (Err(refused), words_previewed(&model, wanted)),
+        };
+        Preview { answer: Answer { counts: counts_of(answered), model: ahead }, model: words_of(&model) }
     }
 
     fn save(model: &Words, buffer: &mut [u8]) -> Written {
