@@ -1,0 +1,135 @@
+//! The arguments of the command. A word that begins with two dashes is an option, up to `--`; one other is the file.
+use crate::source::Form;
+use std::ffi::OsString;
+use std::path::PathBuf;
+
+/// What is to be done with the input.
+#[derive(Clone, Copy, Debug, Default, PartialEq, Eq)]
+pub enum Act {
+    #[default]
+    Rehearse,
+    Explain,
+    Text,
+    Save,
+}
+
+/// Which outputs are shown: all, those of some parts, or those of three on a sheet. Parts are told by name or number.
+#[derive(Clone, Debug, Default, PartialEq, Eq)]
+pub enum Choice {
+    #[default]
+    All,
+    Only(Vec<String>),
+    Sheet(Vec<String>),
+}
+
+/// All that the arguments say. Without a file it is standard input.
+#[derive(Clone, Debug, Default, PartialEq, Eq)]
+pub struct Arguments {
+    pub file: Option<PathBuf>,
+    pub form: Option<Form>,
+    pub act: Act,
+    pub choice: Choice,
+    pub names: bool,
+    pub strict: bool,
+    pub until: Option<u64>,
+    pub step: Option<u64>,
+}
+
+impl Arguments {
+    /// What some arguments say, or what is wrong with them.
+    pub fn read(given: impl IntoIterator<Item = OsString>) -> Result<Arguments, String> {
+        let mut arguments = Arguments::default();
+        let mut files: Vec<OsString> = Vec::new();
+        let mut given = given.into_iter();
+        while let Some(argument) = given.next() {
+            match argument.to_str() {
+                Some("--") => files.extend(given.by_ref()),
+                Some(option) if option.starts_with("--") => {
+                    let option = option.to_string();
+                    arguments.option(&option, || given.next()?.into_string().ok())?;
+                }
+                _ => files.push(argument),
+            }
+        }
+        arguments.file = match &files[..] {
+            [] => None,
+            [file] if file == "-" => None,
+            [file] => Some(PathBuf::from(file)),
+            [_, second, ..] => return Err(format!("{}: a second FILE, and one is read", second.to_string_lossy())),
+        };
+        arguments.together()?;
+        Ok(arguments)
+    }
+
+    /// Takes an option, and what stands behind it.
+    fn option(&mut self, option: &str, mut next: impl FnMut() -> Option<String>) -> Result<(), String> {
+        let mut value = |what: &str| next().ok_or_else(|| format!("{option}: behind it has to stand {what}"));
+        match option {
+            "--names" => self.names = true,
+            "--strict" => self.strict = true,
+            "--hex" => self.formed(Form::Hex)?,
+            "--table" => self.formed(Form::Table)?,
+            "--explain" => self.acting(Act::Explain)?,
+            "--text" => self.acting(Act::Text)?,
+            "--save" => self.acting(Act::Save)?,
+            "--only" => self.chosen(Choice::Only(listed(&value("parts with commas between")?)))?,
+            "--sheet" => self.chosen(Choice::Sheet(listed(&value("three parts with commas between")?)))?,
+            "--until" => self.until = Some(number(option, &value("a tick")?)?),
+            "--step" => self.step = Some(number(option, &value("a wanted step")?)?),
+            _ => return Err(format!("{option}: no such option")),
+        }
+        Ok(())
+    }
+
+    fn formed(&mut self, form: Form) -> Result<(), String> {
+        match self.form.replace(form) {
+            Some(other) if other != form => Err("--hex and --table: the input has one form".to_string()),
+            _ => Ok(()),
+        }
+    }
+
+    fn acting(&mut self, act: Act) -> Result<(), String> {
+        match std::mem::replace(&mut self.act, act) {
+            other if other != act && other != Act::Rehearse => {
+                Err("--explain, --text and --save: one of them".to_string())
+            }
+            _ => Ok(()),
+        }
+    }
+
+    fn chosen(&mut self, choice: Choice) -> Result<(), String> {
+        match std::mem::replace(&mut self.choice, choice) {
+            Choice::All => Ok(()),
+            _ => Err("--only and --sheet: one of them, once".to_string()),
+        }
+    }
+
+    /// Whether the options go together.
+    fn together(&self) -> Result<(), String> {
+        if self.until.is_some() != self.step.is_some() {
+            return Err("--until T and --step S go together".to_string());
+        }
+        if matches!(&self.choice, Choice::Sheet(parts) if parts.len() != 3) {
+            return Err("--sheet: three parts with commas between are wanted, as in --sheet 0,1,2".to_string());
+        }
+        let columns = self.names || self.choice != Choice::All;
+        if self.act != Act::Rehearse && columns {
+            return Err("--names, --only and --sheet are for a rehearsal's lines".to_string());
+        }
+        if matches!(self.act, Act::Text | Act::Save) && self.until.is_some() {
+            return Err("--until is for a rehearsal: a text table has lines until TICK step STEP".to_string());
+        }
+        Ok(())
+    }
+}
+
+/// The words between commas.
+fn listed(words: &str) -> Vec<String> {
+    words.split(',').map(str::to_string).collect()
+}
+
+fn number(option: &str, text: &str) -> Result<u64, String> {
+    let digits = !text.is_empty() && text.bytes().all(|byte| byte.is_ascii_digit());
+    let number = text.parse().ok().filter(|_| digits);
+    number.ok_or_else(|| format!("{option} {text}: a whole number in base ten is wanted"))
+}

@@ -1,0 +1,165 @@
+//! Plays a score: the table is loaded, and each wanted step is an advance. `until` is played by calls, one after the other. Printed are
+//! document 01's lines; what is refused is told in words as well, by where it was written.
+use crate::columns::Columns;
+use crate::source::{Form, Play, Source};
+use crate::told::Told;
+use crate::why;
+use dozhumek::{Answer, Loaded, Model, Refused, RefusedAt, Score};
+use std::io::{self, Write};
+
+/// An entry of a score, the line on which it stands, if it stands on one, and how a message about it begins.
+pub struct Entry {
+    pub line: Option<usize>,
+    pub place: String,
+    pub play: Play,
+}
+
+/// The entries of a source's score, from the position behind its table on, and then `until`, if there is one. A bad byte of the
+/// score ends it all.
+pub fn entries(
+    source: &Source,
+    position: usize,
+    until: Option<(u64, u64)>,
+) -> impl Iterator<Item = Result<Entry, RefusedAt>> + '_ {
+    let written = source
+        .score
+        .iter()
+        .map(|&(line, play)| Ok(Entry { line: Some(line), place: format!("{}:{line}", source.title), play }));
+    let bytes = if source.form == Form::Table { &[] } else { &source.bytes[..] };
+    let mut score = Score::new(bytes, position);
+    let spelled = std::iter::from_fn(move || {
+        let at = score.position();
+        Some(score.next()?.map(|step| of_byte(source, at, step)))
+    });
+    let last = until
+        .map(|(tick, step)| Ok(Entry { line: None, place: "rehearse".to_string(), play: Play::Until { tick, step } }));
+    let mut refused = false;
+    written.chain(spelled).chain(last).take_while(move |entry| !std::mem::replace(&mut refused, entry.is_err()))
+}
+
+/// The entry of a wanted step at a position of a stream.
+fn of_byte(source: &Source, at: usize, step: u32) -> Entry {
+    let place = format!("{}: byte {at}", source.place(at));
+    Entry { line: source.line(at), place, play: Play::Want { step, times: 1 } }
+}
+
+/// How a refusal at a position is told: by line alone where that is what was written.
+pub fn refused_at(source: &Source, refused: &RefusedAt, position: usize, why: &str) -> String {
+    let number = refused.refusal.number();
+    match source.form {
+        Form::Table => format!("{}: refused {number}: {why}", source.place(position)),
+        _ => format!("{}: refused {number} at {}: {why}", source.place(position), refused.position),
+    }
+}
+
+/// How a refused load is told.
+pub fn load_refused(source: &Source, refused: &RefusedAt) -> String {
+    refused_at(source, refused, why::place_of(source, refused), &why::load_refused(source, refused))
+}
+
+/// A rehearsal that goes on: the model, what of it is shown, and whether anything was refused.
+pub struct Rehearsal<'a> {
+    pub source: &'a Source,
+    pub model: Model,
+    pub columns: Columns,
+    pub refused: bool,
+}
+
+/// How a run of `until` ended.
+pub struct Run {
+    pub calls: u64,
+    pub refused: Option<String>,
+}
+
+impl Rehearsal<'_> {
+    /// One advance, with the refusal in words where it is refused.
+    pub fn advance(&mut self, wanted: u64) -> Result<Answer, (Refused, String)> {
+        self.model.advance(wanted).map_err(|refused| {
+            self.refused = true;
+            let why = why::advance_refused(self.source, &self.model, wanted, &refused);
+            (refused, format!("refused {}: {why}", refused.refusal.number()))
+        })
+    }
+
+    /// One advance and its line; in words what refused it.
+    fn step(&mut self, wanted: u64, out: &mut dyn Write) -> io::Result<Option<String>> {
+        let (answer, why) = match self.advance(wanted) {
+            Ok(answer) => (answer, None),
+            Err((refused, why)) => (refused.answer, Some(why)),
+        };
+        self.columns.line(&self.model, &answer, out)?;
+        Ok(why)
+    }
+
+    /// Wants `step`, and no more than leads to the tick, until that is reached or a call is refused.
+    pub fn until(&mut self, tick: u64, step: u64, out: &mut dyn Write, told: &mut Told) -> io::Result<Run> {
+        let mut calls = 0;
+        while self.model.t() < tick {
+            let wanted = step.min(tick - self.model.t());
+            let refused = self.step(wanted, out)?;
+            calls += 1;
+            told.called(self.model.t(), Some(tick));
+            if refused.is_some() {
+                return Ok(Run { calls, refused });
+            }
+        }
+        Ok(Run { calls, refused: None })
+    }
+
+    /// How a run of `until` ended, in words.
+    pub fn ended(&self, tick: u64, run: &Run) -> String {
+        let (t, n, calls) = (self.model.t(), self.model.n(), run.calls);
+        match &run.refused {
+            Some(why) => format!("until {tick}: stopped at ({t}, {n}), at call {calls}: {why}"),
+            None if calls == 0 => format!("until {tick}: the rehearsal is at ({t}, {n}) already"),
+            None => format!("until {tick}: reached ({t}, {n}) by {calls} calls"),
+        }
+    }
+
+    /// Plays an entry of the score.
+    fn entry(&mut self, entry: &Entry, out: &mut dyn Write, told: &mut Told) -> io::Result<()> {
+        match entry.play {
+            Play::Want { step, times } => {
+                for _ in 0..times {
+                    if let Some(why) = self.step(step.into(), out)? {
+                        told.say(&format!("{}: {why}", entry.place));
+                    }
+                    told.called(self.model.t(), None);
+                }
+            }
+            Play::Until { tick, step } => {
+                let run = self.until(tick, step, out, told)?;
+                told.say(&format!("{}: {}", entry.place, self.ended(tick, &run)));
+            }
+        }
+        Ok(())
+    }
+}
+
+/// Plays the score of a source that was loaded. Whether anything was refused.
+pub fn play(
+    source: &Source,
+    loaded: Loaded,
+    columns: Columns,
+    until: Option<(u64, u64)>,
+    out: &mut dyn Write,
+    told: &mut Told,
+) -> io::Result<bool> {
+    let mut rehearsal = Rehearsal { source, model: loaded.model, columns, refused: false };
+    for entry in entries(source, loaded.position, until) {
+        match entry {
+            Ok(entry) => rehearsal.entry(&entry, out, told)?,
+            Err(refused) => {
+                score_line(&refused, out)?;
+                told.say(&refused_at(source, &refused, refused.position, &why::score_refused(source, &refused)));
+                rehearsal.refused = true;
+            }
+        }
+    }
+    Ok(rehearsal.refused)
+}
+
+/// Writes the line of a refused load, or of a refused command of the score.
+pub fn score_line(refused: &RefusedAt, out: &mut dyn Write) -> io::Result<()> {
+    writeln!(out, "refused {} at {}", refused.refusal.number(), refused.position)
+}
