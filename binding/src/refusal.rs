@@ -69,7 +69,7 @@ const TEXTS: [(Refusal, &str, &str); 18] = [
     (
         Refusal::NotThere,
         "a wire names a part or port that is not there (yet)",
-        "put the wire behind both its parts",
+        "name a port that the kind has; in bytes, put the wire behind both its parts",
     ),
     (Refusal::AlreadyWired, "the port is wired already", "join the two sources by an adder"),
     (Refusal::NoParts, "no parts", "add one"),
@@ -84,7 +84,7 @@ const TEXTS: [(Refusal, &str, &str); 18] = [
         "put a delay or an integrator into the loop",
     ),
     (Refusal::SpanNotRising, "a span that is not above the one before", "sort the spans"),
-    (Refusal::WantedOutOfRange, "a wanted step of 0 or above 10^9", "want less, and call again"),
+    (Refusal::WantedOutOfRange, "a wanted step of 0 or above 10^9", "want 1 to 10^9"),
     (
         Refusal::DueAtLastMicrostep,
         "some part is due at microstep 999",
@@ -93,7 +93,7 @@ const TEXTS: [(Refusal, &str, &str); 18] = [
     (
         Refusal::NoStepAccepted,
         "no part is due and no step above 0 is accepted by all",
-        "a drive's spans, or its ratio, do not meet the wanted step or each other",
+        "want a longer step, or give the drives spans that meet each other and what is wanted",
     ),
     (Refusal::PastLastTick, "the step may lead past tick 10^18", "want less"),
     (

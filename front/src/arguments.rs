@@ -1,5 +1,6 @@
 //! The arguments of the command. A word that begins with two dashes is an option, up to `--`; one other is the file.
-use crate::source::Form;
+use crate::reader::until;
+use crate::source::{Form, Play};
 use std::ffi::OsString;
 use std::path::PathBuf;
 
@@ -31,8 +32,9 @@ pub struct Arguments {
     pub choice: Choice,
     pub names: bool,
     pub strict: bool,
-    pub until: Option<u64>,
-    pub step: Option<u64>,
+    pub until: Option<Play>,
+    tick: Option<String>,
+    step: Option<String>,
 }
 
 impl Arguments {
@@ -57,6 +59,7 @@ impl Arguments {
             [file] => Some(PathBuf::from(file)),
             [_, second, ..] => return Err(format!("{}: a second FILE, and one is read", second.to_string_lossy())),
         };
+        arguments.until = arguments.run()?;
         arguments.together()?;
         Ok(arguments)
     }
@@ -74,8 +77,8 @@ impl Arguments {
             "--save" => self.acting(Act::Save)?,
             "--only" => self.chosen(Choice::Only(listed(&value("parts with commas between")?)))?,
             "--sheet" => self.chosen(Choice::Sheet(listed(&value("three parts with commas between")?)))?,
-            "--until" => self.until = Some(number(option, &value("a tick")?)?),
-            "--step" => self.step = Some(number(option, &value("a wanted step")?)?),
+            "--until" => once(option, &mut self.tick, value("a tick")?)?,
+            "--step" => once(option, &mut self.step, value("a wanted step")?)?,
             _ => return Err(format!("{option}: no such option")),
         }
         Ok(())
@@ -104,11 +107,17 @@ impl Arguments {
         }
     }
 
+    /// The steps that are wanted behind the score.
+    fn run(&self) -> Result<Option<Play>, String> {
+        match (&self.tick, &self.step) {
+            (Some(tick), Some(step)) => until(tick, step).map(Some).map_err(|wrong| format!("--{wrong}")),
+            (None, None) => Ok(None),
+            _ => Err("--until T and --step S go together".to_string()),
+        }
+    }
+
     /// Whether the options go together.
     fn together(&self) -> Result<(), String> {
-        if self.until.is_some() != self.step.is_some() {
-            return Err("--until T and --step S go together".to_string());
-        }
         if matches!(&self.choice, Choice::Sheet(parts) if parts.len() != 3) {
             return Err("--sheet: three parts with commas between are wanted, as in --sheet 0,1,2".to_string());
         }
@@ -123,13 +132,15 @@ impl Arguments {
     }
 }
 
-/// The words between commas.
+/// The words between commas, without blanks around them.
 fn listed(words: &str) -> Vec<String> {
-    words.split(',').map(str::to_string).collect()
+    words.split(',').map(|word| word.trim().to_string()).collect()
 }
 
-fn number(option: &str, text: &str) -> Result<u64, String> {
-    let digits = !text.is_empty() && text.bytes().all(|byte| byte.is_ascii_digit());
-    let number = text.parse().ok().filter(|_| digits);
-    number.ok_or_else(|| format!("{option} {text}: a whole number in base ten is wanted"))
+/// Takes an option's value, unless it has one.
+fn once(option: &str, place: &mut Option<String>, value: String) -> Result<(), String> {
+    match place.replace(value) {
+        Some(_) => Err(format!("{option} stands twice")),
+        None => Ok(()),
+    }
 }

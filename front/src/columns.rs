@@ -74,7 +74,7 @@ fn number(option: &str, part: &str, source: &Source, model: &Model) -> Result<us
     let count = model.count();
     named.or_else(numbered).ok_or_else(|| {
         format!(
-            "{option}: the table has no part {part}: its parts are {}, or 0 to {}",
+            "{option}: the table has no part '{part}': its parts are {}, or 0 to {}",
             source.names.join(", "),
             count - 1
         )

@@ -6,9 +6,9 @@ use crate::input::LIMIT;
 use crate::play::{entries, refused_at, Entry, Rehearsal};
 use crate::source::{Play, Source};
 use crate::told::Told;
-use crate::why;
-use crate::writer::operands;
-use dozhumek::{load, Loaded, RefusedAt};
+use crate::why::{self, counted};
+use crate::writer::{operands, play_text};
+use dozhumek::{load, Answer, Loaded, RefusedAt};
 use std::io::{self, Write};
 
 /// How many bytes a row has, and how wide they are, without what follows.
@@ -16,7 +16,7 @@ const ROW: usize = 16;
 const WIDTH: usize = 3 * ROW - 1;
 
 /// Writes the explanation of a source. Whether anything was refused.
-pub fn explain(source: &Source, until: Option<(u64, u64)>, out: &mut dyn Write, told: &mut Told) -> io::Result<bool> {
+pub fn explain(source: &Source, until: Option<Play>, out: &mut dyn Write, told: &mut Told) -> io::Result<bool> {
     match load(&source.bytes) {
         Ok(loaded) => {
             table(source, loaded.position, out)?;
@@ -79,65 +79,93 @@ fn meaning(source: &Source, command: &Command, parts: usize, finest: u8) -> Stri
         Command::Wire { source: from, receiver, port } => {
             format!("wire {} -> {}.{port}", source.name(from.into()), source.name(receiver.into()))
         }
-        Command::End => format!("End: {parts} parts; the master's tick is {}", tick(finest)),
+        Command::End => format!("End: {}; the master's tick is {}", counted(parts as u64, "part"), tick(finest)),
         Command::Want { step } => format!("want {step}"),
     }
+}
+
+/// The score as it is spelled: where its next command stands, and how many wanted steps had no room.
+struct Spelling {
+    position: usize,
+    unspelled: u64,
 }
 
 /// Writes the score, and what each of its wanted steps comes to.
 fn score(
     source: &Source,
     loaded: Loaded,
-    until: Option<(u64, u64)>,
+    until: Option<Play>,
     out: &mut dyn Write,
     told: &mut Told,
 ) -> io::Result<bool> {
-    let mut position = loaded.position;
+    let mut spelling = Spelling { position: loaded.position, unspelled: 0 };
     let mut rehearsal = Rehearsal { source, model: loaded.model, columns: Columns::All, refused: false };
-    for entry in entries(source, position, until) {
+    for entry in entries(source, loaded.position, until) {
         match entry {
-            Ok(Entry { play: Play::Want { step, times }, line, .. }) => {
-                for _ in 0..times {
-                    wanted(&mut rehearsal, step, &mut position, &on_line(line), out)?;
-                }
-            }
-            Ok(Entry { play: Play::Until { tick, step }, line, .. }) => {
-                let line = on_line(line);
-                comment(&format!("until {tick} step {step}: played by calls, it has no bytes{line}"), out)?;
-                let run = rehearsal.until(tick, step, &mut io::sink(), told)?;
-                comment(&rehearsal.ended(tick, &run), out)?;
-            }
+            Ok(entry) => played(&mut rehearsal, &entry, &mut spelling, out, told)?,
             Err(refused) => {
                 rehearsal.refused = true;
                 refused_command(source, &refused, out)?;
             }
         }
     }
+    if spelling.unspelled > 0 {
+        let more = counted(spelling.unspelled, "more wanted step");
+        comment(&format!("{more}: played, but not spelled, as {LIMIT} bytes of a stream are read"), out)?;
+    }
     Ok(rehearsal.refused)
 }
 
-/// Writes a wanted step with its answer. Behind the bytes that a program reads there are none, and it is a comment.
-fn wanted(
+/// Writes an entry of the score, of `until` each step that it wants.
+fn played(
     rehearsal: &mut Rehearsal,
-    step: u32,
-    position: &mut usize,
-    line: &str,
+    entry: &Entry,
+    spelling: &mut Spelling,
     out: &mut dyn Write,
+    told: &mut Told,
 ) -> io::Result<()> {
-    let answer = match rehearsal.advance(step.into()) {
-        Ok(answer) => {
-            let (t, n) = (rehearsal.model.t(), rehearsal.model.n());
-            format!("({t}, {n}), step {}, rounds {}, revisions {}", answer.step, answer.rounds, answer.revisions)
+    let line = on_line(entry.line);
+    match entry.play {
+        Play::Want { step, times } => {
+            (0..times).try_for_each(|_| spelling.wanted(rehearsal, step, &line, out).map(|_| ()))
         }
-        Err((_, why)) => why,
-    };
-    let command = Command::Want { step };
-    let meaning = format!("{position}: want {step}: {answer}{line}");
-    if *position + command.length() > LIMIT {
-        return comment(&meaning, out);
+        Play::Until { tick, step } => {
+            comment(&format!("{}{line}", play_text(&entry.play)), out)?;
+            let run = rehearsal.until((tick, step), told, |rehearsal, wanted| {
+                // It is at most the step, which a command can spell.
+                spelling.wanted(rehearsal, wanted as u32, &line, out)
+            })?;
+            comment(&rehearsal.ended(tick, &run), out)
+        }
     }
-    *position += command.length();
-    row(&command.bytes(), &meaning, out)
+}
+
+impl Spelling {
+    /// Writes a wanted step with its answer, if there is room for it; in words what refused it.
+    fn wanted(
+        &mut self,
+        rehearsal: &mut Rehearsal,
+        step: u32,
+        line: &str,
+        out: &mut dyn Write,
+    ) -> io::Result<Option<String>> {
+        let refused = rehearsal.advance(step.into());
+        let command = Command::Want { step };
+        if self.position + command.length() > LIMIT {
+            self.unspelled += 1;
+            return Ok(refused.err().map(|(_, why)| why));
+        }
+        let (t, n) = (rehearsal.model.t(), rehearsal.model.n());
+        let (told, refused) = match refused {
+            Ok(Answer { step, rounds, revisions, .. }) => {
+                (format!("({t}, {n}), step {step}, rounds {rounds}, revisions {revisions}"), None)
+            }
+            Err((_, why)) => (why.clone(), Some(why)),
+        };
+        row(&command.bytes(), &format!("{}: want {step}: {told}{line}", self.position), out)?;
+        self.position += command.length();
+        Ok(refused)
+    }
 }
 
 /// Writes a refused command of the score, and all behind it.

@@ -16,6 +16,10 @@ use std::time::Duration;
 pub const LIMIT: usize = 65_536;
 const TEXT_LIMIT: u64 = 16 << 20;
 
+/// So many faults of a text are told, and so many characters of one.
+const FAULTS: usize = 20;
+const LONGEST: usize = 300;
+
 /// What a pipe holds behind the limit is counted for so long, and so far.
 const PATIENCE: Duration = Duration::from_secs(2);
 const COUNTED: u64 = 16 << 20;
@@ -46,11 +50,31 @@ pub fn read(file: Option<&Path>, form: Option<Form>) -> Result<Input, Vec<String
         }
         Form::Table => {
             let text = text(opened).map_err(|why| wrong(&why))?;
-            let told = |fault: reader::Fault| format!("{title}:{}: {}", fault.line, fault.message);
-            let source =
-                reader::read(&title, &text).map_err(|faults| faults.into_iter().map(told).collect::<Vec<_>>())?;
+            let source = reader::read(&title, &text).map_err(|faults| faulty(&title, &faults))?;
             Ok(Input { source, rest: Rest::Known(0) })
         }
+    }
+}
+
+/// The messages of a text's faults: so many of them, and how many more there are.
+fn faulty(title: &str, faults: &[reader::Fault]) -> Vec<String> {
+    let told = faults.iter().take(FAULTS).map(|fault| format!("{title}:{}: {}", fault.line, plain(&fault.message)));
+    let more = faults.len().saturating_sub(FAULTS);
+    told.chain((more > 0).then(|| format!("{title}: and {more} more"))).collect()
+}
+
+/// A message without control characters, and not longer than a reader can take.
+fn plain(message: &str) -> String {
+    let shown: String = message.chars().take(LONGEST).flat_map(shown).collect();
+    let more = if message.chars().nth(LONGEST).is_some() { "…" } else { "" };
+    shown + more
+}
+
+/// A character as it is shown.
+fn shown(character: char) -> Vec<char> {
+    match character.is_control() {
+        true => character.escape_default().collect(),
+        false => vec![character],
     }
 }
 

@@ -4,14 +4,15 @@
 //!     rehearse-front --explain | --text | --save [--hex | --table] [FILE]
 //!
 //! Status 0: rehearsed, refusals included, or written. 2: bad usage, a file or a text that cannot be read, or a part that is not there.
-//! 3: not all lines could be written. 4: no table is written, since its load is refused. 5: --strict, and something was refused.
+//! 3: not all lines could be written. 4: no table is saved, or not all of it written as text, since its load or a byte of its score is
+//! refused. 5: --strict, and something was refused.
 use dozhumek::load;
 use front::arguments::{Act, Arguments, Choice};
 use front::columns::Columns;
 use front::explain::explain;
 use front::input;
 use front::play::{load_refused, play, refused_at, score_line};
-use front::source::Source;
+use front::source::{Play, Source};
 use front::told::Told;
 use front::{why, writer};
 use std::env;
@@ -75,7 +76,7 @@ fn output() -> Box<dyn Write> {
 
 /// Does what is asked for. The status is 5 where something was refused.
 fn act(arguments: &Arguments, source: &Source, out: &mut dyn Write, told: &mut Told) -> io::Result<u8> {
-    let until = arguments.until.zip(arguments.step);
+    let until = arguments.until;
     match arguments.act {
         Act::Rehearse => rehearse(arguments, source, until, out, told),
         Act::Explain => explain(source, until, out, told).map(status_of),
@@ -96,7 +97,7 @@ fn status_of(refused: bool) -> u8 {
 fn rehearse(
     arguments: &Arguments,
     source: &Source,
-    until: Option<(u64, u64)>,
+    until: Option<Play>,
     out: &mut dyn Write,
     told: &mut Told,
 ) -> io::Result<u8> {
@@ -136,9 +137,10 @@ fn text(source: &Source, out: &mut dyn Write, told: &mut Told) -> io::Result<u8>
     let written = writer::write(source, &loaded).map_err(io::Error::other)?;
     out.write_all(written.text.as_bytes())?;
     let Some(refused) = written.refused else { return Ok(DONE) };
-    let why = format!("{}: the score ends here", why::score_refused(source, &refused));
-    told.say(&refused_at(source, &refused, refused.position, &why));
-    Ok(REFUSED)
+    let message = refused_at(source, &refused, refused.position, &why::score_refused(source, &refused));
+    writeln!(out, "# {message}")?;
+    told.say(&message);
+    Ok(NO_TABLE)
 }
 
 /// Writes the table's bytes in their one form.

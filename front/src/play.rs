@@ -4,6 +4,7 @@ use crate::columns::Columns;
 use crate::source::{Form, Play, Source};
 use crate::told::Told;
 use crate::why;
+use crate::why::counted;
 use dozhumek::{Answer, Loaded, Model, Refused, RefusedAt, Score};
 use std::io::{self, Write};
 
@@ -19,7 +20,7 @@ pub struct Entry {
 pub fn entries(
     source: &Source,
     position: usize,
-    until: Option<(u64, u64)>,
+    until: Option<Play>,
 ) -> impl Iterator<Item = Result<Entry, RefusedAt>> + '_ {
     let written = source
         .score
@@ -31,8 +32,7 @@ pub fn entries(
         let at = score.position();
         Some(score.next()?.map(|step| of_byte(source, at, step)))
     });
-    let last = until
-        .map(|(tick, step)| Ok(Entry { line: None, place: "rehearse".to_string(), play: Play::Until { tick, step } }));
+    let last = until.map(|play| Ok(Entry { line: None, place: "rehearse".to_string(), play }));
     let mut refused = false;
     written.chain(spelled).chain(last).take_while(move |entry| !std::mem::replace(&mut refused, entry.is_err()))
 }
@@ -91,12 +91,18 @@ impl Rehearsal<'_> {
         Ok(why)
     }
 
-    /// Wants `step`, and no more than leads to the tick, until that is reached or a call is refused.
-    pub fn until(&mut self, tick: u64, step: u64, out: &mut dyn Write, told: &mut Told) -> io::Result<Run> {
+    /// Wants `step`, and no more than leads to the tick, until that is reached or a call is refused. Each call is made by `call`, which tells
+    /// in words what refused it.
+    pub fn until(
+        &mut self,
+        (tick, step): (u64, u64),
+        told: &mut Told,
+        mut call: impl FnMut(&mut Self, u64) -> io::Result<Option<String>>,
+    ) -> io::Result<Run> {
         let mut calls = 0;
         while self.model.t() < tick {
             let wanted = step.min(tick - self.model.t());
-            let refused = self.step(wanted, out)?;
+            let refused = call(self, wanted)?;
             calls += 1;
             told.called(self.model.t(), Some(tick));
             if refused.is_some() {
@@ -112,7 +118,7 @@ impl Rehearsal<'_> {
         match &run.refused {
             Some(why) => format!("until {tick}: stopped at ({t}, {n}), at call {calls}: {why}"),
             None if calls == 0 => format!("until {tick}: the rehearsal is at ({t}, {n}) already"),
-            None => format!("until {tick}: reached ({t}, {n}) by {calls} calls"),
+            None => format!("until {tick}: reached ({t}, {n}) by {}", counted(calls, "call")),
         }
     }
 
@@ -128,7 +134,7 @@ impl Rehearsal<'_> {
                 }
             }
             Play::Until { tick, step } => {
-                let run = self.until(tick, step, out, told)?;
+                let run = self.until((tick, step), told, |rehearsal, wanted| rehearsal.step(wanted, out))?;
                 told.say(&format!("{}: {}", entry.place, self.ended(tick, &run)));
             }
         }
@@ -141,12 +147,16 @@ pub fn play(
     source: &Source,
     loaded: Loaded,
     columns: Columns,
-    until: Option<(u64, u64)>,
+    until: Option<Play>,
     out: &mut dyn Write,
     told: &mut Told,
 ) -> io::Result<bool> {
     let mut rehearsal = Rehearsal { source, model: loaded.model, columns, refused: false };
-    for entry in entries(source, loaded.position, until) {
+    let mut entries = entries(source, loaded.position, until).peekable();
+    if entries.peek().is_none() {
+        told.say(&format!("{}: no step is wanted: add a line, as want 8, or --until T --step S", source.title));
+    }
+    for entry in entries {
         match entry {
             Ok(entry) => rehearsal.entry(&entry, out, told)?,
             Err(refused) => {

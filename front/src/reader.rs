@@ -4,7 +4,9 @@
 use crate::command::{Command, NO_PREFERENCE};
 use crate::kinds::{self, KindWords, KIND_WORDS};
 use crate::source::{Form, Play, Source};
+use dozhumek::{LAST_TICK, MOST_WANTED};
 use std::collections::HashMap;
+use std::ops::RangeInclusive;
 
 /// What is wrong with a line.
 #[derive(Clone, Debug, PartialEq, Eq)]
@@ -18,7 +20,10 @@ const ENTRIES: &str = "a line is tick, part, wire, want or until";
 const MAGNITUDES: &str = "0 to 15";
 const VALUES: &str = "-1000000000 to 1000000000";
 const TICKS: &str = "1 to 1000000000";
-const LAST_TICK: &str = "0 to 1000000000000000000";
+const POINTS: &str = "0 to 1000000000000000000";
+
+/// How often a line may want its step.
+const MOST_TIMES: u64 = 1_000_000_000;
 
 /// How many parts a wire's byte can name.
 const NAMEABLE: usize = 256;
@@ -117,9 +122,12 @@ impl Draft {
     fn wire(&mut self, line: usize, ends: &str) -> Result<(), String> {
         let form = || "a wire line is wire SOURCE -> NAME.PORT, as in wire gravity -> clapper.0".to_string();
         let (source, receiver) = ends.split_once("->").ok_or_else(form)?;
-        let (receiver, port) = receiver.trim().rsplit_once('.').ok_or_else(form)?;
+        let (receiver, port) = receiver.trim().split_once('.').ok_or_else(form)?;
         let source = source.trim();
-        if source.is_empty() || receiver.is_empty() || source.contains(char::is_whitespace) {
+        if let Some((name, _)) = source.split_once('.') {
+            return Err(format!("{source}: a source has no port, as in wire {name} -> {receiver}.{port}"));
+        }
+        if [source, receiver, port].iter().any(|word| word.is_empty() || word.contains(char::is_whitespace)) {
             return Err(form());
         }
         let port = number(port, &format!("port {port} of {receiver}"), "0 or 1")?;
@@ -131,18 +139,13 @@ impl Draft {
         let step = number(step, &format!("want {step}"), TICKS)?;
         let digits =
             times.strip_prefix('x').ok_or_else(|| format!("{times}: how often is x and a number, as in x5"))?;
-        let times = number(digits, times, "at least x1")?;
-        if times == 0 {
-            return Err("x0: at least x1 is wanted".to_string());
-        }
+        let times = within(digits, times, 1..=MOST_TIMES, "x1 to x1000000000")?;
         self.score.push((line, Play::Want { step, times }));
         Ok(())
     }
 
     fn until(&mut self, line: usize, tick: &str, step: &str) -> Result<(), String> {
-        let tick = number(tick, &format!("until {tick}"), LAST_TICK)?;
-        let step = number(step, &format!("step {step}"), TICKS)?;
-        self.score.push((line, Play::Until { tick, step }));
+        self.score.push((line, until(tick, step)?));
         Ok(())
     }
 
@@ -192,6 +195,22 @@ fn number<T: TryFrom<i128>>(text: &str, told: &str, range: &str) -> Result<T, St
     }
     let number = text.parse::<i128>().ok().and_then(|number| T::try_from(number).ok());
     number.ok_or_else(|| format!("{told}: out of range, {range}"))
+}
+
+/// A number that has to be in its range, since no bytes spell it for the load to judge.
+fn within(text: &str, told: &str, range: RangeInclusive<u64>, named: &str) -> Result<u64, String> {
+    let number = number(text, told, named)?;
+    match range.contains(&number) {
+        true => Ok(number),
+        false => Err(format!("{told}: out of range, {named}")),
+    }
+}
+
+/// Steps until a tick.
+pub fn until(tick: &str, step: &str) -> Result<Play, String> {
+    let tick = within(tick, &format!("until {tick}"), 0..=LAST_TICK, POINTS)?;
+    let step = within(step, &format!("step {step}"), 1..=MOST_WANTED, TICKS)?;
+    Ok(Play::Until { tick, step })
 }
 
 /// Whether a name begins with a letter or `_`, and goes on with letters, digits, `_` and `-`.

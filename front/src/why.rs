@@ -9,3 +9,4 @@ mod words;
 
 pub use advance::advance_refused;
 pub use load::{load_refused, place_of, score_refused};
+pub use words::counted;

@@ -25,12 +25,17 @@ enum Part {
     Err,
 }
 
+/// A file's text with the characters that cannot be seen.
+fn unseen(text: &str) -> String {
+    let characters = [("\\r", "\r"), ("\\u{FEFF}", "\u{FEFF}"), ("\\u{1B}", "\u{1B}"), ("\\u{0}", "\0")];
+    characters.iter().fold(text.to_string(), |text, (written, meant)| text.replace(written, meant))
+}
+
 /// A line of a text, as it is meant.
 fn meant(line: &str) -> String {
-    let line = line.replace("\\r", "\r").replace("\\u{FEFF}", "\u{FEFF}");
     match line.strip_suffix('\\') {
         Some(line) => line.to_string(),
-        None => line + "\n",
+        None => format!("{line}\n"),
     }
 }
 
@@ -48,7 +53,7 @@ fn case(written: &str) -> Case {
         if line.is_empty() || line.starts_with("    ") {
             let line = meant(line.strip_prefix("    ").unwrap_or_default());
             match part {
-                Part::Text => case.text += &line,
+                Part::Text => case.text += &unseen(&line),
                 Part::Out => case.out += &line,
                 Part::Err => case.err += &line,
             }

@@ -55,10 +55,13 @@ fn the_kinds_of_the_bytes() {
 #[test]
 fn the_first_table_of_the_readme() {
     let readme = page("README.md");
-    let file = PathBuf::from(env!("CARGO_TARGET_TMPDIR")).join("ball.table");
-    fs::write(&file, block(&readme, "(`ball.table`):")).expect("a file");
+    let file = PathBuf::from(env!("CARGO_MANIFEST_DIR")).join("../examples/ball.table");
+    assert_eq!(page("examples/ball.table"), block(&readme, "(`examples/ball.table`):"));
     let answer =
         Command::new(env!("CARGO_BIN_EXE_rehearse-front")).arg("--names").arg(file).output().expect("its answer");
-    assert_eq!(String::from_utf8_lossy(&answer.stdout), block(&readme, "`./rehearse --names ball.table` prints"));
+    assert_eq!(
+        String::from_utf8_lossy(&answer.stdout),
+        block(&readme, "`./rehearse --names examples/ball.table` prints")
+    );
     assert_eq!((answer.status.code(), answer.stderr), (Some(0), vec![]));
 }

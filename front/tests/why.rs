@@ -271,9 +271,15 @@ fn which_wires_are_a_loop() {
 fn which_span_does_not_rise() {
     let commands = [BEGIN, part(DRIVE, 0, 0, 0), span(5), span(5), Command::End];
     let source = table(&["drive"], &commands);
-    assert_eq!(told(&source), said(12, "chime.table:3: span 2 of drive is not above 5, the one before"));
+    assert_eq!(
+        told(&source),
+        said(12, "chime.table:3: 5, span 2 of drive, is not above the one before, 5: sort the spans")
+    );
     let commands = [BEGIN, part(DRIVE, 0, 0, 0), span(5), span(9), span(2), Command::End];
-    assert_eq!(told(&hex(&commands)), said(12, "x.hex:5: span 3 of drive0 is not above 9, the one before"));
+    assert_eq!(
+        told(&hex(&commands)),
+        said(12, "x.hex:5: 2, span 3 of drive0, is not above the one before, 9: sort the spans")
+    );
 }
 
 #[test]
@@ -471,11 +477,11 @@ fn a_search_that_was_revised() {
     let wires = [wire(0, 1, 0), wire(1, 2, 0)];
     let source = table(&["two", "fall", "trial", "hammer"], &[&[BEGIN][..], &parts, &wires, &[Command::End]].concat());
     let twice =
-        "no step of 1 to 2 is accepted by all (after 2 revisions, within 2 of the wanted 12): hammer accepts none, \
+        "no step of 1 to 2 is accepted by all (after 2 revisions, as trial objected, 2 of the wanted 12 are left): hammer accepts none, \
                  its least step is 4";
     assert_eq!(barred(&source, &[], 12), said(22, twice));
     let once =
-        "no step of 1 to 2 is accepted by all (after 1 revision, within 2 of the wanted 5): hammer accepts none, its \
+        "no step of 1 to 2 is accepted by all (after 1 revision, as trial objected, 2 of the wanted 5 are left): hammer accepts none, its \
                 least step is 4";
     assert_eq!(barred(&source, &[], 5), said(22, once));
 }

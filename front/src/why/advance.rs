@@ -1,6 +1,6 @@
 //! Why an advance was refused.
 use super::words::{counted, listed, steps};
-use crate::accepted::{accepted, accepted_by_all, due, meet, numbers, Steps};
+use crate::accepted::{accepted, accepted_by_all, due, meet, numbers, period, Steps};
 use crate::source::Source;
 use dozhumek::{Kind, Model, Refusal, Refused, LAST_TICK, MOST_WANTED};
 
@@ -80,17 +80,35 @@ impl<'a> Search<'a> {
         match self.revisions {
             0 => String::new(),
             revisions => {
-                let revisions = counted(revisions as usize, "revision");
-                format!(" (after {revisions}, within {} of the wanted {})", self.ceiling, self.wanted)
+                let revisions = counted(revisions, "revision");
+                let (objecting, ceiling, wanted) = (self.objecting(), self.ceiling, self.wanted);
+                format!(" (after {revisions}, as {objecting} objected, {ceiling} of the wanted {wanted} are left)")
             }
+        }
+    }
+
+    /// The detectors one of which objected to the last step that was tried: it was twice the ceiling, or one more, and above their P.
+    fn objecting(&self) -> String {
+        let least = 2 * u128::from(self.ceiling);
+        let parts = numbers(self.model).filter_map(|number| Some((number, self.model.part(number)?)));
+        let detectors =
+            parts.filter(|(_, part)| part.kind == Kind::Detector && part.port0.is_some() && period(part) <= least);
+        let names: Vec<String> = detectors.map(|(number, _)| self.source.name(number)).collect();
+        match names.len() {
+            0 => "a detector".to_string(),
+            1 => names[0].clone(),
+            2..=TOLD_PARTS => format!("one of {}", listed(&names, "and")),
+            many => format!("one of {many} detectors"),
         }
     }
 
     /// What is said of parts where some of them accept no step within the ceiling.
     fn each(&self, parts: &[usize]) -> String {
         let told = parts.iter().take(TOLD_PARTS).map(|&part| self.one(part));
-        let more =
-            parts.len().checked_sub(TOLD_PARTS + 1).map(|more| format!("nor do {}", counted(more + 1, "more part")));
+        let more = parts
+            .len()
+            .checked_sub(TOLD_PARTS + 1)
+            .map(|more| format!("nor do {}", counted(more as u64 + 1, "more part")));
         told.chain(more).collect::<Vec<_>>().join("; ")
     }
 
@@ -132,7 +150,7 @@ impl<'a> Search<'a> {
         }
         let mut pairs: Vec<String> =
             pairs.iter().map(|pair| pair.map(|part| self.source.name(part)).join(" and ")).collect();
-        pairs.extend((more > 0).then(|| counted(more, "more pair")));
+        pairs.extend((more > 0).then(|| counted(more as u64, "more pair")));
         let others: String = pairs[1..].iter().map(|pair| format!(", nor do {pair}")).collect();
         format!("{accepting}; {} do not meet{others}", pairs[0])
     }

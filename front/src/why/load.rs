@@ -87,6 +87,9 @@ fn told(laid: &Laid, (position, command): (usize, Command)) -> String {
 fn unknown(laid: &Laid) -> Option<String> {
     let byte = laid.behind().first()?;
     Some(match laid.last {
+        None if byte.is_ascii_graphic() || byte.is_ascii_whitespace() || *byte == 0xEF => {
+            format!("{byte:02X} is no command: a table begins with Begin, 01. Is this a text table (--table) or hexadecimal text (--hex)?")
+        }
         None => format!("{byte:02X} is no command: a table begins with Begin, 01"),
         Some(last) => format!("{byte:02X} is no command, or {} has too few or too many bytes", told(laid, last)),
     })
@@ -123,5 +126,7 @@ fn too_many(laid: &Laid) -> Option<String> {
 fn not_rising(laid: &Laid) -> Option<String> {
     let spans = &laid.parts.last()?.spans;
     let drive = laid.name(laid.parts.len() - 1);
-    Some(format!("span {} of {drive} is not above {}, the one before", spans.len() + 1, spans.last()?))
+    let Command::Span { ticks } = laid.command()? else { return None };
+    let (place, before) = (spans.len() + 1, spans.last()?);
+    Some(format!("{ticks}, span {place} of {drive}, is not above the one before, {before}: sort the spans"))
 }

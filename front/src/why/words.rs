@@ -11,7 +11,7 @@ pub fn listed(things: &[String], joint: &str) -> String {
 }
 
 /// A count with what it counts: `1 byte`, `2 bytes`.
-pub fn counted(count: usize, what: &str) -> String {
+pub fn counted(count: u64, what: &str) -> String {
     format!("{count} {what}{}", if count == 1 { "" } else { "s" })
 }
 
