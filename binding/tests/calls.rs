@@ -258,6 +258,16 @@ fn refusals() {
 }
 
 #[test]
+fn a_table_of_all_parts() {
+    let parts: Vec<Vec<u8>> = (0..PARTS as i32).map(|number| part(0, number, 0, 0)).collect();
+    let model = accepted(&table(&parts));
+    assert_eq!(model.outputs(), Some((0..PARTS as i64).map(Some).collect()));
+    assert_eq!(model.parts().map(|parts| parts.len()), Some(PARTS));
+    assert_eq!(model.order(), Some((0..PARTS as u16).collect()));
+    assert_eq!(model.part(PARTS), None);
+}
+
+#[test]
 fn refused_advances_keep_the_model() {
     let drive = table(&[part(0, 1, 0, 0), part(11, 0, 0, 0), span(2), span(5), wire(0, 1, 0)]);
     let mut model = accepted(&drive);

@@ -20,7 +20,7 @@ pub enum Choice {
     #[default]
     All,
     Only(Vec<String>),
-    Sheet(Vec<String>),
+    Sheet([String; 3]),
 }
 
 /// All that the arguments say. Without a file it is standard input.
@@ -76,7 +76,7 @@ impl Arguments {
             "--text" => self.acting(Act::Text)?,
             "--save" => self.acting(Act::Save)?,
             "--only" => self.chosen(Choice::Only(listed(&value("parts with commas between")?)))?,
-            "--sheet" => self.chosen(Choice::Sheet(listed(&value("three parts with commas between")?)))?,
+            "--sheet" => self.chosen(Choice::Sheet(three(listed(&value("three parts with commas between")?))?))?,
             "--until" => once(option, &mut self.tick, value("a tick")?)?,
             "--step" => once(option, &mut self.step, value("a wanted step")?)?,
             _ => return Err(format!("{option}: no such option")),
@@ -84,6 +84,7 @@ impl Arguments {
         Ok(())
     }
 
+    /// Takes the form of the input.
     fn formed(&mut self, form: Form) -> Result<(), String> {
         match self.form.replace(form) {
             Some(other) if other != form => Err("--hex and --table: the input has one form".to_string()),
@@ -91,6 +92,7 @@ impl Arguments {
         }
     }
 
+    /// Takes what is to be done.
     fn acting(&mut self, act: Act) -> Result<(), String> {
         match std::mem::replace(&mut self.act, act) {
             other if other != act && other != Act::Rehearse => {
@@ -100,6 +102,7 @@ impl Arguments {
         }
     }
 
+    /// Takes the choice of outputs.
     fn chosen(&mut self, choice: Choice) -> Result<(), String> {
         match std::mem::replace(&mut self.choice, choice) {
             Choice::All => Ok(()),
@@ -118,9 +121,6 @@ impl Arguments {
 
     /// Whether the options go together.
     fn together(&self) -> Result<(), String> {
-        if matches!(&self.choice, Choice::Sheet(parts) if parts.len() != 3) {
-            return Err("--sheet: three parts with commas between are wanted, as in --sheet 0,1,2".to_string());
-        }
         let columns = self.names || self.choice != Choice::All;
         if self.act != Act::Rehearse && columns {
             return Err("--names, --only and --sheet are for a rehearsal's lines".to_string());
@@ -135,6 +135,12 @@ impl Arguments {
 /// The words between commas, without blanks around them.
 fn listed(words: &str) -> Vec<String> {
     words.split(',').map(|word| word.trim().to_string()).collect()
+}
+
+/// The three parts of a sheet.
+fn three(parts: Vec<String>) -> Result<[String; 3], String> {
+    let wanted = "--sheet: three parts with commas between are wanted, as in --sheet 0,1,2";
+    parts.try_into().map_err(|_| wanted.to_string())
 }
 
 /// Takes an option's value, unless it has one.

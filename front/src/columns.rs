@@ -18,16 +18,16 @@ const SHEET_OUTPUT: usize = 11;
 impl Columns {
     /// The columns of a choice, or which part of it the table does not have.
     pub fn of_choice(choice: &Choice, source: &Source, model: &Model) -> Result<Columns, String> {
-        let numbers = |option: &str, parts: &[String]| -> Result<Vec<usize>, String> {
-            parts.iter().map(|part| number(option, part, source, model)).collect()
-        };
+        let part_of = |option: &str, part: &str| number(option, part, source, model);
         Ok(match choice {
             Choice::All => Columns::All,
-            Choice::Only(parts) => Columns::Only(numbers("--only", parts)?),
-            Choice::Sheet(parts) => match numbers("--sheet", parts)?[..] {
-                [first, second, third] => Columns::Sheet([first, second, third]),
-                _ => Columns::All,
-            },
+            Choice::Only(parts) => {
+                Columns::Only(parts.iter().map(|part| part_of("--only", part)).collect::<Result<_, _>>()?)
+            }
+            Choice::Sheet([first, second, third]) => {
+                let part_of = |part| part_of("--sheet", part);
+                Columns::Sheet([part_of(first)?, part_of(second)?, part_of(third)?])
+            }
         })
     }
 
@@ -70,7 +70,8 @@ impl Columns {
 /// The number of a part that is told by name or by number.
 fn number(option: &str, part: &str, source: &Source, model: &Model) -> Result<usize, String> {
     let named = source.names.iter().position(|name| name == part);
-    let numbered = || part.parse().ok().filter(|&number: &usize| number < source.names.len());
+    let digits = part.bytes().all(|byte| byte.is_ascii_digit());
+    let numbered = || part.parse().ok().filter(|&number: &usize| digits && number < source.names.len());
     let count = model.count();
     named.or_else(numbered).ok_or_else(|| {
         format!(
@@ -81,6 +82,7 @@ fn number(option: &str, part: &str, source: &Source, model: &Model) -> Result<us
     })
 }
 
+/// Writes an output behind what stands on the line.
 fn output(signal: Option<i64>, out: &mut dyn Write) -> io::Result<()> {
     match signal {
         Some(value) => write!(out, " {value}"),

@@ -38,7 +38,7 @@ enum Rest {
 
 /// Reads a file, or standard input where there is none, in a form, or in that of its name. What goes wrong is told by messages.
 pub fn read(file: Option<&Path>, form: Option<Form>) -> Result<Input, Vec<String>> {
-    let title = file.map_or("standard input".to_string(), |path| path.display().to_string());
+    let title = file.map_or("standard input".to_string(), |path| plain(&path.display().to_string()));
     let wrong = |why: &str| vec![format!("rehearse: {title}: {why}")];
     let opened = file.map_or_else(of_standard_input, of_file).map_err(|why| wrong(&why))?;
     let form = form.unwrap_or_else(|| form_of(file));
@@ -56,14 +56,13 @@ pub fn read(file: Option<&Path>, form: Option<Form>) -> Result<Input, Vec<String
     }
 }
 
-/// The messages of a text's faults: so many of them, and how many more there are.
+/// The messages of a text's faults: so many of them, and whether there are more.
 fn faulty(title: &str, faults: &[reader::Fault]) -> Vec<String> {
     let told = faults.iter().take(FAULTS).map(|fault| format!("{title}:{}: {}", fault.line, plain(&fault.message)));
-    let more = faults.len().saturating_sub(FAULTS);
-    told.chain((more > 0).then(|| format!("{title}: and {more} more"))).collect()
+    told.chain((faults.len() > FAULTS).then(|| format!("{title}: and more"))).collect()
 }
 
-/// A message without control characters, and not longer than a reader can take.
+/// A message or a name without control characters, and not longer than a reader can take.
 fn plain(message: &str) -> String {
     let shown: String = message.chars().take(LONGEST).flat_map(shown).collect();
     let more = if message.chars().nth(LONGEST).is_some() { "…" } else { "" };
@@ -78,16 +77,17 @@ fn shown(character: char) -> Vec<char> {
     }
 }
 
-/// The form that a file's name tells; standard input is bytes.
+/// The form that a file's name tells, in capitals or not; standard input is bytes.
 fn form_of(file: Option<&Path>) -> Form {
-    let ending = file.and_then(|path| path.extension()).map(|ending| ending.to_ascii_lowercase());
-    match ending.as_ref().and_then(|ending| ending.to_str()) {
-        Some("table") => Form::Table,
-        Some("hex") => Form::Hex,
+    let name = file.map(|path| path.as_os_str().as_encoded_bytes().to_ascii_lowercase()).unwrap_or_default();
+    match name {
+        name if name.ends_with(b".table") => Form::Table,
+        name if name.ends_with(b".hex") => Form::Hex,
         _ => Form::Bytes,
     }
 }
 
+/// A file, opened.
 fn of_file(path: &Path) -> Result<File, String> {
     if path.is_dir() {
         return Err("it is a directory".to_string());
@@ -98,8 +98,9 @@ fn of_file(path: &Path) -> Result<File, String> {
     })
 }
 
+/// Standard input as a file, so that no more of it is read than is asked for.
 fn of_standard_input() -> Result<File, String> {
-    io::stdin().as_fd().try_clone_to_owned().map(File::from).map_err(|_| "it is closed".to_string())
+    io::stdin().as_fd().try_clone_to_owned().map(File::from).map_err(|_| "it cannot be read".to_string())
 }
 
 /// All of a text.
@@ -138,7 +139,7 @@ impl Input {
     pub fn unread(self) -> Option<String> {
         let (least, count) = match self.rest {
             Rest::Known(count) => ("", count),
-            Rest::Open(file) => counted(file),
+            Rest::Open(file) => counted_on(file),
         };
         let title = self.source.title;
         (count > 0).then(|| format!("rehearse: {title}: {least}{count} bytes behind the first {LIMIT} were not read"))
@@ -146,7 +147,7 @@ impl Input {
 }
 
 /// How many bytes come from a file within the patience, and whether there may be more.
-fn counted(mut file: File) -> (&'static str, u64) {
+fn counted_on(mut file: File) -> (&'static str, u64) {
     let count = Arc::new(AtomicU64::new(0));
     let (ended, end) = mpsc::channel();
     let counter = Arc::clone(&count);
@@ -154,9 +155,11 @@ fn counted(mut file: File) -> (&'static str, u64) {
         let mut buffer = vec![0; LIMIT];
         while counter.load(Ordering::Relaxed) < COUNTED {
             match file.read(&mut buffer) {
-                Ok(0) | Err(_) => return ended.send(()).unwrap_or_default(),
-                Ok(more) => counter.fetch_add(more as u64, Ordering::Relaxed),
-            };
+                Ok(0) => return ended.send(()).unwrap_or_default(),
+                Ok(more) => drop(counter.fetch_add(more as u64, Ordering::Relaxed)),
+                Err(error) if error.kind() == io::ErrorKind::Interrupted => {}
+                Err(_) => return,
+            }
         }
     });
     let least = if end.recv_timeout(PATIENCE).is_ok() { "" } else { "at least " };

@@ -30,9 +30,6 @@ pub const KIND_WORDS: [KindWords; 13] = [
     kind("clapper", &["a", "b"], 1, &[]),
 ];
 
-/// The number of the kind that takes spans.
-pub const DRIVE: u8 = 11;
-
 impl KindWords {
     /// Whether it names an operand. A preference every kind may have.
     pub fn names(&self, operand: &str) -> bool {

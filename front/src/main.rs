@@ -5,13 +5,13 @@
 //!
 //! Status 0: rehearsed, refusals included, or written. 2: bad usage, a file or a text that cannot be read, or a part that is not there.
 //! 3: not all lines could be written. 4: no table is saved, or not all of it written as text, since its load or a byte of its score is
-//! refused. 5: --strict, and something was refused.
+//! refused. 5: --strict, and something was refused. 141: the reader of a pipe has gone.
 use dozhumek::load;
 use front::arguments::{Act, Arguments, Choice};
 use front::columns::Columns;
 use front::explain::explain;
 use front::input;
-use front::play::{load_refused, play, refused_at, score_line};
+use front::play::{play, refused_at, score_line, told_load};
 use front::source::{Play, Source};
 use front::told::Told;
 use front::{why, writer};
@@ -54,7 +54,7 @@ fn run(arguments: &Arguments, told: &mut Told) -> u8 {
     let status = match result {
         Ok(REFUSED) if !arguments.strict => DONE,
         Ok(status) => status,
-        Err(error) if error.kind() == ErrorKind::BrokenPipe => return READER_GONE,
+        Err(error) if error.kind() == ErrorKind::BrokenPipe => READER_GONE,
         Err(_) => {
             told.say("rehearse: not all lines could be written");
             UNWRITTEN
@@ -85,6 +85,7 @@ fn act(arguments: &Arguments, source: &Source, out: &mut dyn Write, told: &mut T
     }
 }
 
+/// The status by whether anything was refused.
 fn status_of(refused: bool) -> u8 {
     if refused {
         REFUSED
@@ -105,7 +106,8 @@ fn rehearse(
         Ok(loaded) => loaded,
         Err(refused) => {
             score_line(&refused, out)?;
-            told.say(&load_refused(source, &refused));
+            out.flush()?;
+            told.say(&told_load(source, &refused));
             return Ok(REFUSED);
         }
     };
@@ -128,7 +130,7 @@ fn text(source: &Source, out: &mut dyn Write, told: &mut Told) -> io::Result<u8>
     let loaded = match load(&source.bytes) {
         Ok(loaded) => loaded,
         Err(refused) => {
-            let message = load_refused(source, &refused);
+            let message = told_load(source, &refused);
             out.write_all(writer::write_refused(source, &refused, &message).as_bytes())?;
             told.say(&message);
             return Ok(NO_TABLE);
@@ -138,7 +140,7 @@ fn text(source: &Source, out: &mut dyn Write, told: &mut Told) -> io::Result<u8>
     out.write_all(written.text.as_bytes())?;
     let Some(refused) = written.refused else { return Ok(DONE) };
     let message = refused_at(source, &refused, refused.position, &why::score_refused(source, &refused));
-    writeln!(out, "# {message}")?;
+    out.write_all(writer::ended(&refused, &message).as_bytes())?;
     told.say(&message);
     Ok(NO_TABLE)
 }
@@ -151,7 +153,7 @@ fn save(source: &Source, out: &mut dyn Write, told: &mut Told) -> io::Result<u8>
             Ok(DONE)
         }
         Err(refused) => {
-            told.say(&format!("{}: no table is saved", load_refused(source, &refused)));
+            told.say(&format!("{}: no table is saved", told_load(source, &refused)));
             Ok(NO_TABLE)
         }
     }

@@ -5,6 +5,7 @@ use crate::source::{Form, Play, Source};
 use crate::told::Told;
 use crate::why;
 use crate::why::counted;
+use crate::writer::play_text;
 use dozhumek::{Answer, Loaded, Model, Refused, RefusedAt, Score};
 use std::io::{self, Write};
 
@@ -53,7 +54,7 @@ pub fn refused_at(source: &Source, refused: &RefusedAt, position: usize, why: &s
 }
 
 /// How a refused load is told.
-pub fn load_refused(source: &Source, refused: &RefusedAt) -> String {
+pub fn told_load(source: &Source, refused: &RefusedAt) -> String {
     refused_at(source, refused, why::place_of(source, refused), &why::load_refused(source, refused))
 }
 
@@ -128,6 +129,7 @@ impl Rehearsal<'_> {
             Play::Want { step, times } => {
                 for _ in 0..times {
                     if let Some(why) = self.step(step.into(), out)? {
+                        out.flush()?;
                         told.say(&format!("{}: {why}", entry.place));
                     }
                     told.called(self.model.t(), None);
@@ -135,6 +137,7 @@ impl Rehearsal<'_> {
             }
             Play::Until { tick, step } => {
                 let run = self.until((tick, step), told, |rehearsal, wanted| rehearsal.step(wanted, out))?;
+                out.flush()?;
                 told.say(&format!("{}: {}", entry.place, self.ended(tick, &run)));
             }
         }
@@ -161,7 +164,11 @@ pub fn play(
             Ok(entry) => rehearsal.entry(&entry, out, told)?,
             Err(refused) => {
                 score_line(&refused, out)?;
+                out.flush()?;
                 told.say(&refused_at(source, &refused, refused.position, &why::score_refused(source, &refused)));
+                if let Some(play) = until {
+                    told.say(&format!("rehearse: {}: not played, since the score has ended", play_text(&play)));
+                }
                 rehearsal.refused = true;
             }
         }

@@ -25,6 +25,12 @@ const POINTS: &str = "0 to 1000000000000000000";
 /// How often a line may want its step.
 const MOST_TIMES: u64 = 1_000_000_000;
 
+/// Behind so many faults no more is read.
+const MOST_FAULTS: usize = 1000;
+
+/// How many characters a name may have.
+const LONGEST_NAME: usize = 64;
+
 /// How many parts a wire's byte can name.
 const NAMEABLE: usize = 256;
 
@@ -48,16 +54,19 @@ struct Draft {
     faults: Vec<Fault>,
 }
 
-/// The text table in these bytes, or all its faults, by their lines.
+/// The text table in these bytes, or its faults, by their lines: all of them, but for a text that is none.
 pub fn read(title: &str, text: &[u8]) -> Result<Source, Vec<Fault>> {
     let mut draft = Draft::default();
     for (number, bytes) in unmarked(text).split(|&byte| byte == b'\n').enumerate() {
-        let entry = bytes.split(|&byte| byte == b'#').next().unwrap_or_default();
+        let entry = bytes.strip_suffix(b"\r").unwrap_or(bytes).split(|&byte| byte == b'#').next().unwrap_or_default();
         let result = match std::str::from_utf8(entry) {
             Ok(entry) => draft.entry(number + 1, entry),
             Err(_) => Err("this is not UTF-8 text".to_string()),
         };
         draft.faults.extend(result.err().map(|message| Fault { line: number + 1, message }));
+        if draft.faults.len() == MOST_FAULTS {
+            break;
+        }
     }
     draft.source(title)
 }
@@ -70,14 +79,17 @@ pub fn unmarked(text: &[u8]) -> &[u8] {
 impl Draft {
     /// Takes a line's entry.
     fn entry(&mut self, line: usize, entry: &str) -> Result<(), String> {
-        let words: Vec<&str> = entry.split_whitespace().collect();
+        if let Some(other) = entry.chars().find(|&c| !blank(c) && (c.is_whitespace() || c.is_control())) {
+            return Err(format!("{}: blanks and tabs part words, and no other such character", other.escape_default()));
+        }
+        let words: Vec<&str> = entry.split(blank).filter(|word| !word.is_empty()).collect();
         match words[..] {
             [] => Ok(()),
             ["tick", magnitude] => self.tick(line, magnitude),
             ["tick", ..] => Err("a tick line is tick MAGNITUDE, as in tick 2".to_string()),
             ["part", name, kind, ref operands @ ..] => self.part(line, name, kind, operands),
             ["part", ..] => Err("a part line is part NAME KIND OPERANDS, as in part gravity constant a=-1".to_string()),
-            ["wire", ..] => self.wire(line, entry.trim_start().strip_prefix("wire").unwrap_or_default()),
+            ["wire", ref ends @ ..] => self.wire(line, &ends.join(" ")),
             ["want", step] => self.want(line, step, "x1"),
             ["want", step, times] => self.want(line, step, times),
             ["want", ..] => Err("a want line is want STEP or want STEP xTIMES, as in want 8 x5".to_string()),
@@ -87,6 +99,7 @@ impl Draft {
         }
     }
 
+    /// Takes the default magnitude.
     fn tick(&mut self, line: usize, magnitude: &str) -> Result<(), String> {
         if let Some((earlier, _)) = self.tick {
             return Err(format!("tick stands on line {earlier} already"));
@@ -127,7 +140,7 @@ impl Draft {
         if let Some((name, _)) = source.split_once('.') {
             return Err(format!("{source}: a source has no port, as in wire {name} -> {receiver}.{port}"));
         }
-        if [source, receiver, port].iter().any(|word| word.is_empty() || word.contains(char::is_whitespace)) {
+        if well_named(source).and(well_named(receiver)).is_err() || port.contains(blank) {
             return Err(form());
         }
         let port = number(port, &format!("port {port} of {receiver}"), "0 or 1")?;
@@ -135,6 +148,7 @@ impl Draft {
         Ok(())
     }
 
+    /// Takes a wanted step, and how often it is wanted.
     fn want(&mut self, line: usize, step: &str, times: &str) -> Result<(), String> {
         let step = number(step, &format!("want {step}"), TICKS)?;
         let digits =
@@ -144,6 +158,7 @@ impl Draft {
         Ok(())
     }
 
+    /// Takes steps until a tick.
     fn until(&mut self, line: usize, tick: &str, step: &str) -> Result<(), String> {
         self.score.push((line, until(tick, step)?));
         Ok(())
@@ -187,6 +202,11 @@ impl Draft {
     }
 }
 
+/// Whether a character parts words.
+fn blank(character: char) -> bool {
+    matches!(character, ' ' | '\t')
+}
+
 /// A number that its field can hold, whether it is in its range or not.
 fn number<T: TryFrom<i128>>(text: &str, told: &str, range: &str) -> Result<T, String> {
     let digits = text.strip_prefix(['-', '+']).unwrap_or(text);
@@ -216,10 +236,13 @@ pub fn until(tick: &str, step: &str) -> Result<Play, String> {
 /// Whether a name begins with a letter or `_`, and goes on with letters, digits, `_` and `-`.
 fn well_named(name: &str) -> Result<(), String> {
     let begins = |c: char| c.is_alphabetic() || c == '_';
-    if name.starts_with(begins) && name.chars().all(|c| c.is_alphanumeric() || c == '_' || c == '-') {
-        return Ok(());
+    if !name.starts_with(begins) || !name.chars().all(|c| c.is_alphanumeric() || c == '_' || c == '-') {
+        return Err(format!("{name}: a name begins with a letter or _ and goes on with letters, digits, _ and -"));
     }
-    Err(format!("{name}: a name begins with a letter and goes on with letters, digits, _ and -"))
+    match name.chars().nth(LONGEST_NAME) {
+        Some(_) => Err(format!("{name}: a name has at most {LONGEST_NAME} characters")),
+        None => Ok(()),
+    }
 }
 
 /// The kinds, for a message.
@@ -273,5 +296,6 @@ fn preferred(text: &str) -> Result<u8, String> {
 
 /// The spans of a drive, with commas between.
 fn spans(text: &str) -> Result<Vec<u32>, String> {
-    text.split(',').map(|span| number(span, &format!("spans={text}"), TICKS)).collect()
+    let told = format!("spans={text}");
+    text.split(',').map(|span| number(span, &told, TICKS)).collect()
 }

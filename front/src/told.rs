@@ -34,7 +34,7 @@ impl Told {
         Told { listener, showing: false, shown: false, calls: 0, looked: Instant::now(), last: String::new() }
     }
 
-    /// Tells a message, unless it was the last one too: what is refused again at the same point is told once.
+    /// Tells a message, unless it was the last one too: what one line wants again at the same point is refused again, and told once.
     pub fn say(&mut self, message: &str) {
         if self.last == message {
             return;

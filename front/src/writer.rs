@@ -22,15 +22,21 @@ pub fn write(source: &Source, loaded: &Loaded) -> Result<Written, Refusal> {
 }
 
 /// The text of a stream whose load is refused: what comes before the refusal, and that as a comment. Behind a refused End it goes on
-/// with the score.
+/// with the score; any other command that is refused ends it.
 pub fn write_refused(source: &Source, refused: &RefusedAt, told: &str) -> String {
     let mut text = table(source, &source.bytes[..refused.position]);
-    line(&mut text, &format!("# {told}"));
-    if Command::read(&source.bytes[refused.position..]) == Some(Command::End) {
-        let (score, _) = score(source, refused.position + 1);
-        score.iter().for_each(|play| line(&mut text, &play_text(play)));
+    if Command::read(&source.bytes[refused.position..]) != Some(Command::End) {
+        return text + &ended(refused, told);
     }
+    line(&mut text, &format!("# {told}"));
+    let (score, _) = score(source, refused.position + 1);
+    score.iter().for_each(|play| line(&mut text, &play_text(play)));
     text
+}
+
+/// The end of a text where a command is refused: why, and a line that no text table has, so that what comes before is not taken for all.
+pub fn ended(refused: &RefusedAt, told: &str) -> String {
+    format!("# {told}\nrefused {} at {}\n", refused.refusal.number(), refused.position)
 }
 
 /// The lines of a table's commands.
@@ -66,6 +72,7 @@ fn spans(commands: &[Command]) -> String {
     spans.collect::<Vec<String>>().join(",")
 }
 
+/// Puts a line behind a text.
 fn line(text: &mut String, entry: &str) {
     text.push_str(entry);
     text.push('\n');

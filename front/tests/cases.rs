@@ -27,8 +27,9 @@ enum Part {
 
 /// A file's text with the characters that cannot be seen.
 fn unseen(text: &str) -> String {
-    let characters = [("\\r", "\r"), ("\\u{FEFF}", "\u{FEFF}"), ("\\u{1B}", "\u{1B}"), ("\\u{0}", "\0")];
-    characters.iter().fold(text.to_string(), |text, (written, meant)| text.replace(written, meant))
+    let codes = ['\u{FEFF}', '\u{1B}', '\0', '\u{B}', '\u{C}', '\u{A0}', '\u{2003}'];
+    let text = text.replace("\\r", "\r");
+    codes.iter().fold(text, |text, &code| text.replace(&format!("\\u{{{:X}}}", code as u32), &code.to_string()))
 }
 
 /// A line of a text, as it is meant.

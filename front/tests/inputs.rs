@@ -1,6 +1,6 @@
 //! Inputs and outputs that no text can show: bytes that are no text, streams that are too long, readers that go away, a full device.
 use std::fs::{self, File};
-use std::io::{Read, Write};
+use std::io::{Read, Seek, SeekFrom, Write};
 use std::path::PathBuf;
 use std::process::{Command, Output, Stdio};
 
@@ -65,12 +65,44 @@ fn what_is_not_read_of_standard_input_is_told() {
 }
 
 #[test]
+fn standard_input_is_read_from_where_it_stands() {
+    let bytes = [vec![9; 100], stream(14_000)].concat();
+    let mut opened = File::open(file("begun", &bytes)).expect("a file");
+    opened.seek(SeekFrom::Start(100)).expect("a place");
+    let output = command(&["--names"]).stdin(opened).output().expect("its answer");
+    assert_eq!(output.stdout, piped(&["--names"], &stream(14_000)).stdout);
+    let unread = "rehearse: standard input: 4482 bytes behind the first 65536 were not read\n";
+    assert!(told(&output).ends_with(unread), "{}", told(&output));
+}
+
+#[test]
 fn a_stream_of_65536_bytes_is_read_whole() {
     let mut bytes = stream(13_103);
     bytes.extend([6, 7, 0]);
     assert_eq!(bytes.len(), 65_536);
     let output = piped(&["--only", "0"], &bytes);
-    assert!(!told(&output).contains("not read"), "{}", told(&output));
+    assert_eq!((output.status.code(), output.stdout.ends_with(b"\nrefused 1 at 65533\n")), (Some(0), true));
+    let why = "refused 1 at 65533: the 65536 bytes that are read end inside the wanted step";
+    assert_eq!(told(&output), format!("standard input: {why}\n"));
+}
+
+#[test]
+fn lines_and_messages_come_in_their_order() {
+    let name = file("order.table", b"part x constant a=3\nwant 7\nwant 0\nwant 1\n");
+    let (out, err) = (file("order.out", b""), format!("{name}:3: refused 20: a wanted step is 1 to 1000000000, not 0"));
+    let both = File::options().append(true).open(&out).expect("a file");
+    let again = both.try_clone().expect("the file again");
+    command(&[&name]).stdout(both).stderr(again).status().expect("its end");
+    let lines = fs::read_to_string(out).expect("the lines");
+    assert_eq!(lines, format!("7 0 7 1 0 3\nrefused 20\n{err}\n8 0 1 1 0 3\n"));
+}
+
+#[test]
+fn many_spans_and_faults_take_no_time() {
+    let spans = file("spans.table", format!("part d drive spans={}\n", vec!["1"; 500_000].join(",")).as_bytes());
+    assert!(told(&command(&[&spans]).output().expect("its answer")).contains("refused 12: 1, span 2 of d"));
+    let faults = file("faults.table", "x\n".repeat(1 << 20).as_bytes());
+    assert_eq!(told(&command(&[&faults]).output().expect("its answer")).lines().count(), 21);
 }
 
 #[test]

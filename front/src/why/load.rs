@@ -3,6 +3,7 @@ use super::laid::Laid;
 use super::words::command;
 use super::{operands, wires};
 use crate::command::Command;
+use crate::input::LIMIT;
 use crate::source::Source;
 use dozhumek::{Refusal, RefusedAt};
 
@@ -43,7 +44,7 @@ pub fn score_refused(source: &Source, refused: &RefusedAt) -> String {
     let behind = source.bytes.get(refused.position..).unwrap_or(&[]);
     let byte = behind.first().copied().unwrap_or(0);
     match (refused.refusal, command(byte)) {
-        (Refusal::Cut, Some((name, length))) => cut_command(name, behind.len(), length),
+        (Refusal::Cut, Some((name, length))) => cut_command(source, name, behind.len(), length),
         (Refusal::UnknownCommand, _) => {
             format!("{byte:02X} is no command: behind End there are wanted steps, 06, alone")
         }
@@ -55,7 +56,10 @@ pub fn score_refused(source: &Source, refused: &RefusedAt) -> String {
 }
 
 /// A command of which only some bytes are there.
-fn cut_command(name: &str, there: usize, length: usize) -> String {
+fn cut_command(source: &Source, name: &str, there: usize, length: usize) -> String {
+    if source.bytes.len() == LIMIT {
+        return format!("the {LIMIT} bytes that are read end inside {name}");
+    }
     let missing = length.saturating_sub(there);
     let are = if missing == 1 { "is" } else { "are" };
     format!("the stream ends inside {name}: {missing} of its {length} bytes {are} missing")
@@ -64,7 +68,9 @@ fn cut_command(name: &str, there: usize, length: usize) -> String {
 /// The stream ends before End, or inside a command.
 fn cut(laid: &Laid) -> Option<String> {
     match (laid.behind().first(), laid.last) {
-        (Some(&byte), _) => command(byte).map(|(name, length)| cut_command(name, laid.behind().len(), length)),
+        (Some(&byte), _) => {
+            command(byte).map(|(name, length)| cut_command(laid.source, name, laid.behind().len(), length))
+        }
         (None, None) => Some("the stream is empty: Begin is missing".to_string()),
         (None, Some(last)) => Some(format!("the stream ends behind {}: End is missing", told(laid, last))),
     }

@@ -3,9 +3,10 @@ use super::laid::{Laid, LaidPart};
 use crate::command::{Command, NO_PREFERENCE};
 use crate::kinds::{of_number, KIND_WORDS};
 use crate::source::Form;
+use dozhumek::LAST_TICK;
 
-const BILLION: i64 = 1_000_000_000;
-const LAST_TICK: u128 = 1_000_000_000_000_000_000;
+/// The largest value, p and span.
+const LARGEST: i64 = 1_000_000_000;
 const LARGEST_MAGNITUDE: u8 = 15;
 
 /// All that is wrong with the operands of the command at the position.
@@ -22,7 +23,7 @@ pub fn out_of_range(laid: &Laid) -> Option<String> {
         }
         Command::Span { ticks } => {
             let (spans, drive) = (laid.parts.last()?.spans.len(), laid.name(laid.parts.len() - 1));
-            vec![outside(&format!("span {} of {drive}", spans + 1), ticks.into(), 1, BILLION)]
+            vec![outside(&format!("span {} of {drive}", spans + 1), ticks.into(), 1, LARGEST)]
         }
         _ => Vec::new(),
     };
@@ -49,11 +50,11 @@ fn wrong_operands(name: &str, kind: u8, operands: [i64; 3]) -> Vec<String> {
     };
     let mut wrong = Vec::new();
     for (operand, value) in ["a", "b", "p"].into_iter().zip(operands) {
-        let low = if operand == "p" { 1 } else { -BILLION };
+        let low = if operand == "p" { 1 } else { -LARGEST };
         if !words.names(operand) && value != 0 {
             wrong.push(format!("{operand} of {name} is {value}, but a part of kind {} has no {operand}", words.word));
-        } else if words.names(operand) && !(low..=BILLION).contains(&value) {
-            wrong.push(outside(&format!("{operand} of {name}"), value, low, BILLION));
+        } else if words.names(operand) && !(low..=LARGEST).contains(&value) {
+            wrong.push(outside(&format!("{operand} of {name}"), value, low, LARGEST));
         }
     }
     wrong
@@ -69,7 +70,7 @@ fn long<'a>(laid: &'a Laid) -> impl Iterator<Item = (usize, &'a LaidPart, u32)> 
     };
     let parts = laid.parts.iter().enumerate().map(move |(number, part)| (number, part, power(part)));
     let ratio = |power: u32| 10u128.checked_pow(power).unwrap_or(u128::MAX);
-    parts.filter(move |(_, part, power)| u128::from(part.p).saturating_mul(ratio(*power)) > LAST_TICK)
+    parts.filter(move |(_, part, power)| u128::from(part.p).saturating_mul(ratio(*power)) > LAST_TICK.into())
 }
 
 /// Each P that is above 10^18.
@@ -84,6 +85,6 @@ pub fn too_long(laid: &Laid) -> Option<String> {
 
 /// Where the first part with such a P stands.
 pub fn first_too_long(laid: &Laid) -> Option<usize> {
-    let first = long(laid).next().map(|(_, part, _)| part.position);
-    first
+    let mut long = long(laid);
+    long.next().map(|(_, part, _)| part.position)
 }

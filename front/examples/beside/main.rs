@@ -1,6 +1,6 @@
 //! Holds what the front says beside what the proved calls answer, on the differential test's streams.
 //!
-//!     streams [--cases N] [--seed S] [--only CASE]
+//!     beside [--cases N] [--seed S] [--only CASE]
 //!
 //! The streams that `differ` sweeps, and then so many generated ones, are loaded. Of an accepted one the score is played, then
 //! wanted steps at random, and then some from ticks that no score leads to; each answer has to be the one that the accepted steps
@@ -30,7 +30,7 @@ mod steps;
 #[path = "../../../second/src/bin/differ/swept.rs"]
 mod swept;
 
-use dozhumek::{load, Score};
+use dozhumek::{load, Refusal, RefusedAt, Score};
 use front::source::Source;
 use front::why::{load_refused, place_of, score_refused};
 use random::Random;
@@ -60,6 +60,13 @@ fn try_stream(stream: &[u8], random: &mut Random, seen: &mut Seen) -> Result<(),
         match wanted {
             Ok(wanted) => score.push(wanted.into()),
             Err(refused) => seen.told(refused.refusal, &score_refused(&source, &refused))?,
+        }
+    }
+    for refusal in [Refusal::Loop, Refusal::PeriodTooLong] {
+        // Of a table that is accepted there is nothing to be told but the meaning.
+        let end = RefusedAt { refusal, position: loaded.position - 1 };
+        if load_refused(&source, &end) != refusal.meaning() {
+            return Err(format!("an accepted table is told to be refused: {}", load_refused(&source, &end)));
         }
     }
     steps::play(&source, loaded.model.clone(), &score, random, seen)?;
@@ -114,16 +121,16 @@ fn compare(Arguments { cases, seed, only }: &Arguments) -> Result<String, String
 
 fn main() -> ExitCode {
     let Some(arguments) = arguments() else {
-        eprintln!("usage: streams [--cases N] [--seed S] [--only CASE]");
+        eprintln!("usage: beside [--cases N] [--seed S] [--only CASE]");
         return ExitCode::from(2);
     };
     match compare(&arguments) {
         Ok(figures) => {
-            println!("streams: {figures}");
+            println!("beside: {figures}");
             ExitCode::SUCCESS
         }
         Err(what) => {
-            println!("streams: failed: {what}");
+            println!("beside: failed: {what}");
             ExitCode::FAILURE
         }
     }
