@@ -65,7 +65,7 @@ pub fn read(title: &str, text: &[u8]) -> Result<Source, Vec<Fault>> {
         };
         draft.faults.extend(result.err().map(|message| Fault { line: number + 1, message }));
         if draft.faults.len() == MOST_FAULTS {
-            break;
+            return Err(draft.faults);
         }
     }
     draft.source(title)

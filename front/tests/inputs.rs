@@ -101,8 +101,9 @@ fn lines_and_messages_come_in_their_order() {
 fn many_spans_and_faults_take_no_time() {
     let spans = file("spans.table", format!("part d drive spans={}\n", vec!["1"; 500_000].join(",")).as_bytes());
     assert!(told(&command(&[&spans]).output().expect("its answer")).contains("refused 12: 1, span 2 of d"));
-    let faults = file("faults.table", "x\n".repeat(1 << 20).as_bytes());
-    assert_eq!(told(&command(&[&faults]).output().expect("its answer")).lines().count(), 21);
+    let faults = file("faults.table", format!("wire a -> a.0\n{}part a gain\n", "x\n".repeat(1 << 20)).as_bytes());
+    let answer = told(&command(&[&faults]).output().expect("its answer"));
+    assert_eq!((answer.lines().count(), answer.contains("no part has this name")), (21, false));
 }
 
 #[test]
