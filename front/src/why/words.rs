@@ -1,5 +1,6 @@
 //! Small pieces of messages: lists, numbers of bytes, the names of commands, steps.
 use crate::accepted::Steps;
+use crate::command::Command;
 
 /// Things in a row: `a`, `a and b`, `a, b and c`, with the word that joins the last two.
 pub fn listed(things: &[String], joint: &str) -> String {
@@ -17,15 +18,19 @@ pub fn counted(count: u64, what: &str) -> String {
 
 /// The name of a command, and how many bytes it has; none for a byte that begins no command.
 pub fn command(byte: u8) -> Option<(&'static str, usize)> {
-    Some(match byte {
-        1 => ("Begin", 2),
-        2 => ("Part", 15),
-        3 => ("Span", 5),
-        4 => ("Wire", 4),
-        5 => ("End", 1),
-        6 => ("the wanted step", 5),
-        _ => return None,
-    })
+    // Zeros for its operands: no command has more of them.
+    let mut bytes = [0; 16];
+    bytes[0] = byte;
+    let command = Command::read(&bytes)?;
+    let name = match command {
+        Command::Begin { .. } => "Begin",
+        Command::Part { .. } => "Part",
+        Command::Span { .. } => "Span",
+        Command::Wire { .. } => "Wire",
+        Command::End => "End",
+        Command::Want { .. } => "the wanted step",
+    };
+    Some((name, command.length()))
 }
 
 /// Steps: `none`, `3`, `3 or 8`, `2, 5 to 6 or 9`.
