@@ -27,3 +27,13 @@ pub mod Rehearsals
 pub mod KindTable
 pub mod Crossings
 pub mod Clappers
+pub mod TimeRows
+pub mod SignalRows
+pub mod KindRows
+pub mod LoadRows
+pub mod SoundRows
+pub mod AdvanceRows
+pub mod ListRows
+pub mod ScoreRows
+pub mod SaveRows
+pub mod SheetRefusals

@@ -14,7 +14,7 @@ use Rattle.machine.specs.Load.{load}
 use Rattle.machine.specs.Rehearse.{refused-at-line}
 use Rattle.machine.specs.Sound.{sound}
 use Rattle.machine.specs.Writing.{WrittenAs}
-use Rattle.machine.specs.Save.{saved-bytes}
+use Rattle.machine.specs.Save.{saved-bytes, longest-table}
 use Rattle.soundness.specs.SavedBytes.{every-saved-model}
 use Rattle.writing.specs.Fitting.{size-told, enough-room, written-whole}
 use Rattle.store.specs.Held.{held}
@@ -35,8 +35,10 @@ told-whole bs text before after w refused known is written long =
     }
 
 -- the line of a refused load
-pub refusal-told : (bs before after : List ℕ) (r : Loaded) (w : Written) → trimmed-loaded r ≡ load bs → (r .number ≡ 0 → ⊥) → 2048 ≤ length before →
-    WrittenAs 0 (refused-at-line (r .number) (r .position)) before after w → w .length ≤ 64 → ToldOf bs after (record { refused = true; length = w .length })
+pub refusal-told : (bs before after : List ℕ) (r : Loaded) (w : Written) → trimmed-loaded r ≡ load bs →
+    (r .number ≡ 0 → ⊥) → longest-table ≤ length before →
+    WrittenAs 0 (refused-at-line (r .number) (r .position)) before after w → w .length ≤ 64 →
+    ToldOf bs after (record { refused = true; length = w .length })
 unfolding trimmed-loaded told-text
 refusal-told bs before after r w is some room written short =
     let number : load bs .number ≡ r .number = ap (λ (l : Loaded). l .number) (sym is) in
@@ -45,7 +47,8 @@ refusal-told bs before after r w is some room written short =
     (rw (number, position, ne-eqb (r .number) 0 some) refl) written (omega (arith, room, short, size-told written))
 
 -- the bytes of the table of an accepted one, whose model was put into words
-pub table-told : (bs ts ss before after : List ℕ) (r : Loaded) (w : Written) → trimmed-loaded r ≡ load bs → r .number ≡ 0 → 2048 ≤ length before →
+pub table-told : (bs ts ss before after : List ℕ) (r : Loaded) (w : Written) → trimmed-loaded r ≡ load bs →
+    r .number ≡ 0 → longest-table ≤ length before →
     ModelPut (r .model) ts ss → SavedInto ts ss before after w → ToldOf bs after (record { refused = false; length = w .length })
 unfolding trimmed-loaded told-text
 table-told bs ts ss before after r w is none room put saved =

@@ -6,16 +6,19 @@ use loading::load;
 use saving::save;
 use store::lookup::STATE_ROOM;
 use store::lookup::TABLE_ROOM;
-use transfer::intake::put_model;
+use transfer::intake::put_fitting;
 ghost use Prim.Native.Nat.{_≤_};
-ghost use lib.ListN.{length};
+ghost use mathlib.Core.Path.{_≡_};
+ghost use lib.ListN.{length, take};
+ghost use Rattle.machine.specs.Rehearse.{most-read};
+ghost use Rattle.machine.specs.Save.{longest-table};
 ghost use Rattle.savetable.specs.Telling.{ToldOf};
 
-// How many bytes of standard input are read. A stream is accepted or refused long before them: a table that fits has at most 2,019.
+// How many bytes of standard input are read, as many as `rehearse` reads.
 const MOST: usize = 65536;
 
-// How many bytes there is room for: those of the longest table, or the line of a refusal.
-const ROOM: usize = 2048;
+// How many bytes there is room for: those of the longest table, which the line of a refusal is shorter than.
+const ROOM: usize = 1891;
 
 // What there is to tell of a stream: whether its load was refused, and how many bytes of a buffer tell it.
 struct Told {
@@ -25,7 +28,7 @@ struct Told {
 
 // The bytes of the table of a stream, or the line of its refusal.
 fn tell(stream: &[u8], out: &mut [u8]) -> Told
-    requires { ⌜ 2048 ≤ length (now out) ⌝ }
+    requires { ⌜ longest-table ≤ length (now out) ⌝ }
     ensures { λ r. ⌜ ToldOf (now (stream .entry)) (now (out .exit)) r ⌝ }
 {
     let loaded = load(stream);
@@ -39,7 +42,7 @@ fn tell(stream: &[u8], out: &mut [u8]) -> Told
     let model = loaded.model;
     let mut table = [0u64; TABLE_ROOM];
     let mut state = [0u64; STATE_ROOM];
-    put_model(model, &mut table, &mut state);
+    put_fitting(model, &mut table, &mut state);
     let saved = save(&table, &state, out);
     Told {
         refused: false,
@@ -47,12 +50,23 @@ fn tell(stream: &[u8], out: &mut [u8]) -> Told
     }
 }
 
+// What there is to tell of the first `n` bytes of `room`. It is called with what was read into a buffer: one that has
+// room for all bytes that count, and for no other.
+fn tell_read(room: &[u8], n: usize, out: &mut [u8]) -> Told
+    requires { ⌜ length (now room) ≡ most-read ⌝ }
+    requires { ⌜ n ≤ length (now room) ⌝ }
+    requires { ⌜ longest-table ≤ length (now out) ⌝ }
+    ensures { λ r. ⌜ ToldOf (take n (now (room .entry))) (now (out .exit)) r ⌝ }
+{
+    tell(&room[..n], out)
+}
+
 // The table of the first 65,536 bytes of standard input, saved.
 fn main() {
     let mut room = [0u8; MOST];
     let n = io::read_full(0, &mut room);
     let mut text = [0u8; ROOM];
-    let told = tell(&room[..n], &mut text);
+    let told = tell_read(&room, n, &mut text);
     let end = told.length;
     if told.refused {
         io::write_all(2, &text[..end]);

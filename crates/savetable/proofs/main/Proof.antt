@@ -11,23 +11,20 @@ slice-aggregate-read-full c = search needs
 read-full-requires : tie.Need-read-full-requires
 read-full-requires c κs = search needs
 
-array-share-prefix-room : tie.Need-array-share-prefix-room
-array-share-prefix-room c = search needs
+slice-aggregate-tell-read : tie.Need-slice-aggregate-tell-read
+slice-aggregate-tell-read c = search needs
 
-slice-aggregate-tell : tie.Need-slice-aggregate-tell
-slice-aggregate-tell c = search needs
+slice-aggregate-tell-read-2 : tie.Need-slice-aggregate-tell-read-2
+slice-aggregate-tell-read-2 c = search needs
 
-slice-aggregate-tell-2 : tie.Need-slice-aggregate-tell-2
-slice-aggregate-tell-2 c = search needs
-
-tell-requires : tie.Need-tell-requires
-tell-requires c κs = search needs
+tell-read-requires : tie.Need-tell-read-requires
+tell-read-requires c κs = search needs
 
 array-share-prefix-text : tie.Need-array-share-prefix-text
 array-share-prefix-text c = search needs
 
 slice-aggregate-write-all : tie.Need-slice-aggregate-write-all
-slice-aggregate-write-all c = sym (length-take-le _ _ (c .before .before .before .tell .ensures .within))
+slice-aggregate-write-all c = sym (length-take-le _ _ (c .before .before .before .tell-read .ensures .within))
 
 write-all-requires : tie.Need-write-all-requires
 write-all-requires c κs = search needs
@@ -39,7 +36,7 @@ array-share-prefix-text-2 : tie.Need-array-share-prefix-text-2
 array-share-prefix-text-2 c = search needs
 
 slice-aggregate-write-all-2 : tie.Need-slice-aggregate-write-all-2
-slice-aggregate-write-all-2 c = sym (length-take-le _ _ (c .before .before .before .tell .ensures .within))
+slice-aggregate-write-all-2 c = sym (length-take-le _ _ (c .before .before .before .tell-read .ensures .within))
 
 write-all-requires-2 : tie.Need-write-all-requires-2
 write-all-requires-2 c κs = search needs
@@ -62,10 +59,9 @@ main-spec =
     (tie.spec
     slice-aggregate-read-full
     read-full-requires
-    array-share-prefix-room
-    slice-aggregate-tell
-    slice-aggregate-tell-2
-    tell-requires
+    slice-aggregate-tell-read
+    slice-aggregate-tell-read-2
+    tell-read-requires
     array-share-prefix-text
     slice-aggregate-write-all
     write-all-requires

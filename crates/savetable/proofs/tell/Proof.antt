@@ -24,14 +24,14 @@ returns c =
     refusal-told _ _ _ (loads .load .result) _ (loads .load .ensures .0) (refused .if1 .taken) (start .pre) (line .write-refused-at .ensures .0)
     (line .write-refused-at .ensures .1)
 
-slice-aggregate-put-model : tie.Need-slice-aggregate-put-model
-slice-aggregate-put-model c = search needs
+slice-aggregate-put-fitting : tie.Need-slice-aggregate-put-fitting
+slice-aggregate-put-fitting c = search needs
 
-slice-aggregate-put-model-2 : tie.Need-slice-aggregate-put-model-2
-slice-aggregate-put-model-2 c = search needs
+slice-aggregate-put-fitting-2 : tie.Need-slice-aggregate-put-fitting-2
+slice-aggregate-put-fitting-2 c = search needs
 
-put-model-requires : tie.Need-put-model-requires
-put-model-requires c κs =
+put-fitting-requires : tie.Need-put-fitting-requires
+put-fitting-requires c κs =
     let accepted = c .before .before .before in
     let loads = accepted .before .before in
     let few = accepted-few _ (loads .load .result) (loads .load .ensures .0) (accepted .if1 .left) in
@@ -56,7 +56,7 @@ returns-2 c =
     let accepted = puts .before .before .before .before in
     let loads = accepted .before .before in
     let start = loads .before .before .before in
-    table-told _ _ _ _ _ (loads .load .result) _ (loads .load .ensures .0) (accepted .if1 .left) (start .pre) (puts .put-model .ensures .0)
+    table-told _ _ _ _ _ (loads .load .result) _ (loads .load .ensures .0) (accepted .if1 .left) (start .pre) (puts .put-fitting .ensures .0)
     (saves .save .ensures)
 
 pub tell-spec : {M : Type 1} → statement M
@@ -67,9 +67,9 @@ tell-spec =
     write-refused-at-requires
     same-length
     returns
-    slice-aggregate-put-model
-    slice-aggregate-put-model-2
-    put-model-requires
+    slice-aggregate-put-fitting
+    slice-aggregate-put-fitting-2
+    put-fitting-requires
     slice-aggregate-save
     slice-aggregate-save-2
     save-requires
