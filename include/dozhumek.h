@@ -5,12 +5,19 @@
 // A model lies in words of 64 bits that the caller lends: those of a table, which no call but a load writes, and those of a
 // state. Every number is a word, a signed one in two's complement. The calls allocate nothing and keep nothing.
 //
+// Free words are those on which no answer depends: the value of a held signal or of an output that is absent, the spans
+// of a part after its count of spans, and the words after the model's. A load leaves 0 in the first three. An advance
+// or a preview that commits leaves 0 in the value of an absent output; that of an absent held signal is then 0, or the
+// old state's word. One that is refused and writes `next` leaves the old state's words there. The words after the
+// model's are kept.
+//
 // The caller owes what a slice is: a pointer that is not null (nor for no words) and is aligned, so many words or bytes behind
 // it, and that those lent for writing overlap no other. Nothing else is asked: any words, bytes and numbers are answered.
 //
-// Each call answers a number, DOZHUMEK_NOT_REFUSED or a refusal's, which is the first of the words that it writes into `out`
-// too. What lies behind the words and bytes that a call writes is kept. Where `out` is shorter than the call's words of it, the
-// number is DOZHUMEK_REFUSED_TOO_SHORT, and nothing is written anywhere.
+// Each call answers a number, DOZHUMEK_NOT_REFUSED or a refusal's, which is the first of its words for `out` too. What
+// a call answers and writes elsewhere does not depend on `out`: of its words those that `out` has room for are written,
+// from the first on, and the others are left out. An `out` of no words is enough for a caller that wants the number
+// alone. The words and bytes after those that a call writes are kept.
 #ifndef DOZHUMEK_H
 #define DOZHUMEK_H
 
@@ -39,9 +46,9 @@ extern "C" {
 #define DOZHUMEK_TABLE_AT(part, field) (DOZHUMEK_TABLE_WORDS(part) + (field))
 #define DOZHUMEK_STATE_AT(part, field) (DOZHUMEK_STATE_WORDS(part) + (field))
 
-// How many bytes always have room for the saved table of so many parts, and of any.
-#define DOZHUMEK_SAVE_BYTES(parts) (3 + 63 * (parts))
-#define DOZHUMEK_SAVE_MOST 2019
+// How many bytes the saved table of so many parts has at most, and that of any.
+#define DOZHUMEK_SAVE_BYTES(parts) (3 + 59 * (parts))
+#define DOZHUMEK_SAVE_MOST 1891
 
 // How many bytes a sheet's line has, with its line feed.
 #define DOZHUMEK_SHEET_LINE 79
@@ -51,7 +58,7 @@ extern "C" {
 #define DOZHUMEK_LAST_TICK UINT64_C(1000000000000000000)
 #define DOZHUMEK_LAST_MICROSTEP 999
 
-// How many words of `out` each call writes.
+// How many words each call has for `out`.
 #define DOZHUMEK_LOAD_OUT 2
 #define DOZHUMEK_ADVANCE_OUT 5
 #define DOZHUMEK_PREVIEW_OUT 5
@@ -202,9 +209,11 @@ enum dozhumek_refusal {
     DOZHUMEK_REFUSED_NOT_PRINTABLE = 26
 };
 
-// Loads the table at the start of a stream: with number 0 its fresh model is in `table` and `state`, and the position is that
-// behind End; with any other both are kept, and the position is that of the command at fault. An accepted table of k parts
-// that is lent fewer than DOZHUMEK_TABLE_WORDS(k) or DOZHUMEK_STATE_WORDS(k) words is too short, at the position behind End.
+// Loads the table at the start of a stream: with number 0 its fresh model is in `table` and `state`, and the position
+// is that after End; with any other both are kept. The position of a refusal is that of the command at fault, with 9,
+// 10 and 11 End's. With 1 it is that of the command that is cut, or the stream's length where no command follows. An
+// accepted table of k parts that is lent fewer than DOZHUMEK_TABLE_WORDS(k) or DOZHUMEK_STATE_WORDS(k) words is too
+// short, at the position after End.
 uint64_t dozhumek_load(const uint8_t *stream, size_t stream_length, uint64_t *table, size_t table_length, uint64_t *state,
     size_t state_length, uint64_t *out, size_t out_length);
 
@@ -227,11 +236,11 @@ uint64_t dozhumek_preview(const uint64_t *table, size_t table_length, const uint
 uint64_t dozhumek_save(const uint64_t *table, size_t table_length, const uint64_t *state, size_t state_length, uint8_t *buffer,
     size_t buffer_length, uint64_t *out, size_t out_length);
 
-// Prints the sheet's line of an answer: `outcome` is the DOZHUMEK_ADVANCE_OUT words that an advance or a preview wrote, any
-// numbers, `table` and `state` are the words of that answer's model, and `first`, `second` and `third` are the numbers of the
-// parts whose outputs are shown. With number 0 the line is at the front of `buffer`, its length DOZHUMEK_SHEET_LINE; with any
-// other the buffer is kept. Too short comes with that length too, 24 and 26 with length 0. Where `outcome` has fewer words the
-// call is too short, and nothing is written.
+// Prints the sheet's line of an answer: `outcome` is the DOZHUMEK_ADVANCE_OUT words that an advance or a preview wrote,
+// any numbers, `table` and `state` are the words of that answer's model, and `first`, `second` and `third` are the
+// numbers of the parts whose outputs are shown. With number 0 the line is at the front of `buffer`, its length
+// DOZHUMEK_SHEET_LINE; with any other the buffer is kept. Too short comes with that length too, 24 and 26 with length
+// 0. An `outcome` of fewer words spells no answer and is refused with 24, as words that spell no model are.
 uint64_t dozhumek_sheet(const uint64_t *table, size_t table_length, const uint64_t *state, size_t state_length,
     const uint64_t *outcome, size_t outcome_length, uint64_t first, uint64_t second, uint64_t third, uint8_t *buffer,
     size_t buffer_length, uint64_t *out, size_t out_length);

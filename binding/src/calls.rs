@@ -1,4 +1,6 @@
-//! The exported calls on slices of the caller's own. What they promise for every argument, `crates/boundary/specs/Exported.antt` says.
+//! The exported calls on slices of the caller's own. What they promise for every argument,
+//! `crates/boundary/specs/Exported.antt` says. Each answers its number whatever `out` has room for: of the answer's
+//! words those that fit are written into `out`, from the first on, and the words of `out` after them are kept.
 
 extern "C" {
     fn dozhumek_load(
@@ -60,8 +62,8 @@ extern "C" {
     ) -> u64;
 }
 
-/// The table at the start of a stream, loaded into the words of a table and of a state. Written into `out` are the number,
-/// which is the answer too, and the position.
+/// The table at the start of a stream, loaded into the words of a table and of a state. Written into `out`, as far as
+/// it has room, are the number, which is the answer too, and the position.
 pub fn load_into(stream: &[u8], table: &mut [u64], state: &mut [u64], out: &mut [u64]) -> u64 {
     // SAFETY: the slices are whole, and those that are written overlap no other, by their types.
     unsafe {
@@ -100,8 +102,9 @@ fn made(call: Exported, table: &[u64], old: &[u64], wanted: u64, new: &mut [u64]
     }
 }
 
-/// One advance of the model of a table's and an old state's words, by at most `wanted`, into the words of a new state. Written
-/// into `out` are the number, which is the answer too, step, rounds, revisions and last ceiling.
+/// One advance of the model of a table's and an old state's words, by at most `wanted`, into the words of a new state.
+/// Written into `out`, as far as it has room, are the number, which is the answer too, step, rounds, revisions and last
+/// ceiling.
 pub fn advance_into(table: &[u64], old: &[u64], wanted: u64, new: &mut [u64], out: &mut [u64]) -> u64 {
     made(dozhumek_advance, table, old, wanted, new, out)
 }
@@ -113,8 +116,9 @@ pub fn preview_into(table: &[u64], old: &[u64], wanted: u64, new: &mut [u64], ou
     made(dozhumek_preview, table, old, wanted, new, out)
 }
 
-/// The table of the model of these words, saved as bytes at the front of a buffer. Written into `out` are the number, which is
-/// the answer too, and the length: with number 0 that of the bytes, with 25 that of the buffer needed, else 0.
+/// The table of the model of these words, saved as bytes at the front of a buffer. Written into `out`, as far as it has
+/// room, are the number, which is the answer too, and the length: with number 0 that of the bytes, with 25 that of the
+/// buffer needed, else 0.
 pub fn save_into(table: &[u64], state: &[u64], buffer: &mut [u8], out: &mut [u64]) -> u64 {
     // SAFETY: the slices are whole, and those that are written overlap no other, by their types.
     unsafe {
@@ -131,10 +135,11 @@ pub fn save_into(table: &[u64], state: &[u64], buffer: &mut [u8], out: &mut [u64
     }
 }
 
-/// The sheet's line of an answer, printed at the front of a buffer: `table` and `state` are the words of the answer's model,
-/// `outcome` those that the advance or the preview wrote into its `out`, any numbers, and `choice` the parts whose outputs are
-/// shown. Written into `out` are the number, which is the answer too, and the length: with number 0 and with 25 that of a line,
-/// else 0.
+/// The sheet's line of an answer, printed at the front of a buffer: `table` and `state` are the words of the answer's
+/// model, `outcome` those that the advance or the preview wrote into its `out`, any numbers, and `choice` the parts
+/// whose outputs are shown. Fewer than five words of `outcome` spell no answer, and the number is 24. Written into
+/// `out`, as far as it has room, are the number, which is the answer too, and the length: with number 0 and with 25
+/// that of a line, else 0.
 pub fn sheet_into(
     table: &[u64],
     state: &[u64],

@@ -79,8 +79,10 @@ pub struct Part {
 impl Part {
     /// The part of these words; none where a code is no case's or a number is wider than its field.
     pub(crate) fn of_words(table: &[u64; TABLE_RECORD], state: &[u64; STATE_RECORD]) -> Option<Part> {
+        // The span words after the count are free.
+        let used = table[5].min(SPANS as u64) as usize;
         let mut spans = [0; SPANS];
-        for (span, &word) in spans.iter_mut().zip(&table[6..]) {
+        for (span, &word) in spans[..used].iter_mut().zip(&table[6..]) {
             *span = u32::try_from(word).ok()?;
         }
         Some(Part {

@@ -1,48 +1,56 @@
--- Laws behind the exported calls: words written at the start of a list, when a load is accepted, and what each call comes to. Assumes nothing.
+-- Laws of the exported calls: words put one after another, when a load is accepted, and what each call comes to once
+-- its answer is put in front of the words lent for it. Assumes nothing.
 use Prim.Native.Nat.{ℕ, zero, suc, _≤_, _<_}
 use native.Mathlib.Omega.{arith}
 use mathlib.Core.Path.{_≡_, refl, sym, ap, subst, _∙_}
-use mathlib.Core.List.{List, [], _∷_}
-use lib.ListN.{length, set, drop}
+use mathlib.Core.List.{List, [], _∷_, _++_}
+use lib.ListN.{length, set}
 use borrow.Author.Tests.{eq-eqb, ne-eqb, le-leb, lt-leb}
 use Rattle.machine.specs.declared.model.Model.{Model}
 use Rattle.machine.specs.declared.model.Loaded.{Loaded}
 use Rattle.machine.specs.declared.model.Written.{Written}
-use Rattle.machine.specs.Model.{trimmed, trimmed-loaded}
+use Rattle.machine.specs.Model.{most-parts, trimmed, trimmed-loaded}
 use Rattle.machine.specs.Load.{load}
 use Rattle.machine.specs.Sound.{sound}
 use Rattle.machine.specs.Advance.{Outcome}
 use Rattle.machine.specs.Writing.{WrittenAs}
-use Rattle.machine.specs.Sheet.{sheet-line}
-use Rattle.store.specs.Held.{table-words, state-words-of}
-use Rattle.transfer.specs.ModelPut.{KeptBehind, ModelPut}
+use Rattle.store.specs.Clean.{CleanWords}
+use Rattle.writing.specs.Fitting.{nothing-written}
+use Rattle.transfer.specs.ModelPut.{KeptBehind}
+use Rattle.transfer.specs.PutInto.{put-number, PutInto}
 use Rattle.loading.specs.LoadOwed.{accepted-is-a-table}
 use Rattle.master.specs.declared.verdict.Verdict.{Verdict}
 use Rattle.master.specs.Into.{verdict-of, outcome-into, CalledInto}
 use Rattle.preview.specs.PreviewedInto.{PreviewedInto}
-use Rattle.sheet.specs.SheetInto.{verdict-answer, lent-sheet-refusal}
-use Rattle.boundary.specs.Exported.{taken-number, TakenIn, LoadedWords, outcome-words, AdvancedWords, PreviewedWords, WrittenWords, PrintedWords, verdict-lent}
+use Rattle.sheet.specs.SheetInto.{SheetInto}
+use Rattle.boundary.specs.PutFront.{put-front}
+use Rattle.boundary.specs.Exported.{taken-number, TakenIn, LoadedWords, outcome-words, AdvancedWords}
+use Rattle.boundary.specs.Exported.{PreviewedWords, WrittenWords, verdict-lent, printed-refusal, printed-line}
+use Rattle.boundary.specs.Exported.{PrintedInto, PrintedWords}
 
--- two words written at the start of a list
-pub two-written : (o : List ℕ) (a b : ℕ) → 2 ≤ length o → set (set o 0 a) 1 b ≡ a ∷ b ∷ drop 2 o
-two-written [] a b room = absurd (omega arith)
-two-written (x ∷ []) a b room = absurd (omega arith)
-two-written (x ∷ y ∷ o) a b room = refl
+-- a word written after those in front
+set-next : (ws o : List ℕ) (v : ℕ) → set (put-front ws o) (length ws) v ≡ put-front (ws ++ v ∷ []) o
+unfolding put-front
+set-next [] [] v = refl
+set-next [] (x ∷ o) v = refl
+set-next (w ∷ ws) [] v = refl
+set-next (w ∷ ws) (x ∷ o) v = ap (λ (l : List ℕ). w ∷ l) (set-next ws o v)
 
--- and five
-pub five-written : (o : List ℕ) (a b c d e : ℕ) → 5 ≤ length o →
-    set (set (set (set (set o 0 a) 1 b) 2 c) 3 d) 4 e ≡ a ∷ b ∷ c ∷ d ∷ e ∷ drop 5 o
-five-written [] a b c d e room = absurd (omega arith)
-five-written (x ∷ []) a b c d e room = absurd (omega arith)
-five-written (x ∷ y ∷ []) a b c d e room = absurd (omega arith)
-five-written (x ∷ y ∷ z ∷ []) a b c d e room = absurd (omega arith)
-five-written (x ∷ y ∷ z ∷ u ∷ []) a b c d e room = absurd (omega arith)
-five-written (x ∷ y ∷ z ∷ u ∷ v ∷ o) a b c d e room = refl
+-- so words that were written in turn are in front: p is o with ws in front, and q is p with one more word written
+pub front-next : (ws o : List ℕ) (v : ℕ) {p q : List ℕ} → p ≡ put-front ws o → q ≡ set p (length ws) v →
+    q ≡ put-front (ws ++ v ∷ []) o
+front-next ws o v front written = written ∙ ap (λ (l : List ℕ). set l (length ws) v) front ∙ set-next ws o v
+
+-- nothing written is nothing in front
+pub front-none : (o : List ℕ) → o ≡ put-front [] o
+unfolding put-front
+front-none o = refl
 
 -- a refused load keeps the words
-pub taken-refused : (m : Model) (number : ℕ) (a s : List ℕ) → (number ≡ 0 → ⊥) → TakenIn m number a a s s number
+pub taken-refused : (m : Model) (number : ℕ) (table state : List ℕ) → (number ≡ 0 → ⊥) →
+    TakenIn m number table table state state number
 unfolding taken-number
-taken-refused m number a s some =
+taken-refused m number table state some =
     record {
       is = rw (ne-eqb number 0 some) refl;
       put = λ none. absurd (some none);
@@ -50,39 +58,17 @@ taken-refused m number a s some =
       kept = λ other. (refl, refl);
     }
 
--- so does an accepted one where the table's words are too few, and where the state's are
-pub table-short : (m : Model) (number : ℕ) (a s : List ℕ) → number ≡ 0 → length a < table-words (m .count) → TakenIn m number a a s s 25
-unfolding taken-number
-table-short m number a s none short =
+-- an accepted one is put, or keeps them, as putting it says
+pub taken-put : (m : Model) (number : ℕ) (table₀ table₁ state₀ state₁ : List ℕ) (answer : ℕ) → number ≡ 0 →
+    m .count ≤ most-parts → PutInto m table₀ table₁ state₀ state₁ answer →
+    TakenIn m number table₀ table₁ state₀ state₁ answer
+unfolding taken-number put-number
+taken-put m number table₀ table₁ state₀ state₁ answer none few puts =
     record {
-      is = rw (eq-eqb number 0 none, lt-leb (table-words (m .count)) (length a) short) refl;
-      put = λ zero. absurd (omega arith);
-      behind = λ zero. absurd (omega arith);
-      kept = λ other. (refl, refl);
-    }
-
-pub state-short : (m : Model) (number : ℕ) (a s : List ℕ) → number ≡ 0 → table-words (m .count) ≤ length a →
-    length s < state-words-of (m .count) → TakenIn m number a a s s 25
-unfolding taken-number
-state-short m number a s none room short =
-    record {
-      is =
-          rw (eq-eqb number 0 none, le-leb (table-words (m .count)) (length a) room, lt-leb (state-words-of (m .count)) (length s) short) refl;
-      put = λ zero. absurd (omega arith);
-      behind = λ zero. absurd (omega arith);
-      kept = λ other. (refl, refl);
-    }
-
--- and where there is room the model was put
-pub taken-put : (m : Model) (number : ℕ) (a b s t : List ℕ) → number ≡ 0 → table-words (m .count) ≤ length a → state-words-of (m .count) ≤ length s →
-    ModelPut m b t → KeptBehind (m .count) a b s t → TakenIn m number a b s t 0
-unfolding taken-number
-taken-put m number a b s t none room spare put behind =
-    record {
-      is = rw (eq-eqb number 0 none, le-leb (table-words (m .count)) (length a) room, le-leb (state-words-of (m .count)) (length s) spare) refl;
-      put = λ zero. put;
-      behind = λ zero. behind;
-      kept = λ other. absurd (other refl);
+      is = rw (eq-eqb number 0 none) (rw (le-leb (m .count) most-parts few) at (puts .is));
+      put = puts .put;
+      behind = puts .behind;
+      kept = puts .kept;
     }
 
 -- a number of 0 is an accepted load's
@@ -91,112 +77,96 @@ unfolding taken-number
 taken-accepted zero count table state e = refl
 taken-accepted (suc n) count table state e = rw (ne-eqb (suc n) 0 (λ z. omega arith)) at e
 
--- what a load comes to whose answer has no room, and whose answer has
-pub loaded-short : (stream a s o : List ℕ) → length o < 2 → LoadedWords stream a a s s o o 25
-loaded-short stream a s o few =
-    record {
-      short = λ less. (refl, refl);
-      is = λ room. absurd (omega arith);
-      answer = λ room. absurd (omega arith);
-      model = λ none. absurd (omega arith);
-      form = λ none. absurd (omega arith);
-      sounds = λ none. absurd (omega arith);
-      behind = λ none. absurd (omega arith);
-      kept = λ some. (refl, refl);
-    }
-
-pub loaded-words : (stream a b s t o p : List ℕ) (r : Loaded) (number : ℕ) → trimmed-loaded r ≡ load stream → TakenIn (r .model) (r .number) a b s t number →
-    2 ≤ length o → p ≡ number ∷ r .position ∷ drop 2 o → LoadedWords stream a b s t o p number
+-- what a load comes to
+pub loaded-words : (stream table₀ table₁ state₀ state₁ out₀ out₁ : List ℕ) (r : Loaded) (number : ℕ) →
+    trimmed-loaded r ≡ load stream → TakenIn (r .model) (r .number) table₀ table₁ state₀ state₁ number →
+    out₁ ≡ put-front (number ∷ r .position ∷ []) out₀ →
+    LoadedWords stream table₀ table₁ state₀ state₁ out₀ out₁ number
 unfolding trimmed-loaded trimmed
-loaded-words stream a b s t o p r number is taken room written =
+loaded-words stream table₀ table₁ state₀ state₁ out₀ out₁ r number is taken written =
+    let tables = length table₀ in
+    let states = length state₀ in
     record {
-      short = λ less. absurd (omega arith);
-      is = λ enough. taken .is ∙ ap (λ (l : Loaded). taken-number (l .number) (l .model .count) (length a) (length s)) is;
-      answer = λ enough. written ∙ ap (λ (l : Loaded). number ∷ l .position ∷ drop 2 o) is;
+      is = taken .is ∙ ap (λ (l : Loaded). taken-number (l .number) (l .model .count) tables states) is;
+      answer = written ∙ ap (λ (l : Loaded). put-front (number ∷ l .position ∷ []) out₀) is;
       model = λ none. taken .put none .is ∙ ap (λ (l : Loaded). l .model) is;
       form = λ none. taken .put none .form;
       sounds =
           λ none.
-          let accepted = taken-accepted (r .number) (r .model .count) (length a) (length s) (sym (taken .is) ∙ none) in
+          let accepted = taken-accepted (r .number) (r .model .count) tables states (sym (taken .is) ∙ none) in
           ap sound (taken .put none .is) ∙ accepted-is-a-table stream r is accepted .1 .sound;
-      behind = λ none. subst (λ (l : Loaded). KeptBehind (l .model .count) a b s t) is (taken .behind none);
+      clean = λ none. subst (λ (l : Loaded). CleanWords (l .model .count) table₁ state₁) is (taken .put none .clean);
+      behind =
+          λ none.
+          subst (λ (l : Loaded). KeptBehind (l .model .count) table₀ table₁ state₀ state₁) is (taken .behind none);
       kept = taken .kept;
     }
 
--- what an advance comes to whose answer has no room, and whose answer has
-pub advanced-short : (table old : List ℕ) (w : ℕ) (a o : List ℕ) → length o < 5 → AdvancedWords table old w a a o o 25
-advanced-short table old w a o few =
-    record {
-      short = λ less. (refl, refl, refl);
-      is = λ room. absurd (omega arith);
-      answer = λ room. absurd (omega arith);
-      called = λ room. absurd (omega arith);
-    }
+-- the five numbers of a verdict, in words
+abbrev verdict-words : Verdict → List ℕ
+verdict-words v = v .number ∷ v .step ∷ v .rounds ∷ v .revisions ∷ v .ceiling ∷ []
 
--- five numbers of how a call ended, written
-ended-words : (o p : List ℕ) (v : Verdict) (e : Outcome) → v ≡ verdict-of e →
-    p ≡ v .number ∷ v .step ∷ v .rounds ∷ v .revisions ∷ v .ceiling ∷ drop 5 o → p ≡ outcome-words e (drop 5 o)
+-- put in front, they are those of the outcome that it is of
+ended-words : (out₀ out₁ : List ℕ) (v : Verdict) (e : Outcome) → v ≡ verdict-of e →
+    out₁ ≡ put-front (verdict-words v) out₀ → out₁ ≡ put-front (outcome-words e) out₀
 unfolding outcome-words
-ended-words o p v e ends written =
-    written ∙ ap (λ (x : Verdict). x .number ∷ x .step ∷ x .rounds ∷ x .revisions ∷ x .ceiling ∷ drop 5 o) ends
+ended-words out₀ out₁ v e ends written = written ∙ ap (λ (x : Verdict). put-front (verdict-words x) out₀) ends
 
-pub advanced-words : (table old : List ℕ) (w : ℕ) (a b o p : List ℕ) (v : Verdict) → CalledInto (outcome-into table old w (length a)) table old a b v →
-    5 ≤ length o → p ≡ v .number ∷ v .step ∷ v .rounds ∷ v .revisions ∷ v .ceiling ∷ drop 5 o → AdvancedWords table old w a b o p (v .number)
-advanced-words table old w a b o p v found room written =
-    record {
-      short = λ less. absurd (omega arith);
-      is = λ enough. ap (λ (x : Verdict). x .number) (found .ends);
-      answer = λ enough. ended-words o p v (outcome-into table old w (length a)) (found .ends) written;
-      called = λ enough. subst (CalledInto (outcome-into table old w (length a)) table old a b) (found .ends) found;
-    }
+-- what an advance comes to, and a preview
+module _ (table old : List ℕ) (w : ℕ) (new₀ new₁ out₀ out₁ : List ℕ) (v : Verdict) where
+  abbrev due : Outcome
+  due = outcome-into table old w (length new₀)
 
--- and what a preview comes to
-pub previewed-short : (table old : List ℕ) (w : ℕ) (a o : List ℕ) → length o < 5 → PreviewedWords table old w a a o o 25
-previewed-short table old w a o few =
-    record {
-      short = λ less. (refl, refl, refl);
-      is = λ room. absurd (omega arith);
-      answer = λ room. absurd (omega arith);
-      previewed = λ room. absurd (omega arith);
-    }
+  pub advanced-words : CalledInto due table old new₀ new₁ v → out₁ ≡ put-front (verdict-words v) out₀ →
+      AdvancedWords table old w new₀ new₁ out₀ out₁ (v .number)
+  advanced-words found written =
+      record {
+        is = ap (λ (x : Verdict). x .number) (found .ends);
+        answer = ended-words out₀ out₁ v due (found .ends) written;
+        called = subst (CalledInto due table old new₀ new₁) (found .ends) found;
+      }
 
-pub previewed-words : (table old : List ℕ) (w : ℕ) (a b o p : List ℕ) (v : Verdict) → PreviewedInto table old w a b v →
-    5 ≤ length o → p ≡ v .number ∷ v .step ∷ v .rounds ∷ v .revisions ∷ v .ceiling ∷ drop 5 o → PreviewedWords table old w a b o p (v .number)
-previewed-words table old w a b o p v found room written =
-    record {
-      short = λ less. absurd (omega arith);
-      is = λ enough. ap (λ (x : Verdict). x .number) (found .ends);
-      answer = λ enough. ended-words o p v (outcome-into table old w (length a)) (found .ends) written;
-      previewed = λ enough. subst (PreviewedInto table old w a b) (found .ends) found;
-    }
+  pub previewed-words : PreviewedInto table old w new₀ new₁ v → out₁ ≡ put-front (verdict-words v) out₀ →
+      PreviewedWords table old w new₀ new₁ out₀ out₁ (v .number)
+  previewed-words found written =
+      record {
+        is = ap (λ (x : Verdict). x .number) (found .ends);
+        answer = ended-words out₀ out₁ v due (found .ends) written;
+        previewed = subst (PreviewedInto table old w new₀ new₁) (found .ends) found;
+      }
 
--- and what a call comes to that writes bytes
-pub written-short : (refusal : ℕ) (bytes a o : List ℕ) → length o < 2 → WrittenWords refusal bytes a a o o 25
-written-short refusal bytes a o few =
-    record {
-      short = λ less. (refl, refl, refl);
-      is = λ room. absurd (omega arith);
-      answer = λ room. absurd (omega arith);
-      written = λ room. absurd (omega arith);
-    }
-
-pub written-words : (refusal : ℕ) (bytes a b o p : List ℕ) (w : Written) → WrittenAs refusal bytes a b w → 2 ≤ length o → p ≡ w .number ∷ w .length ∷ drop 2 o →
-    WrittenWords refusal bytes a b o p (w .number)
-written-words refusal bytes a b o p w found room written =
+-- what a call comes to that writes bytes
+pub written-words : (refusal : ℕ) (bytes buffer₀ buffer₁ out₀ out₁ : List ℕ) (w : Written) →
+    WrittenAs refusal bytes buffer₀ buffer₁ w → out₁ ≡ put-front (w .number ∷ w .length ∷ []) out₀ →
+    WrittenWords refusal bytes buffer₀ buffer₁ out₀ out₁ (w .number)
+written-words refusal bytes buffer₀ buffer₁ out₀ out₁ w found written =
     let length-is = ap (λ (x : Written). x .length) (found .answer) in
+    let told : ℕ → Written = λ n. record { number = w .number; length = n } in
     record {
-      short = λ less. absurd (omega arith);
-      is = λ enough. ap (λ (x : Written). x .number) (found .answer);
-      answer = λ enough. written ∙ ap (λ (n : ℕ). w .number ∷ n ∷ drop 2 o) length-is;
-      written = λ enough. subst (λ (n : ℕ). WrittenAs refusal bytes a b (record { number = w .number; length = n })) length-is found;
+      is = ap (λ (x : Written). x .number) (found .answer);
+      answer = written ∙ ap (λ (n : ℕ). put-front (w .number ∷ n ∷ []) out₀) length-is;
+      written = subst (λ (n : ℕ). WrittenAs refusal bytes buffer₀ buffer₁ (told n)) length-is found;
     }
 
 -- a sheet line, by the words of its outcome: too few, or there
-module _ (table state outcome : List ℕ) (x y z : ℕ) where
-  pub printed-few : (a o : List ℕ) → length outcome < 5 → PrintedWords table state outcome x y z a a o o 25
-  printed-few a o less = record { few = λ h. (refl, refl, refl); line = λ enough. absurd (omega arith) }
+module _ (table state outcome : List ℕ) (first second third : ℕ) where
+  pub printed-few : (buffer : List ℕ) → length outcome < 5 →
+      PrintedInto table state outcome first second third buffer buffer (record { number = 24; length = 0 })
+  unfolding printed-refusal
+  printed-few buffer few =
+      rw (lt-leb 5 (length outcome) few)
+      (nothing-written 24 (printed-line table state outcome first second third) buffer (λ none. omega arith))
 
-  pub printed-words : {a b o p : List ℕ} {number : ℕ} → 5 ≤ length outcome →
-      WrittenWords (lent-sheet-refusal table state (verdict-lent outcome) x y z) (sheet-line (verdict-answer table state (verdict-lent outcome)) x y z) a b o p number →
-      PrintedWords table state outcome x y z a b o p number
-  printed-words enough words = record { few = λ less. absurd (omega arith); line = λ h. words }
+  pub printed-told : (buffer₀ buffer₁ : List ℕ) (w : Written) → 5 ≤ length outcome →
+      SheetInto table state (verdict-lent outcome) first second third buffer₀ buffer₁ w →
+      PrintedInto table state outcome first second third buffer₀ buffer₁ w
+  unfolding printed-refusal
+  printed-told buffer₀ buffer₁ w enough line = rw (le-leb 5 (length outcome) enough) line
+
+  -- and what the exported call comes to
+  pub printed-words : (buffer₀ buffer₁ out₀ out₁ : List ℕ) (w : Written) →
+      PrintedInto table state outcome first second third buffer₀ buffer₁ w →
+      out₁ ≡ put-front (w .number ∷ w .length ∷ []) out₀ →
+      PrintedWords table state outcome first second third buffer₀ buffer₁ out₀ out₁ (w .number)
+  printed-words = written-words (printed-refusal table state outcome first second third)
+      (printed-line table state outcome first second third)

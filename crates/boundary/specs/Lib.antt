@@ -1,2 +1,3 @@
 -- What the exported calls promise.
+pub mod PutFront
 pub mod Exported

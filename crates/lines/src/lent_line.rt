@@ -1,12 +1,14 @@
-// The line of a call on lent words, written into a buffer that the caller lends: the numbers of the call, and the point and
-// the outputs of the state that it left. The line is put straight into the buffer, once it is known to have room for it. The
-// promises cite the machine's `Rehearse.antt` and `Writing.antt`, `writing`'s `specs/Put.antt` and `store`'s `specs/Held.antt`.
+// The line of a call on lent words, written into a buffer that the caller lends: the numbers of the call, and the
+// point and the outputs of the state that it left. The line is put straight into the buffer, once it is known to have
+// room for it. The promises cite `specs/LentLines.antt`, the machine's `Rehearse.antt` and `Writing.antt`,
+// `writing`'s `specs/Put.antt` and `store`'s `specs/Held.antt`.
 use crate::length::output_length;
 use crate::line::numbers_length;
 use crate::line::put_numbers;
 use crate::line::write_refused;
 use crate::text::put_output;
 use machine::model::Written;
+use store::form::spelled;
 use store::lookup::output_at;
 use store::lookup::parts_of;
 use store::lookup::point_of;
@@ -19,10 +21,13 @@ ghost use Rattle.machine.specs.Rehearse.{answer-line, outputs-text};
 ghost use Rattle.store.specs.Held.{WordsThere, held, parts-lent};
 ghost use Rattle.machine.specs.Writing.{WrittenAs};
 ghost use Rattle.writing.specs.Put.{Put};
-ghost use Rattle.lines.specs.LentLines.{lent-answer};
+ghost use Rattle.lines.specs.LentLines.{LineInto, lent-answer};
 
-// How many bytes the line of a committed advance has at most besides its outputs, five numbers of 20 digits with four blanks
-// and a line feed, and how many each output, a blank, a hyphen and 19 digits: 777 for 32 parts.
+// The number of a line of words that spell no model.
+const NO_MODEL: u64 = 24;
+
+// How many bytes the line of a committed advance has at most besides its outputs, five numbers of 20 digits with four
+// blanks and a line feed, and how many each output, a blank, a hyphen and 19 digits: 777 for 32 parts.
 const MOST_NUMBERS: usize = 105;
 
 const MOST_OUTPUT: usize = 21;
@@ -60,9 +65,10 @@ fn put_outputs(line: &mut [u8], at: usize, table: &[u64], state: &[u64]) -> usiz
     next
 }
 
-// The line of a call that ended so, the state `state` being that of its answer. No line shows the last ceiling. It is measured
-// before it is put only where the buffer is shorter than the longest line of so many parts.
-pub fn write_lent(
+// The line of a call that ended so, the state `state` being that of its answer, for a caller whose proof knows that
+// the words are there. No line shows the last ceiling. It is measured before it is put only where the buffer is
+// shorter than the longest line of so many parts.
+pub fn write_spelled(
     table: &[u64],
     state: &[u64],
     number: u64,
@@ -96,4 +102,28 @@ pub fn write_lent(
         number: 0,
         length: put_byte(buf, at, b'\n'),
     }
+}
+
+// The line of a call that ended so, whatever the words are: 24 where they spell no model, then as `write_spelled`.
+// Whether the model is sound does not count: any answer's numbers are written.
+pub fn write_lent(
+    table: &[u64],
+    state: &[u64],
+    number: u64,
+    step: u64,
+    rounds: u64,
+    revisions: u64,
+    buf: &mut [u8],
+) -> Written
+    ensures { λ w. ⌜ LineInto (now (table .entry)) (now (state .entry)) number step rounds revisions
+        (now (buf .entry)) (now (buf .exit)) w ⌝ }
+    ensures { λ w. ⌜ w .length ≤ 1024 ⌝ }
+{
+    if !spelled(table, state) {
+        return Written {
+            number: NO_MODEL,
+            length: 0,
+        };
+    }
+    write_spelled(table, state, number, step, rounds, revisions, buf)
 }

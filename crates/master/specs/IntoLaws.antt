@@ -18,11 +18,13 @@ use Rattle.machine.specs.Sound.{sound}
 use Rattle.machine.specs.Advance.{Outcome, searched, barred, barred-outcome, outcome, answer-with}
 use Rattle.laws.specs.Bools.{and-false-cases, either}
 use Rattle.stepsearch.specs.Outcomes.{outcome-barred, outcome-searched}
-use Rattle.store.specs.Held.{parts-lent, state-words-of, stored-point, held}
-use Rattle.store.specs.Form.{spelled}
+use Rattle.store.specs.Held.{lent, parts-lent, state-words-of, stored-point, held}
+use Rattle.store.specs.Form.{any-word, spelled}
+use Rattle.store.specs.Clean.{CleanAfter, SameState}
 use Rattle.store.specs.Updated.{state-spelled, SameBehind}
 use Rattle.store.specs.StoreFrame.{behind-none}
 use Rattle.store.specs.Respelled.{respelled}
+use Rattle.store.specs.Free.{SameButFree, same-count, same-meant, same-spelled}
 use Rattle.master.specs.declared.verdict.Verdict.{Verdict}
 use Rattle.master.specs.Searching.{Searched}
 use Rattle.master.specs.Barring.{barred-by, barred-trimmed}
@@ -35,15 +37,18 @@ ended r = record { number = r .number; step = r .step; rounds = r .rounds; revis
 -- an answer of the search whose model is the one that the words b mean
 pub searched-words : (ts os a b : List ℕ) (w : ℕ) (r : Answer) → Searched (held ts os) w r → 0 < r .rounds → trimmed (r .model) ≡ lent-model ts b →
     ((j : ℕ) → j < parts-lent ts → state-spelled b j ≡ true) → SameBehind (parts-lent ts) a b →
+    (r .number ≡ 0 → CleanAfter (parts-lent ts) os b) → ((r .number ≡ 0 → ⊥) → SameState (parts-lent ts) os b) →
     SearchedInto (searched (lent-model ts os) w) ts os a b (ended r)
 unfolding answer-with trimmed-answer
-searched-words ts os a b w r found asked holds form behind =
+searched-words ts os a b w r found asked holds form behind clean same =
     record {
       ends = ap ended (found .machine);
       asked = asked;
       next = sym holds ∙ ap (λ (x : Answer). x .model) (found .machine);
       form = form;
       behind = behind;
+      clean = clean;
+      same = same;
     }
 
 -- how a call ends that something bars, one whose words for the new state are too few, and one that is searched
@@ -76,6 +81,8 @@ called-barred o ts os a k e other =
       next = λ some. absurd (omega arith);
       form = λ some. absurd (omega arith);
       behind = behind-none (parts-lent ts) a;
+      clean = λ zero-number. absurd (other zero-number);
+      same = λ some. absurd (omega arith);
     }
 
 pub barred-call : (ts os a : List ℕ) (w k : ℕ) → k ≡ barred (lent-model ts os) w → (k ≡ 0 → ⊥) →
@@ -101,6 +108,8 @@ searched-call ts os a b w r spells none enough found =
       next = λ some. found .next ∙ ap (λ (o : Outcome). answer-with (lent-model ts os) o .model) (sym same);
       form = λ some. respelled ts os b spells (omega (arith, enough, found .behind .size)) (found .form);
       behind = found .behind;
+      clean = found .clean;
+      same = λ some. found .same;
     }
 
 -- a call whose words are found to spell a sound model, and one whose words are not
@@ -155,3 +164,15 @@ called-anyway ts os w a b a′ b′ r r′ e one other =
           one .next asked ∙ ap (λ (n : ℕ). answer-with (lent-model ts os) (o n) .model) e ∙
           sym (other .next (subst (λ (v : Verdict). 0 < v .rounds) ends asked)),
     )
+
+-- no answer depends on free words: calls on words that differ in free places alone end alike
+pub called-free : (ts us os vs : List ℕ) (w room : ℕ) → SameButFree ts us os vs → ((x : ℕ) → lent os x ≤ any-word) →
+    ((x : ℕ) → lent vs x ≤ any-word) → outcome-into us vs w room ≡ outcome-into ts os w room
+unfolding outcome-into outcome-with
+called-free ts us os vs w room same small small′ =
+    rw (
+      same-spelled ts us os vs same small small′,
+      same-meant ts us os vs same,
+      same-count ts us os vs same,
+    )
+    refl

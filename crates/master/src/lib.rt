@@ -13,7 +13,7 @@ use store::lookup::TABLE_ROOM;
 use store::lookup::parts_of;
 use store::lookup::point_of;
 use store::lookup::state_size;
-use transfer::intake::put_model;
+use transfer::intake::put_fitting;
 use transfer::recall::recalled;
 ghost use mathlib.Core.Path.{_≡_};
 ghost use mathlib.Core.Bool.{true};
@@ -54,7 +54,7 @@ pub fn advance(m: Model, w: u64) -> Answer
     let mut table = [0u64; TABLE_ROOM];
     let mut old = [0u64; STATE_ROOM];
     let mut new = [0u64; STATE_ROOM];
-    put_model(m, &mut table, &mut old);
+    put_fitting(m, &mut table, &mut old);
     let verdict = advance_into(&table, &old, w, &mut new);
     if verdict.number != 0 {
         return Answer {

@@ -1,3 +1,4 @@
--- What a preview on lent words promises, and lists of calls in which previews stand among advances.
+-- What a preview on lent words promises, and lists of calls in which previews stand among advances, and their results.
 pub mod PreviewedInto
 pub mod EveryPreviewed
+pub mod LentResults

@@ -16,6 +16,7 @@ use Rattle.machine.specs.Advance.{Outcome, barred, barred-outcome, outcome, ans
 use Rattle.laws.specs.Bools.{and-false-cases, and-left, and-right, either}
 use Rattle.store.specs.Held.{parts-lent, state-words-of}
 use Rattle.store.specs.Form.{spelled}
+use Rattle.store.specs.Clean.{CleanAfter, SameState}
 use Rattle.store.specs.Updated.{SameBehind, Copied}
 use Rattle.store.specs.StoreFrame.{held-copied, copied-spelled, behind-copied}
 use Rattle.store.specs.Respelled.{respelled, states-spelled}
@@ -44,6 +45,10 @@ pub record PreviewedInto (ts os : List ℕ) (w : ℕ) (a b : List ℕ) (r : Verd
   pub kept : shows ts os (length a) ≡ false → b ≡ a
   -- the words behind the model's are kept
   pub behind : SameBehind (parts-lent ts) a b
+  -- of its free words: where a step would be committed the outputs are clean, and each held signal is or has its words
+  -- from the old state; where the call is refused and a state can be shown, b has the old state's words
+  pub clean : r .number ≡ 0 → CleanAfter (parts-lent ts) os b
+  pub same : shows ts os (length a) ≡ true → (r .number ≡ 0 → ⊥) → SameState (parts-lent ts) os b
 
 -- the two facts that it is made of
 pub shown-spelled : (ts os : List ℕ) (room : ℕ) → shows ts os room ≡ true → spelled ts os ≡ true
@@ -113,6 +118,8 @@ module _
             unshown-rounds ts os w (length a) (and-false-cases (spelled ts os) (leb (state-words-of (parts-lent ts)) (length a)) cannot)
             (either (spelled ts os)) (ℕ-discrete (barred (lent-model ts os) w) 0)));
         behind = called .behind;
+        clean = called .clean;
+        same = λ can. called .same asked;
       }
 
   -- so is one that was barred and cannot show a state
@@ -125,6 +132,8 @@ module _
         ends = called .ends;
         kept = λ same. called .barred none;
         behind = called .behind;
+        clean = λ zero-number. absurd (omega (arith, none, called .asked zero-number));
+        same = λ can. absurd (true≢false (sym can ∙ short));
       }
 
   -- and where it can, the state handed in is copied over the words b: it is that of the answer, which is refused
@@ -145,6 +154,8 @@ module _
         ends = called .ends;
         kept = λ cannot. absurd (true≢false (sym can ∙ cannot));
         behind = behind;
+        clean = λ zero-number. absurd (omega (arith, none, called .asked zero-number));
+        same = λ shown other. copy .front;
       }
 
 -- a preview that answers 20 where 24 comes first breaks the promise: of words that spell no model and a wanted step of 0

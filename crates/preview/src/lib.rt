@@ -21,8 +21,9 @@ pub fn preview(m: Model, w: u64) -> Preview
     ensures { λ r. ⌜ Previewed m w r ⌝ }
 {
     let answer = advance(m, w);
+    let given = m;
     Preview {
-        given: m,
+        given: given,
         answer: answer,
     }
 }

@@ -6,7 +6,7 @@ use crate::choice::choice_of;
 use crate::choice::missing_of;
 use lines::line::write_refused_at;
 use loading::load;
-use transfer::intake::put_model;
+use transfer::intake::put_fitting;
 ghost use Prim.Native.Nat.{_≤_};
 ghost use lib.ListN.{length};
 ghost use Rattle.machine.specs.Model.{most-parts};
@@ -65,7 +65,7 @@ fn open_chosen(
     if missing != CHOICE {
         return refuse(true, NO_PART, missing, text);
     }
-    put_model(model, table, state);
+    put_fitting(model, table, state);
     Opening {
         ended: false,
         errors: false,

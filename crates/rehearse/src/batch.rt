@@ -5,7 +5,7 @@ use crate::play::Rehearsing;
 use crate::play::play_some;
 use crate::play::put_refused_at;
 use loading::load;
-use transfer::intake::put_model;
+use transfer::intake::put_fitting;
 ghost use Prim.Native.Nat.{_≤_};
 ghost use lib.ListN.{length};
 ghost use Rattle.rehearse.specs.Playing.{most-table-words, most-state-words};
@@ -35,7 +35,7 @@ pub(crate) fn begun(input: &[u8], table: &mut [u64], state: &mut [u64]) -> Rehea
     let n = bytes_read(input);
     let loaded = load(&input[..n]);
     let model = loaded.model;
-    put_model(model, table, state);
+    put_fitting(model, table, state);
     Rehearsing {
         ended: false,
         number: loaded.number,

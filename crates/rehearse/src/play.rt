@@ -1,7 +1,7 @@
 // Playing a score: its commands in turn, each with its line, as many as a buffer has room for. The model is in words: those
 // of a table, and two states of it. A step is made from the one state into the other, and a flag says in which of the two
 // the rehearsal stands; no model is copied.
-use lines::lent_line::write_lent;
+use lines::lent_line::write_spelled;
 use lines::line::write_refused_at;
 use machine::model::Score;
 use master::advance_sound_into;
@@ -54,7 +54,7 @@ fn put_answer(table: &[u64], state: &[u64], v: Verdict, lines: &mut [u8], used: 
     requires { ⌜ used + 1024 ≤ length (now lines) ⌝ }
     ensures { λ r. ⌜ Put 1024 (answer-line (lent-answer (now (table .entry)) (now (state .entry)) (v .number) (v .step) (v .rounds) (v .revisions) (v .ceiling))) used (now (lines .entry)) (now (lines .exit)) r ⌝ }
 {
-    let w = write_lent(
+    let w = write_spelled(
         table,
         state,
         v.number,

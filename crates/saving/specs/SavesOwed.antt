@@ -1,10 +1,11 @@
 -- What follows for a caller of `save` from its promise: what was written loads to the fresh model of the same table; saved, loaded and saved again it is the same bytes;
--- two saves differ by nothing but the tables; and promises that wrong savers would break. Assumes nothing.
+-- two saves differ by nothing but the tables, and have equal bytes where the tables are equal and nowhere else; and
+-- promises that wrong savers would break. Assumes nothing.
 use Prim.Native.Nat.{ℕ}
 use native.Mathlib.Omega.{arith}
 use mathlib.Core.Path.{_≡_, sym, ap, _∙_}
 use mathlib.Core.Bool.{true, false}
-use mathlib.Core.Logic.{_⊎_, inl, inr}
+use mathlib.Core.Logic.{_⊎_, _↔_, inl, inr}
 use mathlib.Core.List.{List, [], _∷_, _++_}
 use lib.ListN.{getD, take, drop}
 use lib.IntN.{pos}
@@ -75,6 +76,20 @@ one-table-saved ts ss us vs a b d v w free other same first second =
     let f = rw (free, same) at first in
     let s = rw other at second in
     (f .answer ∙ sym (s .answer), f .buffer ∙ sym (s .buffer))
+
+-- of two saves that ended with 0, into whatever buffers, the bytes up to their lengths are equal exactly where the
+-- tables are
+pub saves-tell-tables : (ts ss us vs a b c d : List ℕ) (v w : Written) → SavedInto ts ss a b v → v .number ≡ 0 →
+    SavedInto us vs c d w → w .number ≡ 0 →
+    (take (v .length) b ≡ take (w .length) d) ↔ (table-of (trimmed (held ts ss)) ≡ table-of (trimmed (held us vs)))
+saves-tell-tables ts ss us vs a b c d v w first none second zero =
+    let one = saved-whole ts ss a b v first none in
+    let other = saved-whole us vs c d w second zero in
+    let m = trimmed (held ts ss) in
+    let apart = every-saved-model m (one .sounds) .apart (trimmed (held us vs)) (other .sounds) in (
+      λ equal. apart .0 (sym (one .front) ∙ equal ∙ other .front),
+      λ same. one .front ∙ apart .1 same ∙ sym (other .front),
+    )
 
 -- wrong savers. One that tests 25 before 24: of words that spell no sound model it would answer 25
 pub room-first-refuted : (ts ss before after : List ℕ) (n : ℕ) → lent-refusal ts ss ≡ 24 →

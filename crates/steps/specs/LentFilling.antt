@@ -1,23 +1,33 @@
 -- What a turn of filling outputs in the words of a state asks, and what it comes to: the laws of showing the next part, over the models that the words mean.
 -- The idea: the parts, the numbers and the outputs that are read from the words are those of these models, and the output that is written changes one of
 -- their parts. Assumes nothing.
-use Prim.Native.Nat.{ℕ, _+_, _≤_, _<_}
+use Prim.Native.Nat.{ℕ, _+_, _*_, _≤_, _<_}
 use native.Mathlib.Omega.{arith}
-use mathlib.Core.Path.{_≡_, sym, ap, subst, _∙_}
-use mathlib.Core.Bool.{true}
-use mathlib.Core.List.{List}
+use mathlib.Core.Path.{_≡_, refl, sym, ap, subst, _∙_}
+use mathlib.Core.Bool.{true, false}
+use mathlib.Core.Logic.{_⊎_, inl, inr}
+use mathlib.Core.List.{List, [], _∷_, List·Memᴰ, List·Memᴰ·not-nil, List·Memᴰ·cases-cons}
 use lib.ListN.{length, getD, set}
+use lib.Seq.{getD-take}
+use lib.Dec.{ltb}
+use borrow.Author.Tests.{ltb-true, ltb-false}
 use Rattle.machine.specs.declared.time.Point.{Point}
 use Rattle.machine.specs.declared.signal.Signal.{Signal}
 use Rattle.machine.specs.declared.part.Part.{Part}
+use Rattle.machine.specs.Lists.{All}
 use Rattle.machine.specs.Signal.{is-signal}
 use Rattle.machine.specs.Kind.{direct0, direct1, output}
 use Rattle.machine.specs.Model.{most-parts, part-at, with-parts, reading0, reading1, trimmed}
 use Rattle.machine.specs.Step.{with-output, shown}
+use Rattle.laws.specs.Bools.{either}
+use Rattle.laws.specs.ListLaws.{all-intro}
+use Rattle.ordering.specs.Row.{components-length}
 use Rattle.point.specs.PartRanges as point
 use Rattle.store.specs.Held.{WordsThere, table-words, state-words-of, parts-lent, stored-number, stored-part, stored-point, stored-state, held}
 use Rattle.store.specs.Updated.{SameBehind}
 use Rattle.store.specs.StoreFrame.{held-number, held-part}
+use Rattle.store.specs.Clean.{CleanOutput, CleanOrKept, SignalsKept, CleanAfter, clean-kept, kept-through}
+use Rattle.store.specs.CleanKept.{kept-shown}
 use Rattle.store.specs.Shown.{OutputPut, held-shown}
 use Rattle.steps.specs.Reading.{WiredBelow, source-index, index-below, heard, heard0, heard1}
 use Rattle.steps.specs.Trimmed.{Changed}
@@ -151,6 +161,67 @@ module _
   lent-turn k p ek ep =
       subst (LentTurn ts os ns₀ ns i k) (sym ep)
       (subst (λ (j : ℕ). LentTurn ts os ns₀ ns i j (stored-part ts ns j)) (sym ek) next-turn)
+
+-- of the words b, which were a, the outputs of the first i numbers of the order are clean, and every held signal is
+-- clean or kept
+pub record FilledClean (ts a : List ℕ) (i : ℕ) (b : List ℕ) : Type 0 where
+  pub signals : (j : ℕ) → CleanOrKept a b (9 * j + 5) (9 * j + 6)
+  pub outputs : (x : ℕ) → x < i → CleanOutput b (stored-number ts x)
+
+-- none at first, and then one number more
+pub none-clean : (ts a : List ℕ) → FilledClean ts a 0 a
+none-clean ts a = record { signals = λ j. inr (refl, refl); outputs = λ x low. absurd (omega arith) }
+
+pub clean-more : (ts a b c : List ℕ) (i k : ℕ) (out : Signal) → FilledClean ts a i b → k ≡ stored-number ts i →
+    OutputPut k out b c →
+    FilledClean ts a (i + 1) c
+clean-more ts a b c i k out so-far number put =
+    let kept = kept-shown b c k out put in
+    record {
+      signals = λ j. kept-through a b c (9 * j + 5) (9 * j + 6) (so-far .signals j) (kept j .0);
+      outputs = λ x low. output x low kept (either (ltb x i));
+    }
+  where
+    output : (x : ℕ) → x < i + 1 → ((j : ℕ) → SignalsKept b c j) → (ltb x i ≡ true) ⊎ (ltb x i ≡ false) →
+        CleanOutput c (stored-number ts x)
+    output x low kept (inl e) =
+        let l = stored-number ts x in
+        clean-kept b c (9 * l + 7) (9 * l + 8) (so-far .outputs x (ltb-true x i e)) (kept l .1)
+    output x low kept (inr e) =
+        let last : i ≡ x = omega (arith, ltb-false x i e) in
+        subst (CleanOutput c) (number ∙ ap (stored-number ts) last) (put .clean)
+
+-- what holds of all elements of a list holds of its members
+of-member : (P : ℕ → Type 0) (k : ℕ) (l : List ℕ) → All P l → List·Memᴰ k l → P k
+of-member P k [] all among = absurd (List·Memᴰ·not-nil among)
+of-member P k (x ∷ l) all among = cases (List·Memᴰ·cases-cons among) (of-member P k l (all .1))
+  where
+    cases : (k ≡ x) ⊎ List·Memᴰ k l → (List·Memᴰ k l → P k) → P k
+    cases (inl e) later = subst P (sym e) (all .0)
+    cases (inr m) later = later m
+
+-- since the order has every part, all outputs are clean at last
+pub clean-done :
+    (ts os a b : List ℕ) → Fillable (trimmed (held ts os)) (trimmed (held ts a)) → (i : ℕ) → FilledClean ts a i b →
+    parts-lent ts ≤ i →
+    CleanAfter (parts-lent ts) a b
+unfolding trimmed held
+clean-done ts os a b fit i so-far past =
+    let n = parts-lent ts in
+    let count : trimmed (held ts a) .count ≡ n = refl in
+    let ks = trimmed (held ts a) .order in
+    let every : All (CleanOutput b) ks =
+    all-intro (CleanOutput b) ks 0 (λ x inside.
+    let low : x < n = omega (arith, fit .places, count) in
+    subst (CleanOutput b) (sym (getD-take n (held ts a .order) x 0 low ∙ held-number ts a x low))
+    (so-far .outputs x (omega arith))) in
+    record {
+      signals = λ j low. so-far .signals j;
+      outputs = λ j low.
+          of-member (CleanOutput b) j ks every
+          (fit .complete .all j
+          (omega (arith, components-length (trimmed (held ts a) .parts), fit .wired .counted, count)));
+    }
 
 -- all of them filled is the model filled, whatever outputs it held before
 pub lent-filled :

@@ -25,6 +25,8 @@ use Rattle.laws.specs.ListLaws.{getD-map-in}
 use Rattle.store.specs.Held.{parts-lent, state-words-of, stored-component, stored-part, stored-point, stored-state, held}
 use Rattle.store.specs.Updated.{state-spelled, StatePut, Copied, SameBehind}
 use Rattle.store.specs.StoreFrame.{held-part, same-state, held-put, held-copied, copied-spelled, behind-put, behind-none, behind-through}
+use Rattle.store.specs.Clean.{SignalsKept, signals-through}
+use Rattle.store.specs.CleanKept.{kept-numbered, kept-put, kept-copied}
 use Rattle.store.specs.NumbersPut.{state-numbered, NumbersPut, state-unnumbered, point-unnumbered, behind-numbered}
 use Rattle.steps.specs.Reading.{source-index, heard}
 use Rattle.steps.specs.Trimmed.{Changed, none-changed}
@@ -34,14 +36,22 @@ use Rattle.steps.specs.InPlace.{by-reading, changed-to, LoopTurn, turn, 
 use Rattle.steps.specs.Moving.{Movable, moving, movable, movable-untrimmed}
 use Rattle.steps.specs.Settling.{settles, settling, settled-same}
 
--- of the words b, which were a, the first i parts are settled, each by its reading in the model of a
+-- of the words b, which were a, the first i parts are settled, each by its reading in the model of a, and every signal
+-- is clean or kept
 pub record LentSettled (ts a : List ℕ) (i : ℕ) (b : List ℕ) : Type 0 where
   pub changed : Changed (held ts a) (changed-to settled (held ts a) i) (held ts b)
   pub behind : SameBehind (parts-lent ts) a b
+  pub signals : (j : ℕ) → SignalsKept a b j
 
 -- at first none is
 pub none-settled : (ts a : List ℕ) → LentSettled ts a 0 a
-none-settled ts a = record { changed = none-changed (held ts a); behind = behind-none (parts-lent ts) a }
+none-settled ts a =
+    record {
+      changed = none-changed (held ts a);
+      behind = behind-none (parts-lent ts) a;
+      signals =
+          λ j. (inr (refl, refl), inr (refl, refl));
+    }
 
 -- the part i of b
 module _
@@ -62,7 +72,12 @@ module _
       let ps = trimmed (held ts a) .parts in
       let q = part-at ps i in
       let kept : settles (q .component .kind) ≡ false = ap settles (lent-kind ts a i low ∙ sym of) ∙ none in
-      record { changed = at .passes (settled-same (reading0 ps q) q kept); behind = so-far .behind }
+      record {
+        changed = at .passes (settled-same (reading0 ps q) q kept);
+        behind = so-far .behind;
+        signals =
+            so-far .signals;
+      }
 
   -- or read, settled, and its state is written
   pub settled-more :
@@ -80,6 +95,7 @@ module _
         changed =
             subst (Changed (held ts a) (changed-to settled (held ts a) (i + 1))) (sym (held-put ts b c i (q .state) put low)) (at .changes x v reads becomes);
         behind = behind-through (parts-lent ts) a b c (so-far .behind) (behind-put (parts-lent ts) i (q .state) b c put low);
+        signals = λ j. signals-through a b c j (so-far .signals j) (kept-put b c i (q .state) put j);
       }
 
 -- and at last all are
@@ -101,13 +117,15 @@ three-moved : (ts old : List ℕ) (t h j : ℕ) → numbered-as (stored-state ol
 unfolding moved stored-part
 three-moved ts old t h j = refl
 
--- in the words b, which were a, stand the point and the states of the old words, of which the first i are moved, all within their limits
+-- in the words b, which were a, stand the point and the states of the old words, of which the first i are moved, all
+-- within their limits, and the old words' signals
 pub record LentMoved (ts old : List ℕ) (t h : ℕ) (a : List ℕ) (i : ℕ) (b : List ℕ) : Type 0 where
   pub states : (j : ℕ) → j < i → stored-state b j ≡ moved-state ts old t h j
   pub rest : (j : ℕ) → i ≤ j → j < parts-lent ts → stored-state b j ≡ stored-state old j
   pub form : (j : ℕ) → j < parts-lent ts → state-spelled b j ≡ true
   pub point : stored-point b ≡ stored-point old
   pub behind : SameBehind (parts-lent ts) a b
+  pub signals : (j : ℕ) → j < parts-lent ts → SignalsKept old b j
 
 -- the tick that the old words are read to stand at is that of their model
 pub lent-tick : (ts old : List ℕ) (now : Point) → now ≡ stored-point old → now .t .0 ≡ tick (held ts old .point)
@@ -126,6 +144,7 @@ none-moved ts old t h a b copy spells =
       form = copied-spelled (parts-lent ts) old a b copy spells;
       point = ap (λ (m : Model). m .point) (held-copied ts old a b copy);
       behind = behind-none (parts-lent ts) b;
+      signals = kept-copied (parts-lent ts) old a b copy;
     }
 
 -- the part i of the old words
@@ -152,6 +171,9 @@ module _ (ts old : List ℕ) (i : ℕ) (low : i < parts-lent ts) (p : Part) (is 
         form = λ j inside. kept .form j (so-far .form j inside);
         point = point-unnumbered i (numbers .local .0) (numbers .held) (numbers .speed) b c put ∙ so-far .point;
         behind = behind-through (parts-lent ts) a b c (so-far .behind) kept;
+        signals = λ j inside.
+            signals-through old b c j (so-far .signals j inside)
+            (kept-numbered b c i (numbers .local .0) (numbers .held) (numbers .speed) put j);
       }
     where
       other : (j : ℕ) → (j ≡ i → ⊥) → stored-state c j ≡ stored-state b j

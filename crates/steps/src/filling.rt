@@ -1,7 +1,7 @@
 // The outputs of a point, filled in part order in the words of the new state.
 //
-// Its contract cites `store`'s `specs/Held.antt` and `specs/Updated.antt`, and this crate's `specs/Fillable.antt` and
-// `specs/Anyway.antt`.
+// Its contract cites `store`'s `specs/Held.antt`, `specs/Clean.antt` and `specs/Updated.antt`, and this crate's
+// `specs/Fillable.antt` and `specs/Anyway.antt`.
 use crate::heard::heard_of;
 use crate::heard::source_index;
 use point::output::output_of;
@@ -13,6 +13,7 @@ use store::lookup::point_of;
 use store::update::put_output;
 ghost use Rattle.machine.specs.Model.{trimmed};
 ghost use Rattle.store.specs.Held.{WordsThere, held, parts-lent};
+ghost use Rattle.store.specs.Clean.{CleanAfter};
 ghost use Rattle.store.specs.Updated.{SameBehind};
 ghost use Rattle.steps.specs.Fillable.{Fillable};
 ghost use Rattle.steps.specs.Anyway.{FilledAnyway};
@@ -26,6 +27,7 @@ pub(crate) fn filled_into(table: &[u64], old: &[u64], new: &mut [u64])
     requires { ⌜ Fillable (trimmed (held (now table) (now old))) (trimmed (held (now table) (now new))) ⌝ }
     ensures { λ r. ⌜ FilledAnyway (held (now (table .entry)) (now (old .entry))) (held (now (table .entry)) (now (new .entry))) (held (now (table .entry)) (now (new .exit))) ⌝ }
     ensures { λ r. ⌜ SameBehind (parts-lent (now (table .entry))) (now (new .entry)) (now (new .exit)) ⌝ }
+    ensures { λ r. ⌜ CleanAfter (parts-lent (now (table .entry))) (now (new .entry)) (now (new .exit)) ⌝ }
 {
     let count = parts_of(table);
     let now = point_of(new);

@@ -1,7 +1,7 @@
 // Every part moved by a step, from the words of the old state into those of the new.
 //
-// Its contract cites `machine`'s `specs/Step.antt`, `store`'s `specs/Held.antt` and `specs/Updated.antt`, and this crate's
-// `specs/Trimmed.antt`.
+// Its contract cites `machine`'s `specs/Step.antt`, `store`'s `specs/Held.antt`, `specs/Clean.antt` and
+// `specs/Updated.antt`, and this crate's `specs/Trimmed.antt`.
 use crate::heard::heard_of;
 use crate::heard::source_index;
 use machine::time::Ticks;
@@ -20,6 +20,7 @@ ghost use Rattle.machine.specs.Model.{trimmed};
 ghost use Rattle.machine.specs.Sound.{sound};
 ghost use Rattle.machine.specs.Step.{all-moved};
 ghost use Rattle.store.specs.Held.{WordsThere, held, parts-lent};
+ghost use Rattle.store.specs.Clean.{SignalsKept};
 ghost use Rattle.store.specs.Updated.{SameBehind, state-spelled};
 ghost use Rattle.steps.specs.Trimmed.{Changed};
 
@@ -35,6 +36,8 @@ pub(crate) fn moved_into(table: &[u64], old: &[u64], h: Ticks, new: &mut [u64])
     ensures { λ r. ⌜ Changed (held (now (table .entry)) (now (old .entry))) (all-moved (tick (held (now (table .entry)) (now (old .entry)) .point)) (h .0) (trimmed (held (now (table .entry)) (now (old .entry))) .parts)) (held (now (table .entry)) (now (new .exit))) ⌝ }
     ensures { λ r. ⌜ ((j : ℕ) → j < parts-lent (now (table .entry)) → state-spelled (now (new .exit)) j ≡ true) ⌝ }
     ensures { λ r. ⌜ SameBehind (parts-lent (now (table .entry))) (now (new .entry)) (now (new .exit)) ⌝ }
+    ensures { λ r. ⌜ ((j : ℕ) → j < parts-lent (now (table .entry)) →
+        SignalsKept (now (old .entry)) (now (new .exit)) j) ⌝ }
 {
     let count = parts_of(table);
     copy_state(old, count, new);

@@ -1,7 +1,7 @@
 // Every part settled in the words of the new state, once the outputs of the point are there.
 //
-// Its contracts cite `machine`'s `specs/Step.antt`, `store`'s `specs/Held.antt` and `specs/Updated.antt`, and this crate's
-// `specs/Trimmed.antt`, `specs/Fillable.antt` and `specs/Settling.antt`.
+// Its contracts cite `machine`'s `specs/Step.antt`, `store`'s `specs/Held.antt`, `specs/Clean.antt` and
+// `specs/Updated.antt`, and this crate's `specs/Trimmed.antt`, `specs/Fillable.antt` and `specs/Settling.antt`.
 use crate::heard::heard_of;
 use crate::heard::source_index;
 use machine::part::Kind;
@@ -12,9 +12,11 @@ use store::lookup::part_at;
 use store::lookup::parts_of;
 use store::update::put_state;
 ghost use mathlib.Core.Path.{_≡_};
+ghost use Prim.Native.Nat.{ℕ};
 ghost use Rattle.machine.specs.Model.{trimmed};
 ghost use Rattle.machine.specs.Step.{all-settled};
 ghost use Rattle.store.specs.Held.{WordsThere, held, parts-lent};
+ghost use Rattle.store.specs.Clean.{SignalsKept};
 ghost use Rattle.store.specs.Updated.{SameBehind};
 ghost use Rattle.steps.specs.Trimmed.{Changed};
 ghost use Rattle.steps.specs.Fillable.{Wired};
@@ -48,6 +50,7 @@ pub fn settled_into(table: &[u64], new: &mut [u64])
     requires { ⌜ Wired (trimmed (held (now table) (now new))) ⌝ }
     ensures { λ r. ⌜ Changed (held (now (table .entry)) (now (new .entry))) (all-settled (trimmed (held (now (table .entry)) (now (new .entry))) .parts)) (held (now (table .entry)) (now (new .exit))) ⌝ }
     ensures { λ r. ⌜ SameBehind (parts-lent (now (table .entry))) (now (new .entry)) (now (new .exit)) ⌝ }
+    ensures { λ r. ⌜ ((j : ℕ) → SignalsKept (now (new .entry)) (now (new .exit)) j) ⌝ }
 {
     let count = parts_of(table);
     let mut i: usize = 0;

@@ -8,7 +8,7 @@ use machine::model::PARTS;
 use store::lookup::STATE_ROOM;
 use store::lookup::TABLE_ROOM;
 use store::update::copy_state;
-use transfer::intake::put_model;
+use transfer::intake::put_fitting;
 use transfer::recall::recalled;
 ghost use mathlib.Core.Path.{_≡_};
 ghost use Rattle.machine.specs.Model.{trimmed};
@@ -25,7 +25,7 @@ pub fn started(m: Model) -> Model
     let mut table = [0u64; TABLE_ROOM];
     let mut old = [0u64; STATE_ROOM];
     let mut new = [0u64; STATE_ROOM];
-    put_model(m, &mut table, &mut old);
+    put_fitting(m, &mut table, &mut old);
     copy_state(&old, PARTS, &mut new);
     filled_into(&table, &old, &mut new);
     settled_into(&table, &mut new);

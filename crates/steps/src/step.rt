@@ -1,6 +1,7 @@
 // The step made up to its settling, from the words of the old state into those of the new.
 //
-// Its contracts cite `machine`'s `specs/Time.antt` and `specs/Step.antt`, and `store`'s `specs/Held.antt` and `specs/Updated.antt`.
+// Its contracts cite `machine`'s `specs/Time.antt` and `specs/Step.antt`, and `store`'s `specs/Held.antt`,
+// `specs/Clean.antt` and `specs/Updated.antt`.
 use crate::filling::filled_into;
 use crate::moving::moved_into;
 use machine::time::Stepped;
@@ -15,6 +16,7 @@ ghost use Rattle.machine.specs.Model.{trimmed};
 ghost use Rattle.machine.specs.Sound.{sound};
 ghost use Rattle.steps.specs.StepShown.{step-shown};
 ghost use Rattle.store.specs.Held.{WordsThere, held, parts-lent};
+ghost use Rattle.store.specs.Clean.{CleanAfter};
 ghost use Rattle.store.specs.Updated.{SameBehind, state-spelled};
 
 // The model of `old` after a step of `h`, in `new`, before it is settled: a trial is settled only where it is taken up. The
@@ -31,6 +33,7 @@ pub fn shown_into(table: &[u64], old: &[u64], h: Ticks, new: &mut [u64])
     ensures { λ r. ⌜ trimmed (held (now (table .entry)) (now (new .exit))) ≡ step-shown (trimmed (held (now (table .entry)) (now (old .entry)))) (h .0) ⌝ }
     ensures { λ r. ⌜ ((j : ℕ) → j < parts-lent (now (table .entry)) → state-spelled (now (new .exit)) j ≡ true) ⌝ }
     ensures { λ r. ⌜ SameBehind (parts-lent (now (table .entry))) (now (new .entry)) (now (new .exit)) ⌝ }
+    ensures { λ r. ⌜ CleanAfter (parts-lent (now (table .entry))) (now (old .entry)) (now (new .exit)) ⌝ }
 {
     let from = point_of(old);
     let Stepped::To(to) = from.step(h) else {

@@ -1,11 +1,12 @@
--- Whether words spell a model: the table's and the state's words are all there, each code is one that a case has, and each number fits its field. Words
--- behind the model's are free, and so is the value's word of an absent signal. Assumes nothing.
-use Prim.Native.Nat.{ℕ, zero, suc, _+_, _*_}
+-- Whether words spell a model: the table's and the state's words are all there, each code is one that a case has, and
+-- each number fits its field. Free are the words after the model's, the value's word of an absent signal, and the span
+-- words after a part's count of spans; `specs/Free.antt` names them. Assumes nothing.
+use Prim.Native.Nat.{ℕ, zero, suc, _+_, _*_, min}
 use mathlib.Core.Bool.{Bool, true, _&&_}
 use mathlib.Core.List.{List, [], _∷_}
-use lib.ListN.{length}
+use lib.ListN.{length, replicate}
 use lib.Dec.{leb}
-use Rattle.machine.specs.Model.{most-parts}
+use Rattle.machine.specs.Model.{most-parts, most-spans}
 use Rattle.store.specs.Held.{lent, parts-lent, table-words, state-words-of}
 
 -- the largest word, and the largest number of 32 bits
@@ -15,13 +16,25 @@ any-word = 18446744073709551615
 abbrev pub any-32 : ℕ
 any-32 = 4294967295
 
--- the largest numbers in the words of a part: its kind, preference, a, b, p and count of spans; eight spans; ports, ratio and place of the order
-abbrev pub table-limits : List ℕ
-table-limits =
-    12 ∷ 255 ∷ any-word ∷ any-word ∷ any-32 ∷ any-word ∷ any-32 ∷ any-32 ∷ any-32 ∷ any-32 ∷ any-32 ∷ any-32 ∷ any-32 ∷ any-32 ∷ 65536 ∷ 65536 ∷
-    any-word ∷ 65535 ∷ []
+-- the largest numbers in the first words of a part: its kind, preference, a, b, p and count of spans
+abbrev pub operand-limits : List ℕ
+operand-limits = 12 ∷ 255 ∷ any-word ∷ any-word ∷ any-32 ∷ any-word ∷ []
 
--- and of its state: local count, held number and speed; the held signal and the output, each a code and a value; side and mark
+-- how many of its span words are in use, by that count: never more than there are places (a model that counts more is
+-- not sound)
+abbrev pub spans-used : ℕ → ℕ
+spans-used count = min count most-spans
+
+-- in the span words, of which only those in use are bounded
+abbrev pub span-limits : ℕ → List ℕ
+span-limits count = replicate (spans-used count) any-32
+
+-- and in the last ones: ports, ratio and place of the order
+abbrev pub wire-limits : List ℕ
+wire-limits = 65536 ∷ 65536 ∷ any-word ∷ 65535 ∷ []
+
+-- and in those of its state: local count, held number and speed; the held signal and the output, each a code and a
+-- value; side and mark
 abbrev pub state-limits : List ℕ
 state-limits = any-word ∷ any-word ∷ any-word ∷ 1 ∷ any-word ∷ 1 ∷ any-word ∷ 2 ∷ 2 ∷ []
 
@@ -30,9 +43,18 @@ unfoldable pub words-within : List ℕ → ℕ → List ℕ → Bool
 words-within ws k [] = true
 words-within ws k (l ∷ ls) = leb (lent ws k) l && words-within ws (k + 1) ls
 
--- the two records of part i
+-- the span words of part i that are in use
+abbrev pub spans-spelled : List ℕ → ℕ → Bool
+spans-spelled ts i = words-within ts (18 * i + 8) (span-limits (lent ts (18 * i + 7)))
+
+-- the record of part i in the table
+unfoldable pub component-spelled : List ℕ → ℕ → Bool
+component-spelled ts i =
+    words-within ts (18 * i + 2) operand-limits && spans-spelled ts i && words-within ts (18 * i + 16) wire-limits
+
+-- both records of part i
 unfoldable pub part-spelled : List ℕ → List ℕ → ℕ → Bool
-part-spelled ts ss i = words-within ts (18 * i + 2) table-limits && words-within ss (9 * i + 2) state-limits
+part-spelled ts ss i = component-spelled ts i && words-within ss (9 * i + 2) state-limits
 
 -- those of the first n parts
 unfoldable pub parts-spelled : List ℕ → List ℕ → ℕ → Bool

@@ -1,6 +1,8 @@
--- What words mean, whether they spell a model, and what writing a part's state into them changes.
+-- What words mean, whether they spell a model, which of them are free, and what writing a part's state into them
+-- changes.
 pub mod Held
 pub mod Form
+pub mod Clean
 pub mod WordsWritten
 pub mod Updated
 pub mod StoreFrame
@@ -8,3 +10,5 @@ pub mod Shown
 pub mod NumbersPut
 pub mod Spelling
 pub mod Respelled
+pub mod CleanKept
+pub mod Free

@@ -105,15 +105,15 @@ module _
 
 -- the words outside the record are kept: the states of the other parts, the point, and the words behind the model's
 module _ (i local : ℕ) (held speed : ℤ) (a b : List ℕ) (put : NumbersPut i local held speed a b) where
-  outside : KeptOutside i a b
-  outside x (inl low) = put .others x (inl low)
-  outside x (inr high) = put .others x (inr (omega arith))
+  pub numbers-outside : KeptOutside i a b
+  numbers-outside x (inl low) = put .others x (inl low)
+  numbers-outside x (inr high) = put .others x (inr (omega arith))
 
   pub state-unnumbered : (j : ℕ) → (j ≡ i → ⊥) → stored-state b j ≡ stored-state a j
-  state-unnumbered = state-outside a b i outside
+  state-unnumbered = state-outside a b i numbers-outside
 
   pub point-unnumbered : stored-point b ≡ stored-point a
-  point-unnumbered = point-outside a b i outside
+  point-unnumbered = point-outside a b i numbers-outside
 
   pub behind-numbered : (n : ℕ) → i < n → SameBehind n a b
-  behind-numbered n low = behind-outside a b i outside n (put .size) (put .form) low
+  behind-numbered n low = behind-outside a b i numbers-outside n (put .size) (put .form) low

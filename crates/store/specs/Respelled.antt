@@ -9,30 +9,30 @@ use lib.ListN.{length}
 use lib.Dec.{ltb}
 use borrow.Author.Tests.{ltb-true, ltb-false}
 use Rattle.laws.specs.Bools.{either}
-use Rattle.store.specs.Held.{parts-lent, table-words, state-words-of}
-use Rattle.store.specs.Form.{table-limits, words-within, part-spelled, parts-spelled, spelled}
+use Rattle.store.specs.Held.{parts-lent, state-words-of}
+use Rattle.store.specs.Form.{component-spelled, part-spelled, parts-spelled, spelled}
 use Rattle.store.specs.Updated.{state-spelled}
 use Rattle.store.specs.Spelling.{SpellingFacts, spelled-facts, spelled-parts}
 
 -- each of the first n parts is spelled, where all are; and all are where each is
 parts-at : (ts ss : List ℕ) (n j : ℕ) → parts-spelled ts ss n ≡ true → j < n →
-    (words-within ts (table-words j) table-limits ≡ true) × (state-spelled ss j ≡ true)
+    (component-spelled ts j ≡ true) × (state-spelled ss j ≡ true)
 unfolding parts-spelled part-spelled
 parts-at ts ss zero j all low = absurd (omega arith)
 parts-at ts ss (suc n) j all low = cases (either (ltb j n)) (simp and-eq-true-iff at all) (λ rest below. parts-at ts ss n j rest below)
   where
     cases :
         (ltb j n ≡ true) ⊎ (ltb j n ≡ false) →
-        (parts-spelled ts ss n ≡ true) × ((words-within ts (table-words n) table-limits ≡ true) × (state-spelled ss n ≡ true)) →
-        (parts-spelled ts ss n ≡ true → j < n → (words-within ts (table-words j) table-limits ≡ true) × (state-spelled ss j ≡ true)) →
-        (words-within ts (table-words j) table-limits ≡ true) × (state-spelled ss j ≡ true)
+        (parts-spelled ts ss n ≡ true) × ((component-spelled ts n ≡ true) × (state-spelled ss n ≡ true)) →
+        (parts-spelled ts ss n ≡ true → j < n → (component-spelled ts j ≡ true) × (state-spelled ss j ≡ true)) →
+        (component-spelled ts j ≡ true) × (state-spelled ss j ≡ true)
     cases (inl e) both before = before (both .0) (ltb-true j n e)
     cases (inr e) both before =
         let same : j ≡ n = omega (arith, ltb-false j n e) in
         rw same (both .1)
 
 pub parts-all : (ts ss : List ℕ) (n : ℕ) →
-    ((j : ℕ) → j < n → (words-within ts (table-words j) table-limits ≡ true) × (state-spelled ss j ≡ true)) → parts-spelled ts ss n ≡ true
+    ((j : ℕ) → j < n → (component-spelled ts j ≡ true) × (state-spelled ss j ≡ true)) → parts-spelled ts ss n ≡ true
 unfolding parts-spelled part-spelled
 parts-all ts ss zero each = refl
 parts-all ts ss (suc n) each =

@@ -15,6 +15,7 @@ use Rattle.laws.specs.Bools.{and-left, and-right}
 use Rattle.codec.specs.Decoded.{signal-of}
 use Rattle.store.specs.Held.{lent, parts-lent, state-words-of, stored-state, stored-part, held}
 use Rattle.store.specs.Form.{any-word, state-limits, words-within}
+use Rattle.store.specs.Clean.{CleanOutput}
 use Rattle.store.specs.WordsWritten.{Outside, written, length-written, written-at, written-outside}
 use Rattle.store.specs.Updated.{state-spelled, SameBehind, within-all}
 use Rattle.store.specs.StoreFrame.{KeptOutside, behind-outside, held-outside}
@@ -33,11 +34,12 @@ state-shown s out =
     }
 
 -- the words b are the words a with the stored output of part i written anew: it is read back with the rest of the state as before, from words that are
--- within their limits where they were so, and every word but its two is kept
+-- within their limits where they were so, its free word is clean, and every word but its two is kept
 pub record OutputPut (i : ℕ) (out : Signal) (a b : List ℕ) : Type 0 where
   pub size : length b ≡ length a
   pub is : stored-state b i ≡ state-shown (stored-state a i) out
   pub form : state-spelled a i ≡ true → state-spelled b i ≡ true
+  pub clean : CleanOutput b i
   pub others : (x : ℕ) → Outside (9 * i + 7) (9 * i + 9) x → lent b x ≡ lent a x
 
 -- words within their limits are at most these, one by one
@@ -92,9 +94,10 @@ module _ (a : List ℕ) (i : ℕ) (out : Signal) (tag word : ℕ) (room : state-
       (within-one a (9 * i + 2) state-limits form (suc (suc (suc (suc (suc (suc (suc n))))))) low)
 
   -- so the output is written anew
-  pub two-put : signal-of tag word ≡ out → tag ≤ 1 → word ≤ any-word → OutputPut i out a after
+  pub two-put : signal-of tag word ≡ out → tag ≤ 1 → word ≤ any-word → ((tag ≡ 1 → ⊥) → word ≡ 0) →
+      OutputPut i out a after
   unfolding stored-state
-  two-put e tagged fits =
+  two-put e tagged fits clean =
       record {
         size = length-written a (9 * i) 7 two;
         is =
@@ -112,11 +115,12 @@ module _ (a : List ℕ) (i : ℕ) (out : Signal) (tag word : ℕ) (room : state-
             )
             refl;
         form = λ spelled. within-all after (9 * i + 2) state-limits (limits tagged fits spelled);
+        clean = λ absent. place 1 (omega arith) ∙ clean (λ one. absent (place 0 (omega arith) ∙ one));
         others = other;
       }
 
 -- the words outside the record are kept
-output-outside : (a b : List ℕ) (i : ℕ) (out : Signal) → OutputPut i out a b → KeptOutside i a b
+pub output-outside : (a b : List ℕ) (i : ℕ) (out : Signal) → OutputPut i out a b → KeptOutside i a b
 output-outside a b i out put x (inl low) = put .others x (inl (omega arith))
 output-outside a b i out put x (inr high) = put .others x (inr (omega arith))
 

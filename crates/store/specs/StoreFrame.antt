@@ -77,7 +77,8 @@ same-state a b i same =
     refl
 
 -- a record's words lie apart from another's
-apart : (i j x : ℕ) → (j ≡ i → ⊥) → state-words-of j ≤ x → x < state-words-of (j + 1) → (ltb j i ≡ true) ⊎ (ltb j i ≡ false) →
+pub apart : (i j x : ℕ) → (j ≡ i → ⊥) → state-words-of j ≤ x → x < state-words-of (j + 1) → (ltb j i ≡ true) ⊎
+    (ltb j i ≡ false) →
     Outside (state-words-of i) (state-words-of (i + 1)) x
 apart i j x other from to (inl e) = let low = ltb-true j i e in inl (omega arith)
 apart i j x other from to (inr e) =

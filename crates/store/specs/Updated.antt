@@ -6,7 +6,7 @@ use mathlib.Core.Bool.{Bool, true, false, _&&_}
 use mathlib.Core.Logic.{_⊎_, inl, inr}
 use mathlib.Core.List.{List, [], _∷_}
 use lib.Dec.{eqb, leb}
-use lib.ListN.{length, getD, set, length-set}
+use lib.ListN.{length, getD, set, length-set, length-replicate}
 use lib.Seq.{getD-set-same, getD-set-other}
 use borrow.Author.Tests.{eqb-true, eqb-false, le-leb}
 use Rattle.machine.specs.declared.time.Point.{Point}
@@ -21,20 +21,24 @@ use Rattle.laws.specs.Bools.{either}
 use Rattle.codec.specs.Words.{word-signed}
 use Rattle.codec.specs.Encoded.{signal-code, side-code, mark-code}
 use Rattle.codec.specs.Decoded.{side-coded, mark-coded, signal-of}
-use Rattle.store.specs.Held.{lent, state-words-of, stored-state, stored-point}
-use Rattle.store.specs.Form.{any-word, state-limits, words-within}
+use Rattle.store.specs.Held.{lent, table-words, state-words-of, stored-state, stored-point}
+use Rattle.store.specs.Form.{any-word, any-32, state-limits, spans-used, span-limits, operand-limits, wire-limits}
+use Rattle.store.specs.Form.{words-within, component-spelled}
+use Rattle.store.specs.Clean.{CleanHeld, CleanOutput}
 use Rattle.store.specs.WordsWritten.{Outside, written, length-written, written-at, written-outside}
 
 -- the words of part i's state are within their limits
 abbrev pub state-spelled : List ℕ → ℕ → Bool
 state-spelled ss i = words-within ss (state-words-of i) state-limits
 
--- the words b are the words a with the state s of part i written anew: it is read back, from words within their limits, and every word outside its
--- record is kept
+-- the words b are the words a with the state s of part i written anew: it is read back, from words within their limits,
+-- its free words are clean, and every word outside its record is kept
 pub record StatePut (i : ℕ) (s : State) (a b : List ℕ) : Type 0 where
   pub size : length b ≡ length a
   pub is : stored-state b i ≡ s
   pub form : state-spelled b i ≡ true
+  pub held-clean : CleanHeld b i
+  pub output-clean : CleanOutput b i
   pub others : (x : ℕ) → Outside (state-words-of i) (state-words-of (i + 1)) x → lent b x ≡ lent a x
 
 -- the words b are the words a with the point written anew
@@ -77,6 +81,21 @@ within-same a b k [] same = refl
 within-same a b k (l ∷ ls) same =
     ap₂ _&&_ (ap (λ (v : ℕ). leb v l) (same k (omega arith) (omega arith)))
     (within-same a b (k + 1) ls (λ x from to. same x (omega arith) (omega arith)))
+
+-- the same words of a record of the table are
+pub component-same : (a b : List ℕ) (j : ℕ) →
+    ((x : ℕ) → table-words j ≤ x → x < table-words (j + 1) → lent b x ≡ lent a x) →
+    component-spelled b j ≡ component-spelled a j
+unfolding component-spelled
+component-same a b j same =
+    let count : lent b (18 * j + 7) ≡ lent a (18 * j + 7) = same (18 * j + 7) (omega arith) (omega arith) in
+    let used = spans-used (lent a (18 * j + 7)) in
+    ap₂ _&&_
+    (ap₂ _&&_ (within-same a b (18 * j + 2) operand-limits (λ x from to. same x (omega arith) (omega arith)))
+    (ap (λ (n : ℕ). words-within b (18 * j + 8) (span-limits n)) count ∙
+    within-same a b (18 * j + 8) (span-limits (lent a (18 * j + 7)))
+    (λ x from to. same x (omega arith) (omega (arith, length-replicate used any-32)))))
+    (within-same a b (18 * j + 16) wire-limits (λ x from to. same x (omega arith) (omega arith)))
 
 -- the codes of signals, sides and marks are within their limits, and those of sides and marks are read back
 pub signal-limit : (s : Signal) → signal-code s ≤ 1
@@ -156,9 +175,10 @@ module _
   pub nine-put :
       local ≡ s .local .0 → word-signed held-word ≡ s .held → word-signed speed-word ≡ s .speed →
       signal-of signal-tag signal-word ≡ s .signal → signal-of output-tag output-word ≡ s .output →
-      side-coded side-word ≡ s .side → mark-coded mark-word ≡ s .mark → Limited → StatePut i s a after
+      side-coded side-word ≡ s .side → mark-coded mark-word ≡ s .mark → Limited →
+      ((signal-tag ≡ 1 → ⊥) → signal-word ≡ 0) → ((output-tag ≡ 1 → ⊥) → output-word ≡ 0) → StatePut i s a after
   unfolding stored-state
-  nine-put e0 e1 e2 e3 e4 e5 e6 limited =
+  nine-put e0 e1 e2 e3 e4 e5 e6 limited signal-clean output-clean =
       record {
         size = length-written a (9 * i) 2 nine;
         is =
@@ -182,6 +202,8 @@ module _
             )
             refl;
         form = within limited;
+        held-clean = λ absent. place 4 (omega arith) ∙ signal-clean (λ one. absent (place 3 (omega arith) ∙ one));
+        output-clean = λ absent. place 6 (omega arith) ∙ output-clean (λ one. absent (place 5 (omega arith) ∙ one));
         others = λ x out. written-outside a (9 * i) 2 x nine (moved-out x out);
       }
     where

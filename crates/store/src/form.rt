@@ -1,18 +1,23 @@
-// Whether words spell a model: all of them there, each code one that a case has, each number within its field.
+// Whether words spell a model: all of them there, each code one that a case has, each number within its field. Of the
+// span words of a part only those in use are tested.
 //
 // The contracts cite `specs/Form.antt`.
 use crate::lookup::parts_of;
 use crate::lookup::state_size;
 use crate::lookup::table_size;
 use machine::model::PARTS;
+use machine::part::SPANS;
 ghost use mathlib.Core.Path.{_≡_};
 ghost use Prim.Native.Nat.{_+_, _*_, _≤_};
 ghost use lib.ListN.{length};
 ghost use Rattle.store.specs.Held.{state-words-of, table-words};
-ghost use Rattle.store.specs.Form.{part-spelled, parts-spelled, spelled, state-limits, table-limits, words-within};
+ghost use Rattle.store.specs.Form.{component-spelled, part-spelled, parts-spelled, spans-spelled, spelled};
+ghost use Rattle.store.specs.Form.{operand-limits, spans-used, state-limits, wire-limits, words-within};
 
-// How many words a part has in the table, and in a state.
-const TABLE_WORDS: usize = 18;
+// How many words a part has before its spans in the table, how many after them, and how many in a state.
+const OPERAND_WORDS: usize = 6;
+
+const WIRE_WORDS: usize = 4;
 
 const STATE_WORDS: usize = 9;
 
@@ -21,45 +26,86 @@ const ANY: u64 = 18_446_744_073_709_551_615;
 
 const ANY_32: u64 = 4_294_967_295;
 
-// The largest numbers in the words of a part in the table.
-const TABLE_LIMITS: [u64; TABLE_WORDS] = [
-    12,
-    255,
-    ANY,
-    ANY,
-    ANY_32,
-    ANY,
-    ANY_32,
-    ANY_32,
-    ANY_32,
-    ANY_32,
-    ANY_32,
-    ANY_32,
-    ANY_32,
-    ANY_32,
-    65536,
-    65536,
-    ANY,
-    65535,
-];
+// The largest numbers in the words of a part before its spans.
+const OPERAND_LIMITS: [u64; OPERAND_WORDS] = [12, 255, ANY, ANY, ANY_32, ANY];
+
+// The largest numbers in those after its spans.
+const WIRE_LIMITS: [u64; WIRE_WORDS] = [65536, 65536, ANY, 65535];
 
 // The largest numbers in the words of a part's state.
 const STATE_LIMITS: [u64; STATE_WORDS] = [ANY, ANY, ANY, 1, ANY, 1, ANY, 2, 2];
 
-// Whether the words of part `i` in the table are within their limits.
-fn component_spelled(table: &[u64], i: usize) -> bool
+// Whether the words of part `i` before its spans are within their limits.
+fn operands_spelled(table: &[u64], i: usize) -> bool
     requires { ⌜ table-words (i + 1) ≤ length (now table) ⌝ }
-    ensures { λ r. ⌜ r ≡ words-within (now (table .entry)) (18 * i + 2) table-limits ⌝ }
+    ensures { λ r. ⌜ r ≡ words-within (now (table .entry)) (18 * i + 2) operand-limits ⌝ }
 {
-    let k = TABLE_WORDS * i + 2;
+    let k = 18 * i + 2;
     let mut j: usize = 0;
-    while j < TABLE_WORDS {
-        if table[k + j] > TABLE_LIMITS[j] {
+    while j < OPERAND_WORDS {
+        if table[k + j] > OPERAND_LIMITS[j] {
             return false;
         }
         j += 1;
     }
     true
+}
+
+// How many span words are in use where a part counts so many spans.
+fn spans_used(count: u64) -> usize
+    ensures { λ r. ⌜ r ≡ spans-used count ⌝ }
+{
+    if count < 8 {
+        return count as usize;
+    }
+    SPANS
+}
+
+// Whether the span words of part `i` that are in use have 32 bits. Those after them are free.
+fn spans_spelled(table: &[u64], i: usize) -> bool
+    requires { ⌜ table-words (i + 1) ≤ length (now table) ⌝ }
+    ensures { λ r. ⌜ r ≡ spans-spelled (now (table .entry)) i ⌝ }
+{
+    let k = 18 * i;
+    let used = spans_used(table[k + 7]);
+    let mut j: usize = 0;
+    while j < used {
+        if table[k + 8 + j] > ANY_32 {
+            return false;
+        }
+        j += 1;
+    }
+    true
+}
+
+// Whether the words of part `i` after its spans are within their limits.
+fn wires_spelled(table: &[u64], i: usize) -> bool
+    requires { ⌜ table-words (i + 1) ≤ length (now table) ⌝ }
+    ensures { λ r. ⌜ r ≡ words-within (now (table .entry)) (18 * i + 16) wire-limits ⌝ }
+{
+    let k = 18 * i + 16;
+    let mut j: usize = 0;
+    while j < WIRE_WORDS {
+        if table[k + j] > WIRE_LIMITS[j] {
+            return false;
+        }
+        j += 1;
+    }
+    true
+}
+
+// Whether the record of part `i` in the table is.
+fn component_spelled(table: &[u64], i: usize) -> bool
+    requires { ⌜ table-words (i + 1) ≤ length (now table) ⌝ }
+    ensures { λ r. ⌜ r ≡ component-spelled (now (table .entry)) i ⌝ }
+{
+    if !operands_spelled(table, i) {
+        return false;
+    }
+    if !spans_spelled(table, i) {
+        return false;
+    }
+    wires_spelled(table, i)
 }
 
 // Whether the words of part `i` in the state are within their limits.

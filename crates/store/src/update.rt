@@ -1,7 +1,7 @@
 // The state of a part, its three numbers alone, its output alone, and the point, written into the words of a state.
 //
-// The contracts cite `specs/Updated.antt`, `specs/NumbersPut.antt` and `specs/Shown.antt`: what was written is read back, and
-// every other word is kept.
+// The contracts cite `specs/Updated.antt`, `specs/NumbersPut.antt` and `specs/Shown.antt`: what was written is read
+// back, a word that is free is 0 (`specs/Clean.antt`), and every other word is kept.
 use crate::lookup::parts_of;
 use crate::lookup::state_size;
 use codec::fields::mark_code;
@@ -21,6 +21,9 @@ ghost use Rattle.store.specs.Held.{WordsThere, parts-lent, state-words-o
 ghost use Rattle.store.specs.Updated.{Copied, PointPut, StatePut};
 ghost use Rattle.store.specs.NumbersPut.{NumbersPut};
 ghost use Rattle.store.specs.Shown.{OutputPut};
+
+// The value's word of a signal that is absent.
+const NO_VALUE: u64 = 0;
 
 // The word of a signed number, which is read back as the number.
 pub fn word_of(v: i64) -> u64
@@ -42,9 +45,10 @@ fn signal_code(s: Signal) -> u64
 // The word of a signal's value, 0 where it is absent: with the code it is read back as the signal.
 fn signal_word(s: Signal) -> u64
     ensures { λ r. ⌜ signal-of (signal-code s) r ≡ s ⌝ }
+    ensures { λ r. ⌜ ((signal-code s ≡ 1 → ⊥) → r ≡ 0) ⌝ }
 {
     match s {
-        Signal::Absent => 0,
+        Signal::Absent => NO_VALUE,
         Signal::Value(v) => word_of(v),
     }
 }

@@ -2,4 +2,5 @@
 pub mod TableRuns
 pub mod ComponentPut
 pub mod ModelPut
+pub mod PutInto
 pub mod Recalled

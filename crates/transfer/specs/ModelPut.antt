@@ -6,24 +6,29 @@ use mathlib.Core.Path.{_≡_, refl, sym, ap, _∙_}
 use mathlib.Core.Bool.{true}
 use mathlib.Core.Logic.{inl, inr}
 use mathlib.Core.List.{List, map}
-use lib.ListN.{length, getD, set, length-set, take}
+use lib.ListN.{length, getD, set, length-set, length-map, List·getD-map, take}
 use lib.Seq.{getD-set-same, getD-set-other, getD-take, length-take-le, take-all, ext-getD}
+use Rattle.machine.specs.declared.part.Part.{Part}
 use Rattle.machine.specs.declared.model.Model.{Model}
 use Rattle.machine.specs.Model.{most-parts, blank-part, part-at, trimmed-part, trimmed}
 use Rattle.codec.specs.Words.{table}
 use Rattle.codec.specs.Tables.{length-table, table-at, below-more}
 use Rattle.store.specs.Held.{lent, parts-lent, table-words, state-words-of, stored-ratio, stored-number, stored-part, stored-point, held}
-use Rattle.store.specs.Form.{table-limits, words-within, spelled}
-use Rattle.store.specs.Updated.{state-spelled, StatePut, PointPut, within-same}
+use Rattle.store.specs.Form.{component-spelled, spelled}
+use Rattle.store.specs.Clean.{CleanHeld, CleanOutput, CleanSpans, CleanWords, clean-kept}
+use Rattle.store.specs.Updated.{state-spelled, StatePut, PointPut, component-same}
 use Rattle.store.specs.StoreFrame.{state-kept, spelled-kept, point-kept}
 use Rattle.store.specs.Spelling.{spelled-parts}
 use Rattle.store.specs.Respelled.{parts-all}
+use Rattle.store.specs.CleanKept.{kept-put}
 use Rattle.transfer.specs.ComponentPut.{ComponentPut, same-component}
 
--- the words ts and ss hold the model m, but for its places in no use
+-- the words ts and ss hold the model m, but for its places in no use, and their free words are clean, but for those
+-- after the model
 pub record ModelPut (m : Model) (ts ss : List ℕ) : Type 0 where
   pub is : trimmed (held ts ss) ≡ trimmed m
   pub form : spelled ts ss ≡ true
+  pub clean : CleanWords (m .count) ts ss
 
 -- the words from n on are kept
 abbrev pub KeptFrom : ℕ → List ℕ → List ℕ → Type 0
@@ -56,12 +61,16 @@ header-put a magnitude count room octet =
           getD-set-other (set a 0 magnitude) 1 x count 0 (λ e. omega arith) ∙ getD-set-other a 0 x magnitude 0 (λ e. omega arith);
     }
 
--- part j of m stands in the words, and so does the number at place j of its order, all in words within their limits
+-- part j of m is in the words, but for its places in no use, and so is the number at place j of its order, all in words
+-- within their limits, those free clean
 pub record PutAt (m : Model) (j : ℕ) (ts ss : List ℕ) : Type 0 where
-  pub part-is : stored-part ts ss j ≡ part-at (m .parts) j
+  pub part-is : trimmed-part (stored-part ts ss j) ≡ trimmed-part (part-at (m .parts) j)
   pub number-is : stored-number ts j ≡ getD (m .order) j 0
-  pub table-form : words-within ts (table-words j) table-limits ≡ true
+  pub table-form : component-spelled ts j ≡ true
   pub state-form : state-spelled ss j ≡ true
+  pub spans-clean : CleanSpans ts j
+  pub held-clean : CleanHeld ss j
+  pub output-clean : CleanOutput ss j
 
 -- the magnitude, the count, the point and the first i parts of m stand in the words, which are as many as a and s, and the same behind the model's
 pub record PutFirst (m : Model) (i : ℕ) (a s ts ss : List ℕ) : Type 0 where
@@ -104,6 +113,7 @@ module _
   kept j low =
       let at = before .each j low in
       let words : (x : ℕ) → x < table-words (j + 1) → lent us x ≡ lent ts x = λ x below. table-put .others x (inl (omega arith)) in
+      let signals = kept-put ss vs i (part-at (m .parts) i .state) state-put j in
       record {
         part-is =
             rw (
@@ -113,19 +123,27 @@ module _
             )
             (at .part-is);
         number-is = ap (λ (w : ℕ). w % 65536) (words (18 * j + 19) (omega arith)) ∙ at .number-is;
-        table-form = within-same ts us (table-words j) table-limits (λ x from to. words x (omega arith)) ∙ at .table-form;
+        table-form = component-same ts us j (λ x from to. words x to) ∙ at .table-form;
         state-form = spelled-kept ss vs i j (part-at (m .parts) i .state) state-put (λ e. omega arith) ∙ at .state-form;
+        spans-clean = λ x past few.
+            words (18 * j + 8 + x) (omega arith) ∙
+            at .spans-clean x (omega (arith, words (18 * j + 7) (omega arith))) few;
+        held-clean = clean-kept ss vs (9 * j + 5) (9 * j + 6) (at .held-clean) (signals .0);
+        output-clean = clean-kept ss vs (9 * j + 7) (9 * j + 8) (at .output-clean) (signals .1);
       }
 
   -- the part itself is read back
   here : PutAt m i us vs
-  unfolding stored-part
+  unfolding stored-part trimmed-part
   here =
       record {
         part-is = rw (table-put .is, table-put .ratio-is, state-put .is) refl;
         number-is = table-put .number-is;
         table-form = table-put .form;
         state-form = state-put .form;
+        spans-clean = table-put .clean;
+        held-clean = state-put .held-clean;
+        output-clean = state-put .output-clean;
       }
 
   -- so one part more is put
@@ -157,6 +175,25 @@ front-of f l d n long each =
     let low : j < n = omega (arith, length-table f n) in
     table-at f n j d low ∙ each j low ∙ sym (getD-take n l j d low))
 
+-- the first n parts of two lists are equal trimmed where each is
+pub trimmed-front :
+    (k l : List Part) (n : ℕ) → n ≤ length k → n ≤ length l →
+    ((j : ℕ) → j < n → trimmed-part (part-at k j) ≡ trimmed-part (part-at l j)) →
+    map trimmed-part (take n k) ≡ map trimmed-part (take n l)
+trimmed-front k l n long-k long-l each =
+    let size-k : length (map trimmed-part (take n k)) ≡ n = length-map (take n k) trimmed-part ∙
+    length-take-le n k long-k in
+    let size-l : length (map trimmed-part (take n l)) ≡ n = length-map (take n l) trimmed-part ∙
+    length-take-le n l long-l in
+    ext-getD (trimmed-part blank-part) (map trimmed-part (take n k)) (map trimmed-part (take n l)) (size-k ∙ sym size-l)
+    (λ j inside.
+    let low : j < n = omega (arith, size-k) in
+    at k j low ∙ each j low ∙ sym (at l j low))
+  where
+    at : (l : List Part) (j : ℕ) → j < n → getD (map trimmed-part (take n l)) j (trimmed-part blank-part) ≡
+        trimmed-part (part-at l j)
+    at l j low = List·getD-map trimmed-part (take n l) j blank-part ∙ ap trimmed-part (getD-take n l j blank-part low)
+
 -- models are equal trimmed where each field is, of the places in use
 pub trimmed-same :
     (h m : Model) → h .magnitude ≡ m .magnitude → h .count ≡ m .count → take (m .count) (h .order) ≡ take (m .count) (m .order) →
@@ -177,9 +214,10 @@ model-put m a s ts ss put few orders parts table-room state-room =
           (ap (λ (k : ℕ). take n (table (stored-number ts) k)) (put .count-is) ∙
           front-of (stored-number ts) (m .order) 0 n orders (λ j low. put .each j low .number-is))
           (put .point-is)
-          (ap (map trimmed-part)
-          (ap (λ (k : ℕ). take n (table (stored-part ts ss) k)) (put .count-is) ∙
-          front-of (stored-part ts ss) (m .parts) blank-part n parts (λ j low. put .each j low .part-is)));
+          (ap (λ (k : ℕ). map trimmed-part (take n (table (stored-part ts ss) k))) (put .count-is) ∙
+          trimmed-front (table (stored-part ts ss) n) (m .parts) n
+          (omega (arith, length-table (stored-part ts ss) n)) parts
+          (λ j low. ap trimmed-part (table-at (stored-part ts ss) n j blank-part low) ∙ put .each j low .part-is));
       form =
           spelled-parts ts ss
           (record {
@@ -191,6 +229,15 @@ model-put m a s ts ss put few orders parts table-room state-room =
           }) ∙
           parts-all ts ss (parts-lent ts)
           (λ j low. let at = put .each j (omega (arith, put .count-is)) in (at .table-form, at .state-form));
+      clean =
+          record {
+            spans = λ j low. put .each j low .spans-clean;
+            state = record {
+              signals = λ j low. put .each j low .held-clean;
+              outputs =
+                  λ j low. put .each j low .output-clean;
+            };
+          };
     }
 
 -- and what was kept since the header and the point were written was kept since before them

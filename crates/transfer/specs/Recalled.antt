@@ -5,8 +5,8 @@ use Prim.Native.Nat.{ℕ, _+_, _-_, _≤_, _<_}
 use native.Mathlib.Omega.{arith}
 use mathlib.Core.Path.{_≡_, refl, sym, ap, _∙_}
 use mathlib.Core.List.{List, map}
-use lib.ListN.{length, getD, set, length-set, length-map, length-drop, List·getD-map, take, drop}
-use lib.Seq.{getD-set-same, getD-set-other, getD-take, getD-drop, length-take-le, ext-getD}
+use lib.ListN.{length, set, length-set, length-drop, take, drop}
+use lib.Seq.{getD-set-same, getD-set-other, getD-take, getD-drop, ext-getD}
 use Rattle.machine.specs.declared.time.Point.{Point}
 use Rattle.machine.specs.declared.part.Part.{Part}
 use Rattle.machine.specs.declared.model.Model.{Model}
@@ -15,7 +15,7 @@ use Rattle.laws.specs.Alls.{same-at}
 use Rattle.codec.specs.Tables.{below-more}
 use Rattle.store.specs.Held.{parts-lent, stored-state, stored-part, stored-point, held}
 use Rattle.store.specs.StoreFrame.{held-many, held-part}
-use Rattle.transfer.specs.ModelPut.{trimmed-same}
+use Rattle.transfer.specs.ModelPut.{trimmed-front, trimmed-same}
 
 -- the model r is m with the point and the states that the words ss hold; its places in no use are those of m
 pub record Recalled (m : Model) (ss : List ℕ) (r : Model) : Type 0 where
@@ -51,21 +51,6 @@ recalled-more m ss i r v before inside is =
 -- as many parts as before
 pub recalled-count : (m : Model) (ss : List ℕ) (i : ℕ) (r : Model) → RecalledFirst m ss i r → r .count ≡ m .count
 recalled-count m ss i r part = ap (λ (x : Model). x .count) (part .same)
-
--- the first n parts of two lists are equal trimmed where each is
-trimmed-front :
-    (k l : List Part) (n : ℕ) → n ≤ length k → n ≤ length l → ((j : ℕ) → j < n → trimmed-part (part-at k j) ≡ trimmed-part (part-at l j)) →
-    map trimmed-part (take n k) ≡ map trimmed-part (take n l)
-trimmed-front k l n long-k long-l each =
-    let size-k : length (map trimmed-part (take n k)) ≡ n = length-map (take n k) trimmed-part ∙ length-take-le n k long-k in
-    let size-l : length (map trimmed-part (take n l)) ≡ n = length-map (take n l) trimmed-part ∙ length-take-le n l long-l in
-    ext-getD (trimmed-part blank-part) (map trimmed-part (take n k)) (map trimmed-part (take n l)) (size-k ∙ sym size-l)
-    (λ j inside.
-    let low : j < n = omega (arith, size-k) in
-    at k j low ∙ each j low ∙ sym (at l j low))
-  where
-    at : (l : List Part) (j : ℕ) → j < n → getD (map trimmed-part (take n l)) j (trimmed-part blank-part) ≡ trimmed-part (part-at l j)
-    at l j low = List·getD-map trimmed-part (take n l) j blank-part ∙ ap trimmed-part (getD-take n l j blank-part low)
 
 -- the other way round
 front-trimmed :

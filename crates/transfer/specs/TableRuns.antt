@@ -2,40 +2,36 @@
 -- read back, from words within their limits, while every other word is kept. Assumes nothing.
 use Prim.Native.Nat.{ℕ, _+_, _-_, _*_, _%_, _≤_, _<_}
 use native.Mathlib.Omega.{arith}
-use mathlib.Core.Path.{_≡_, refl, ap, _∙_}
-use mathlib.Core.Bool.{true}
+use mathlib.Core.Path.{_≡_, refl, sym, ap, _∙_}
+use mathlib.Core.Bool.{true, cond}
 use mathlib.Core.Logic.{inl, inr}
 use mathlib.Core.List.{List, [], _∷_}
-use lib.Dec.{leb}
+use lib.Dec.{leb, ltb}
 use lib.IntN.{ℤ}
-use lib.ListN.{length, getD, set, length-set, replicate, getD-replicate}
+use lib.ListN.{length, getD, set, take, length-set, length-replicate, getD-replicate}
 use lib.Seq.{getD-set-same, getD-set-other}
-use borrow.Author.Tests.{le-leb, ne-eqb}
+use borrow.Author.Tests.{le-leb, lt-ltb, le-ltb, ne-eqb}
 use Rattle.machine.specs.declared.part.Kind.{Kind}
 use Rattle.machine.specs.declared.part.Kind.the-variants.{Constant, Gain, Adder, Square, Pulse, Delay, Integrator, ResetIntegrator, Detector, Hold, Sampler, Drive, Clapper}
 use Rattle.machine.specs.declared.part.Source.{Source}
 use Rattle.machine.specs.declared.part.Source.the-variants.{Unwired, From}
 use Rattle.machine.specs.Kind.{kind-number, kind-of}
-use Rattle.laws.specs.Bools.{and-intro}
-use Rattle.codec.specs.Words.{word-signed}
+use Rattle.machine.specs.Model.{most-spans}
+use Rattle.laws.specs.Bools.{and-intro, cond-true, cond-false}
+use Rattle.codec.specs.Words.{table, word-signed}
 use Rattle.codec.specs.Encoded.{source-code}
 use Rattle.codec.specs.Decoded.{source-coded}
 use Rattle.codec.specs.Sized.{FitsSource}
-use Rattle.codec.specs.Tables.{table-same, table-list, below-more}
+use Rattle.codec.specs.Tables.{length-table, table-at, below-more}
 use Rattle.store.specs.Held.{lent, table-words, stored-spans, stored-ratio, stored-number}
-use Rattle.store.specs.Form.{any-word, any-32, words-within}
+use Rattle.store.specs.Form.{any-word, any-32, operand-limits, spans-used, span-limits, wire-limits, words-within}
 use Rattle.store.specs.WordsWritten.{Outside, written, length-written, written-at, written-before, written-outside}
 use Rattle.store.specs.Updated.{within-all}
+use Rattle.store.specs.Free.{take-same}
 
--- the limits of the three runs of a record, one behind another those of the record
-abbrev pub operand-limits : List ℕ
-operand-limits = 12 ∷ 255 ∷ any-word ∷ any-word ∷ any-32 ∷ any-word ∷ []
-
-abbrev pub span-limits : List ℕ
-span-limits = replicate 8 any-32
-
-abbrev pub wire-limits : List ℕ
-wire-limits = 65536 ∷ 65536 ∷ any-word ∷ 65535 ∷ []
+-- the word of span place j, where a part counts so many spans: the span, or 0 where no span is there
+abbrev pub used-span : ℕ → List ℕ → ℕ → ℕ
+used-span count spans j = cond (ltb j count) (getD spans j 0) 0
 
 -- the words b are the words a with the kind, preference, operands and count of spans of part i written anew
 pub record OperandsPut (i : ℕ) (kind : Kind) (preference : ℕ) (x y : ℤ) (p count : ℕ) (a b : List ℕ) : Type 0 where
@@ -49,11 +45,13 @@ pub record OperandsPut (i : ℕ) (kind : Kind) (preference : ℕ) (x y : ℤ) (p
   pub form : words-within b (18 * i + 2) operand-limits ≡ true
   pub others : (k : ℕ) → Outside (18 * i + 2) (18 * i + 8) k → lent b k ≡ lent a k
 
--- with its places for spans written anew
-pub record SpansPut (i : ℕ) (spans a b : List ℕ) : Type 0 where
+-- with its places for spans written anew, of which the first `count` are in use: these are read back, and the others
+-- are 0
+pub record SpansPut (i count : ℕ) (spans a b : List ℕ) : Type 0 where
   pub size : length b ≡ length a
-  pub is : stored-spans b i ≡ spans
-  pub form : words-within b (18 * i + 8) span-limits ≡ true
+  pub is : take count (stored-spans b i) ≡ take count spans
+  pub form : words-within b (18 * i + 8) (span-limits count) ≡ true
+  pub clean : (j : ℕ) → count ≤ j → j < most-spans → lent b (18 * i + 8 + j) ≡ 0
   pub others : (k : ℕ) → Outside (18 * i + 8) (18 * i + 16) k → lent b k ≡ lent a k
 
 -- with its ports, its ratio and the number at its place of the part order written anew
@@ -162,27 +160,27 @@ wires-put a i port0 port1 ratio number word0 word1 room coded0 fits0 coded1 fits
       others = λ k out. written-outside a (18 * i) 16 k four (outside-as (18 * i + 16) (18 * i + 20) (18 * i + 16 + 4) k (omega arith) out);
     }
 
--- the words b are the words a with the first j of the spans written from the place k on
-pub record SpansFirst (k j : ℕ) (spans a b : List ℕ) : Type 0 where
+-- the words b are the words a with the words of the first j span places written from the place k on
+pub record SpansFirst (k j count : ℕ) (spans a b : List ℕ) : Type 0 where
   pub size : length b ≡ length a
-  pub front : (n : ℕ) → n < j → lent b (k + n) ≡ getD spans n 0
-  pub fits : (n : ℕ) → n < j → getD spans n 0 < 4294967296
+  pub front : (n : ℕ) → n < j → lent b (k + n) ≡ used-span count spans n
+  pub fits : (n : ℕ) → n < j → used-span count spans n < 4294967296
   pub others : (x : ℕ) → Outside k (k + j) x → lent b x ≡ lent a x
 
--- none at first, and then one span more
-pub spans-none : (k : ℕ) (spans a : List ℕ) → SpansFirst k 0 spans a a
-spans-none k spans a =
+-- none at first, and then one place more
+pub spans-none : (k count : ℕ) (spans a : List ℕ) → SpansFirst k 0 count spans a a
+spans-none k count spans a =
     record { size = refl; front = λ n low. absurd (omega arith); fits = λ n low. absurd (omega arith); others = λ x out. refl }
 
-pub spans-more : (k j : ℕ) (spans a b : List ℕ) (v : ℕ) → SpansFirst k j spans a b → k + j < length b → v ≡ getD spans j 0 → v < 4294967296 →
-    SpansFirst k (j + 1) spans a (set b (k + j) v)
-spans-more k j spans a b v done inside e low =
+pub spans-more : (k j count : ℕ) (spans a b : List ℕ) (v : ℕ) → SpansFirst k j count spans a b → k + j < length b →
+    v ≡ used-span count spans j → v < 4294967296 → SpansFirst k (j + 1) count spans a (set b (k + j) v)
+spans-more k j count spans a b v done inside e low =
     record {
       size = length-set b (k + j) v ∙ done .size;
-      front = below-more (λ (n : ℕ). lent (set b (k + j) v) (k + n) ≡ getD spans n 0) j
+      front = below-more (λ (n : ℕ). lent (set b (k + j) v) (k + n) ≡ used-span count spans n) j
           (λ n less. getD-set-other b (k + j) (k + n) v 0 (λ same. omega arith) ∙ done .front n less)
           (getD-set-same b (k + j) v 0 inside ∙ e);
-      fits = below-more (λ (n : ℕ). getD spans n 0 < 4294967296) j (done .fits) (rw e at low);
+      fits = below-more (λ (n : ℕ). used-span count spans n < 4294967296) j (done .fits) (rw e at low);
       others = λ x out. others x out;
     }
   where
@@ -190,19 +188,26 @@ spans-more k j spans a b v done inside e low =
     others x (inl less) = getD-set-other b (k + j) x v 0 (λ same. omega arith) ∙ done .others x (inl less)
     others x (inr far) = getD-set-other b (k + j) x v 0 (λ same. omega arith) ∙ done .others x (inr (omega arith))
 
--- all eight are read back
-pub spans-put : (i : ℕ) (spans a b : List ℕ) → SpansFirst (18 * i + 8) 8 spans a b → length spans ≡ 8 → SpansPut i spans a b
+-- once all eight are written, those in use are read back and the others are 0
+pub spans-put : (i count : ℕ) (spans a b : List ℕ) → SpansFirst (18 * i + 8) 8 count spans a b → length spans ≡ 8 →
+    SpansPut i count spans a b
 unfolding stored-spans
-spans-put i spans a b done many =
+spans-put i count spans a b done many =
+    let f : ℕ → ℕ = λ (j : ℕ). lent b (18 * i + 8 + j) % 4294967296 in
     record {
       size = done .size;
-      is =
-          table-same (λ (j : ℕ). lent b (18 * i + 8 + j) % 4294967296) (λ (j : ℕ). getD spans j 0) 8
-          (λ j low. let here = done .front j low in let fits = done .fits j low in omega arith) ∙
-          table-list spans 0 8 many;
-      form = within-all b (18 * i + 8) span-limits (λ n low.
-          let here = done .front n low in
-          let fits = done .fits n low in
-          rw (getD-replicate 8 n any-32 0 low) (omega arith));
+      is = take-same count (table f 8) spans (length-table f 8 ∙ sym many) (λ j used inside.
+          let low : j < 8 = omega (arith, many) in
+          let here : lent b (18 * i + 8 + j) ≡ getD spans j 0 = done .front j low ∙
+          cond-true (ltb j count) (getD spans j 0) 0 (lt-ltb j count used) in
+          let fits : lent b (18 * i + 8 + j) < 4294967296 = rw (done .front j low) (done .fits j low) in
+          let whole : lent b (18 * i + 8 + j) % 4294967296 ≡ lent b (18 * i + 8 + j) = omega arith in
+          table-at f 8 j 0 low ∙ whole ∙ here);
+      form = within-all b (18 * i + 8) (span-limits count) (λ n inside.
+          let used : n < spans-used count = rw (length-replicate (spans-used count) any-32) at inside in
+          let here = done .front n (omega arith) in
+          let fits = done .fits n (omega arith) in
+          rw (getD-replicate (spans-used count) n any-32 0 used) (omega arith));
+      clean = λ j past low. done .front j low ∙ cond-false (ltb j count) (getD spans j 0) 0 (le-ltb j count past);
       others = λ k out. done .others k (outside-as (18 * i + 8) (18 * i + 16) (18 * i + 8 + 8) k (omega arith) out);
     }

@@ -1,24 +1,37 @@
 // A model by value, put into the words of a table and of a state.
 //
-// The contracts cite `specs/TableRuns.antt`, `specs/ComponentPut.antt` and `specs/ModelPut.antt`: what was written is read
-// back, from words within their limits.
+// The contracts cite `specs/TableRuns.antt`, `specs/ComponentPut.antt`, `specs/ModelPut.antt` and `specs/PutInto.antt`: what
+// was written is read back, from words within their limits.
 use codec::fields::kind_code;
 use codec::fields::source_code;
 use machine::model::Model;
+use machine::model::PARTS;
 use machine::part::Component;
 use machine::part::Kind;
 use machine::part::SPANS;
 use machine::part::Source;
+use store::lookup::state_size;
+use store::lookup::table_size;
 use store::update::put_point;
 use store::update::put_state;
 use store::update::word_of;
 ghost use mathlib.Core.Path.{_≡_};
+ghost use mathlib.Core.Bool.{cond};
 ghost use Prim.Native.Nat.{_+_, _≤_, _<_};
 ghost use lib.ListN.{length};
 ghost use Rattle.store.specs.Held.{state-words-of, table-words};
 ghost use Rattle.transfer.specs.TableRuns.{OperandsPut, SpansPut, WiresPut};
 ghost use Rattle.transfer.specs.ComponentPut.{ComponentPut};
 ghost use Rattle.transfer.specs.ModelPut.{HeaderPut, KeptBehind, ModelPut};
+ghost use Rattle.transfer.specs.PutInto.{PutInto};
+
+// The number of a model that counts more parts than there may be, and of words that are too few.
+const TOO_MANY: u64 = 24;
+
+const TOO_SHORT: u64 = 25;
+
+// The word of a place that no span is in.
+const NO_SPAN: u64 = 0;
 
 // The kind, the preference, the operands and the count of spans of part `i`.
 fn put_operands(
@@ -43,23 +56,26 @@ fn put_operands(
     table[k + 7] = span_count as u64;
 }
 
-// A span as a word.
-fn span_word(v: u32) -> u64
-    ensures { λ r. ⌜ r ≡ v ⌝ }
-    ensures fits { λ r. ⌜ v < 4294967296 ⌝ }
+// The word of a span's place: the span where one is there, else 0.
+fn span_word(v: u32, used: bool) -> u64
+    ensures { λ r. ⌜ r ≡ cond used v 0 ⌝ }
+    ensures { λ r. ⌜ r < 4294967296 ⌝ }
 {
+    if !used {
+        return NO_SPAN;
+    }
     v as u64
 }
 
-// The eight places for spans of part `i`.
-fn put_spans(table: &mut [u64], i: usize, spans: [u32; SPANS])
+// The eight places for spans of part `i`, of which the first `count` are in use. The others are 0.
+fn put_spans(table: &mut [u64], i: usize, count: usize, spans: [u32; SPANS])
     requires { ⌜ table-words (i + 1) ≤ length (now table) ⌝ }
-    ensures { λ r. ⌜ SpansPut i spans (now (table .entry)) (now (table .exit)) ⌝ }
+    ensures { λ r. ⌜ SpansPut i count spans (now (table .entry)) (now (table .exit)) ⌝ }
 {
     let k = 18 * i + 8;
     let mut j: usize = 0;
     while j < SPANS {
-        table[k + j] = span_word(spans[j]);
+        table[k + j] = span_word(spans[j], j < count);
         j += 1;
     }
 }
@@ -86,7 +102,7 @@ fn put_component(table: &mut [u64], i: usize, c: Component, ratio: u64, number: 
     let port0 = c.port0;
     let port1 = c.port1;
     put_operands(table, i, kind, c.preference, c.a, c.b, c.p, c.span_count);
-    put_spans(table, i, spans);
+    put_spans(table, i, c.span_count, spans);
     put_wires(table, i, port0, port1, ratio, number);
 }
 
@@ -99,8 +115,8 @@ fn put_header(table: &mut [u64], magnitude: u8, count: usize)
     table[1] = count as u64;
 }
 
-// The model, put into words that have room for it. The words behind the model's are kept.
-pub fn put_model(m: Model, table: &mut [u64], state: &mut [u64])
+// The model, put into words that have room for it, as the caller's proof knows. The words after the model's are kept.
+pub fn put_fitting(m: Model, table: &mut [u64], state: &mut [u64])
     requires { ⌜ m .count ≤ 32 ⌝ }
     requires { ⌜ table-words (m .count) ≤ length (now table) ⌝ }
     requires { ⌜ state-words-of (m .count) ≤ length (now state) ⌝ }
@@ -119,4 +135,23 @@ pub fn put_model(m: Model, table: &mut [u64], state: &mut [u64])
         put_state(state, i, s);
         i += 1;
     }
+}
+
+// The model, put into words, whatever they are. The answer is 24 where the model counts more than 32 parts, else 25 where the
+// table's or the state's words are too few; then no word is written. It is 0 where the model was put.
+pub fn put_model(m: Model, table: &mut [u64], state: &mut [u64]) -> u64
+    ensures { λ n. ⌜ PutInto m (now (table .entry)) (now (table .exit)) (now (state .entry)) (now (state .exit)) n ⌝ }
+{
+    let count = m.count;
+    if count > PARTS {
+        return TOO_MANY;
+    }
+    if table.len() < table_size(count) {
+        return TOO_SHORT;
+    }
+    if state.len() < state_size(count) {
+        return TOO_SHORT;
+    }
+    put_fitting(m, table, state);
+    0
 }

@@ -1,54 +1,14 @@
 -- `take_in` puts the model into the words where it was accepted and there is room for it, and otherwise writes nothing.
-use Prim.Native.Nat.{_≤_}
-use native.Mathlib.Omega.{arith}
-use lib.ListN.{length}
-use Rattle.store.specs.Held.{table-words, state-words-of}
-use Rattle.boundary.proofs.Laws.{taken-refused, table-short, state-short, taken-put}
+use Rattle.boundary.proofs.Laws.{taken-refused, taken-put}
 use borrow.Author.Needs.{needs}
 use Rattle.boundary.proofs.take_in.Statement.{statement}
 use Rattle.boundary.proofs.take_in.Tie as tie
 
--- the start, seen from the test of the number
-abbrev start-of : tie.Else1 → tie.Start
-start-of c = c .before .before .before
-
 returns : tie.Need-returns
 returns c = taken-refused _ _ _ _ (c .if1 .taken)
 
--- an accepted model has at most 32 parts
-few : (c : tie.Else1) → start-of c .args .model .count ≤ 32
-few c = start-of c .pre (c .if1 .left)
-
-table-size-requires : tie.Need-table-size-requires
-table-size-requires c κs = omega (arith, few c)
-
-returns-2 : tie.Need-returns-2
-returns-2 c =
-    let sized = c .before in
-    table-short _ _ _ _ (sized .before .if1 .left) (omega (arith, sized .table-size .ensures, c .if2 .taken))
-
--- there is room for the table
-table-room : (c : tie.Else2) → let s = start-of (c .before .before) in table-words (s .args .model .count) ≤ length (s .args .table .now)
-table-room c = omega (arith, c .before .table-size .ensures, c .if2 .left)
-
-state-size-requires : tie.Need-state-size-requires
-state-size-requires c κs = search needs
-
-returns-3 : tie.Need-returns-3
-returns-3 c =
-    let sized = c .before in
-    let table = sized .before in
-    state-short _ _ _ _ (table .before .before .if1 .left) (table-room table) (omega (arith, sized .state-size .ensures, c .if3 .taken))
-
--- and for the state
-state-room : (c : tie.Else3) → let s = start-of (c .before .before .before .before) in state-words-of (s .args .model .count) ≤ length (s .args .state .now)
-state-room c = omega (arith, c .before .state-size .ensures, c .if3 .left)
-
 put-model-requires : tie.Need-put-model-requires
-put-model-requires c κs =
-    let state = c .before .before in
-    let table = state .before .before in
-    (few (table .before .before), (table-room table, state-room state))
+put-model-requires c κs = search needs
 
 same-length : tie.Need-same-length
 same-length c = search needs
@@ -56,24 +16,13 @@ same-length c = search needs
 same-length-2 : tie.Need-same-length-2
 same-length-2 c = search needs
 
-returns-4 : tie.Need-returns-4
-returns-4 c =
+-- an accepted model has at most 32 parts
+returns-2 : tie.Need-returns-2
+returns-2 c =
     let puts = c .before .before .before .before in
-    let state = puts .before .before .before in
-    let table = state .before .before in
-    taken-put _ _ _ (puts .put-model .last .1 .0) _ (puts .put-model .last .1 .1 .0) (table .before .before .if1 .left) (table-room table) (state-room state)
-    (puts .put-model .ensures .0) (puts .put-model .ensures .1)
+    let test = puts .before .before .before in
+    taken-put _ _ _ (puts .put-model .last .1 .0) _ (puts .put-model .last .1 .1 .0) _ (test .if1 .left)
+    (test .before .before .before .pre (test .if1 .left)) (puts .put-model .ensures)
 
 pub take-in-spec : {M : Type 1} → statement M
-take-in-spec =
-    tie.close
-    (tie.spec
-    returns
-    table-size-requires
-    returns-2
-    state-size-requires
-    returns-3
-    put-model-requires
-    same-length
-    same-length-2
-    returns-4)
+take-in-spec = tie.close (tie.spec returns put-model-requires same-length same-length-2 returns-2)

@@ -15,18 +15,18 @@ full : (c : tie.Start) → length (c .args .m .parts) ≡ 32
 full c = omega (arith, simp length-map at (c .good .0))
 
 -- the model put into words, seen from the call on them, and the start
-abbrev puts-of : tie.After-advance-into → tie.After-put-model
+abbrev puts-of : tie.After-advance-into → tie.After-put-fitting
 puts-of advances = advances .before .before .before .before .before .before
 
-abbrev start-of : tie.After-put-model → tie.Start
+abbrev start-of : tie.After-put-fitting → tie.Start
 start-of puts = puts .before .before .before .before .before
 
 -- the words of the table, of the old state and of the new one
-abbrev table-of : tie.After-put-model → List ℕ
-table-of puts = puts .put-model .last .1 .0
+abbrev table-of : tie.After-put-fitting → List ℕ
+table-of puts = puts .put-fitting .last .1 .0
 
-abbrev old-of : tie.After-put-model → List ℕ
-old-of puts = puts .put-model .last .1 .1 .0
+abbrev old-of : tie.After-put-fitting → List ℕ
+old-of puts = puts .put-fitting .last .1 .1 .0
 
 abbrev new-of : tie.After-advance-into → List ℕ
 new-of advances = advances .advance-into .last .1 .1 .1 .0
@@ -36,14 +36,14 @@ returns c =
     let s = c .before .before in
     many-answer (s .args .m) (s .args .w) (c .if1 .taken) (full s)
 
-slice-aggregate-put-model : tie.Need-slice-aggregate-put-model
-slice-aggregate-put-model c = search needs
+slice-aggregate-put-fitting : tie.Need-slice-aggregate-put-fitting
+slice-aggregate-put-fitting c = search needs
 
-slice-aggregate-put-model-2 : tie.Need-slice-aggregate-put-model-2
-slice-aggregate-put-model-2 c = search needs
+slice-aggregate-put-fitting-2 : tie.Need-slice-aggregate-put-fitting-2
+slice-aggregate-put-fitting-2 c = search needs
 
-put-model-requires : tie.Need-put-model-requires
-put-model-requires c κs = search needs
+put-fitting-requires : tie.Need-put-fitting-requires
+put-fitting-requires c κs = search needs
 
 slice-aggregate-advance-into : tie.Need-slice-aggregate-advance-into
 slice-aggregate-advance-into c = search needs
@@ -63,7 +63,7 @@ returns-2 c =
     let puts = puts-of advances in
     let s = start-of puts in
     refused-by-value (s .args .m) (s .args .w) 290 (table-of puts) (old-of puts) _ (new-of advances) (advances .advance-into .result)
-    (puts .put-model .ensures .0) (omega arith) (advances .advance-into .ensures) (c .if2 .taken)
+    (puts .put-fitting .ensures .0) (omega arith) (advances .advance-into .ensures) (c .if2 .taken)
 
 slice-aggregate-recalled : tie.Need-slice-aggregate-recalled
 slice-aggregate-recalled c = search needs
@@ -78,16 +78,16 @@ returns-3 c =
     let puts = puts-of advances in
     let s = start-of puts in
     committed-by-value (s .args .m) (s .args .w) 290 (table-of puts) (old-of puts) _ (new-of advances) (advances .advance-into .result)
-    (puts .put-model .ensures .0) (omega arith) (advances .advance-into .ensures) (c .recalled .result) (c .recalled .ensures) (test .if2 .left)
+    (puts .put-fitting .ensures .0) (omega arith) (advances .advance-into .ensures) (c .recalled .result) (c .recalled .ensures) (test .if2 .left)
 
 pub advance-spec : {M : Type 1} → statement M
 advance-spec =
     tie.close
     (tie.spec
     returns
-    slice-aggregate-put-model
-    slice-aggregate-put-model-2
-    put-model-requires
+    slice-aggregate-put-fitting
+    slice-aggregate-put-fitting-2
+    put-fitting-requires
     slice-aggregate-advance-into
     slice-aggregate-advance-into-2
     slice-aggregate-advance-into-3

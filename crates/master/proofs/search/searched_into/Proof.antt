@@ -9,6 +9,7 @@ use Rattle.machine.specs.Advance.{any-objects}
 use Rattle.acceptance.specs.Agreed.{Agreed, round-agreed, agreed-below}
 use Rattle.steps.specs.StepShown.{settled-made}
 use Rattle.store.specs.Held.{parts-lent, held}
+use Rattle.store.specs.Clean.{kept-after}
 use Rattle.store.specs.Updated.{SameBehind}
 use Rattle.store.specs.StoreFrame.{behind-none, behind-through, behind-copied, copied-spelled, held-copied}
 use Rattle.master.specs.Searching.{Left, left-start, lowered, halved, refused-answer, committed-answer, may-step}
@@ -145,6 +146,7 @@ returns c =
     (refuses .refusal-in .result) (at .loop .inv .0) (kept refuses) (refuses .refusal-in .ensures) (keeps .before .before .if2 .taken))
     (omega arith) (sym same)
     (λ j low. copied-spelled (parts-lent ts) os (at .loop .new) b (keeps .kept-in .ensures) (s .pre .1 .1 .1 .1 .1) j low) (behind-kept keeps)
+    (λ none. absurd (keeps .before .before .if2 .taken none)) (λ other. keeps .kept-in .ensures .front)
 
 settled-into-requires : tie.Need-settled-into-requires Inv-loop μ-loop Inv-ceilings μ-ceilings
 settled-into-requires c κs =
@@ -160,7 +162,7 @@ behind-settled settles =
     let tries = trial-of (settles .before .before .before) in
     let s = start-of (loop-of-trial tries) in
     behind-through (parts-lent (s .args .table .now)) (s .args .new .now) (words-of tries) (settles .settled-into .last .1 .0) (behind-trial tries)
-    (settles .settled-into .ensures .1)
+    (settles .settled-into .ensures .1 .0)
 
 same-length-2 : tie.Need-same-length-2 Inv-loop μ-loop Inv-ceilings μ-ceilings
 same-length-2 c = behind-settled (c .before .before) .size
@@ -183,7 +185,12 @@ returns-2 c =
     (committed-answer (held ts os) (is-sound-at s) (held ts b) (s .args .w) (ceilings .ceiling) h (at .loop .rounds) (ceilings .revisions)
     (at .loop .inv .0) (kept (refusal-of-trial tries)) (not-refused (tries .before .before)) (ap (any-objects h) made ∙ objects-tried asked ∙ free .if3 .left)
     made)
-    (omega arith) refl (λ j low. settles .settled-into .ensures .1 .form j (tries .shown-into .ensures .1 .0 j low)) (behind-settled settles)
+    (omega arith) refl (λ j low. settles .settled-into .ensures .1 .0 .form j
+    (tries .shown-into .ensures .1 .0 j low)) (behind-settled settles)
+    (λ none.
+    kept-after (parts-lent ts) os (words-of tries) b (tries .shown-into .ensures .1 .1 .1)
+    (λ j low. settles .settled-into .ensures .1 .1 j))
+    (λ other. absurd (other refl))
 
 pub searched-into-spec : {M : Type 1} → statement M
 searched-into-spec =

@@ -41,8 +41,8 @@ returns-2 c =
     part-missing _ _ (loads .load .result) (loads .load .ensures .0) (accepted .if1 .left) _ _ _ _ _ (missing .missing-of .ensures) (test .if2 .taken)
     (line .refuse2 .ensures)
 
-put-model-requires : tie.Need-put-model-requires
-put-model-requires c κs =
+put-fitting-requires : tie.Need-put-fitting-requires
+put-fitting-requires c κs =
     let accepted = c .before .before .before .before .before in
     let loads = accepted .before .before in
     let start = loads .before .before .before .before .before in
@@ -63,7 +63,7 @@ returns-3 c =
     let accepted = missing .before .before in
     let loads = accepted .before .before in
     sheet-ready _ _ (loads .load .result) (loads .load .ensures .0) (accepted .if1 .left) _ _ _ _ (missing .missing-of .ensures) (test .if2 .left)
-    (put .put-model .ensures .0)
+    (put .put-fitting .ensures .0)
 
 pub open-chosen-spec : {M : Type 1} → statement M
 open-chosen-spec =
@@ -77,7 +77,7 @@ open-chosen-spec =
     refuse-requires-2
     same-length-2
     returns-2
-    put-model-requires
+    put-fitting-requires
     same-length-3
     same-length-4
     returns-3)

@@ -15,8 +15,8 @@ slice-aggregate-load c = simp length-take (omega (arith, c .before .bytes-read .
 load-requires : tie.Need-load-requires
 load-requires c κs = search needs
 
-put-model-requires : tie.Need-put-model-requires
-put-model-requires c κs =
+put-fitting-requires : tie.Need-put-fitting-requires
+put-fitting-requires c κs =
     let loading = c .before .before .before in
     let start = loading .before .before .before .before .before .before in
     let few = loaded-few _ _ (loading .load .ensures .0) (loading .load .ensures .1) in
@@ -33,7 +33,7 @@ returns c =
     let put = c .before .before .before .before in
     let loading = put .before .before .before .before in
     let reading = loading .before .before in
-    all-to-come (loading .load .result) (reading .bytes-read .ensures) (loading .load .ensures .0) (put .put-model .ensures .0)
+    all-to-come (loading .load .result) (reading .bytes-read .ensures) (loading .load .ensures .0) (put .put-fitting .ensures .0)
 
 pub begun-spec : {M : Type 1} → statement M
 begun-spec =
@@ -42,7 +42,7 @@ begun-spec =
     bytes-read-requires
     slice-aggregate-load
     load-requires
-    put-model-requires
+    put-fitting-requires
     same-length
     same-length-2
     returns)

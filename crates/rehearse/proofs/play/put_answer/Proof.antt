@@ -4,17 +4,17 @@ use borrow.Author.Needs.{needs}
 use Rattle.rehearse.proofs.play.put_answer.Statement.{statement}
 use Rattle.rehearse.proofs.play.put_answer.Tie as tie
 
-sub-write-lent : tie.Need-sub-write-lent
-sub-write-lent c = search needs
+sub-write-spelled : tie.Need-sub-write-spelled
+sub-write-spelled c = search needs
 
-part-write-lent-start : tie.Need-part-write-lent-start
-part-write-lent-start c = search needs
+part-write-spelled-start : tie.Need-part-write-spelled-start
+part-write-spelled-start c = search needs
 
-part-write-lent-end : tie.Need-part-write-lent-end
-part-write-lent-end c = search needs
+part-write-spelled-end : tie.Need-part-write-spelled-end
+part-write-spelled-end c = search needs
 
-write-lent-requires : tie.Need-write-lent-requires
-write-lent-requires c κs = search needs
+write-spelled-requires : tie.Need-write-spelled-requires
+write-spelled-requires c κs = search needs
 
 add-result : tie.Need-add-result
 add-result c = search needs
@@ -26,16 +26,16 @@ returns : tie.Need-returns
 returns c =
     let call = c .before .before .before in
     let start = call .before .before .before .before .before in
-    put-part (start .args .used) (start .pre .1 .1) (call .write-lent .ensures .0 (start .args .v .ceiling)) (call .write-lent .ensures .1)
+    put-part (start .args .used) (start .pre .1 .1) (call .write-spelled .ensures .0 (start .args .v .ceiling)) (call .write-spelled .ensures .1)
 
 pub put-answer-spec : {M : Type 1} → statement M
 put-answer-spec =
     tie.close
     (tie.spec
-    sub-write-lent
-    part-write-lent-start
-    part-write-lent-end
-    write-lent-requires
+    sub-write-spelled
+    part-write-spelled-start
+    part-write-spelled-end
+    write-spelled-requires
     add-result
     same-length
     returns)

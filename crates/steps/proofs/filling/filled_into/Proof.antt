@@ -1,6 +1,7 @@
 -- `filled_into` is `filled`, over the models that the words mean. The invariant: the outputs of the first i numbers of the part order are filled, nothing else of
--- the model is changed, and the words behind it are kept. The measure is what is left of the count. A turn reads a part and the outputs that its ports are
--- wired to, and writes the part's output; one law of `specs/LentFilling.antt` says what it asks and what it comes to.
+-- the model is changed, the words behind it are kept, and what was written is clean. The measure is what is left of the
+-- count. A turn reads a part and the outputs that its ports are wired to, and writes the part's output; one law of
+-- `specs/LentFilling.antt` says what it asks and what it comes to.
 use Prim.Native.Nat.{ℕ, _-_, _≤_, _<_}
 use native.Mathlib.Omega.{arith}
 use mathlib.Core.List.{List}
@@ -11,7 +12,8 @@ use Rattle.store.specs.StoreFrame.{behind-none, behind-through}
 use Rattle.store.specs.Shown.{behind-shown}
 use Rattle.steps.specs.Trimmed.{Changed, none-changed}
 use Rattle.steps.specs.Showing.{partly}
-use Rattle.steps.specs.LentFilling.{LentTurn, lent-number, lent-turn, lent-filled, room-kept, table-room, state-room}
+use Rattle.steps.specs.LentFilling.{FilledClean, LentTurn, none-clean, clean-more, clean-done, lent-number}
+use Rattle.steps.specs.LentFilling.{lent-turn, lent-filled, room-kept, table-room, state-room}
 use Rattle.steps.proofs.filling.filled_into.Statement.{statement}
 use Rattle.steps.proofs.filling.filled_into.Tie as tie
 
@@ -19,7 +21,8 @@ abbrev Inv-loop : tie.InvT-loop
 Inv-loop table old new₀ count now i₀ new i =
     (i ≤ parts-lent table) ×
     Changed (held table new₀) (partly (held table old) (held table new₀) i) (held table new) ×
-    SameBehind (parts-lent table) new₀ new
+    SameBehind (parts-lent table) new₀ new ×
+    FilledClean table new₀ i new
 
 abbrev μ-loop : tie.MeasureT-loop
 μ-loop table old new₀ count now i₀ new i = parts-lent table - i
@@ -92,8 +95,12 @@ point-of-requires c κs =
 loop-holds : tie.Need-loop-holds Inv-loop μ-loop
 unfolding filled
 loop-holds c =
-    let s = c .before .before .before .before .before .before in
-    (omega arith, none-changed (held (s .args .table .now) (s .args .new .now)), behind-none (parts-lent (s .args .table .now)) (s .args .new .now))
+    let s = c .before .before .before .before .before .before in (
+      omega arith,
+      none-changed (held (s .args .table .now) (s .args .new .now)),
+      behind-none (parts-lent (s .args .table .now)) (s .args .new .now),
+      none-clean _ _,
+    )
 
 number-at-requires : tie.Need-number-at-requires Inv-loop μ-loop
 number-at-requires c κs = table-room (table-of c) (new-of c) (room-of c) (c .before .loop .i) (within c)
@@ -205,6 +212,9 @@ loop-again c =
           (put .put-output .ensures),
       behind-through (parts-lent (table-of test)) (first-of test) (new-of test) then (loop .inv .2)
           (behind-shown (parts-lent (table-of test)) k (outputs .output-of .result) (new-of test) then (put .put-output .ensures) (at .number)),
+      clean-more (table-of test) (first-of test) (new-of test) then (loop .i) k (outputs .output-of .result)
+          (loop .inv .3)
+          (reads .before .before .number-at .ensures) (put .put-output .ensures),
     )
 
 same-length : tie.Need-same-length Inv-loop μ-loop
@@ -216,7 +226,11 @@ returns c =
     let loop = c .before .loop in
     let past = rw (c .before .before .before .before .parts-of .ensures) at (c .loop-test .left) in (
       lent-filled (s .args .table .now) (s .args .old .now) (s .args .new .now) (loop .new) (s .pre .1 .1) (loop .i) (loop .inv .1) past,
-      loop .inv .2,
+      (
+        loop .inv .2,
+        clean-done (s .args .table .now) (s .args .old .now) (s .args .new .now) (loop .new) (s .pre .1 .1) (loop .i)
+            (loop .inv .3) past,
+      ),
     )
 
 pub filled-into-spec : {M : Type 1} → statement M

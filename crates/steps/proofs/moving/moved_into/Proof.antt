@@ -189,8 +189,12 @@ returns c =
       moved-done ts old (point .point-of .result .t .0) (s .args .h .0) (copied-of point) (loop .i) (loop .new) (loop .inv) past (ticks point),
       (
         loop .inv .form,
-        behind-through (parts-lent ts) (s .args .new .now) (copied-of point) (loop .new)
-            (behind-copied (parts-lent ts) old (s .args .new .now) (copied-of point) (copied point) (s .pre .1 .1 .1 .1 .1)) (loop .inv .behind),
+        (
+          behind-through (parts-lent ts) (s .args .new .now) (copied-of point) (loop .new)
+              (behind-copied (parts-lent ts) old (s .args .new .now) (copied-of point) (copied point)
+              (s .pre .1 .1 .1 .1 .1)) (loop .inv .behind),
+          loop .inv .signals,
+        ),
       ),
     )
 

@@ -15,10 +15,10 @@ use Rattle.steps.proofs.start.started.Statement.{statement}
 use Rattle.steps.proofs.start.started.Tie as tie
 
 -- the calls before, seen from later ones, and the start
-abbrev start-of : tie.After-put-model → tie.Start
+abbrev start-of : tie.After-put-fitting → tie.Start
 start-of puts = puts .before .before .before
 
-abbrev puts-of : tie.After-copy-state → tie.After-put-model
+abbrev puts-of : tie.After-copy-state → tie.After-put-fitting
 puts-of copies = copies .before .before .before .before .before
 
 abbrev copies-of : tie.After-filled-into → tie.After-copy-state
@@ -28,11 +28,11 @@ abbrev fills-of : tie.After-settled-into → tie.After-filled-into
 fills-of settles = settles .before .before .before .before
 
 -- the words of the table and of the old state, and those of the new one after each call
-abbrev table-of : tie.After-put-model → List ℕ
-table-of puts = puts .put-model .last .1 .0
+abbrev table-of : tie.After-put-fitting → List ℕ
+table-of puts = puts .put-fitting .last .1 .0
 
-abbrev old-of : tie.After-put-model → List ℕ
-old-of puts = puts .put-model .last .1 .1 .0
+abbrev old-of : tie.After-put-fitting → List ℕ
+old-of puts = puts .put-fitting .last .1 .1 .0
 
 abbrev copy-of : tie.After-copy-state → List ℕ
 copy-of copies = copies .copy-state .last .1 .1 .0
@@ -41,7 +41,7 @@ abbrev filled-of : tie.After-filled-into → List ℕ
 filled-of fills = fills .filled-into .last .1 .1 .0
 
 -- the words of a state are as many as are copied
-old-size : (puts : tie.After-put-model) → length (old-of puts) ≡ 290
+old-size : (puts : tie.After-put-fitting) → length (old-of puts) ≡ 290
 old-size puts = search needs
 
 copy-size : (copies : tie.After-copy-state) → length (copy-of copies) ≡ 290
@@ -54,14 +54,14 @@ settled-size settles = search needs
 copied : (copies : tie.After-copy-state) → copy-of copies ≡ old-of (puts-of copies)
 copied copies = copied-whole 290 (old-of (puts-of copies)) _ (copy-of copies) (copies .copy-state .ensures) (old-size (puts-of copies)) (copy-size copies)
 
-slice-aggregate-put-model : tie.Need-slice-aggregate-put-model
-slice-aggregate-put-model c = search needs
+slice-aggregate-put-fitting : tie.Need-slice-aggregate-put-fitting
+slice-aggregate-put-fitting c = search needs
 
-slice-aggregate-put-model-2 : tie.Need-slice-aggregate-put-model-2
-slice-aggregate-put-model-2 c = search needs
+slice-aggregate-put-fitting-2 : tie.Need-slice-aggregate-put-fitting-2
+slice-aggregate-put-fitting-2 c = search needs
 
-put-model-requires : tie.Need-put-model-requires
-put-model-requires c κs =
+put-fitting-requires : tie.Need-put-fitting-requires
+put-fitting-requires c κs =
     let s = c .before .before in
     let few = unfilled-few (s .args .m) (s .pre) in
     (few, (omega (arith, few), omega (arith, few)))
@@ -89,7 +89,7 @@ filled-into-requires c κs =
     let copies = c .before .before .before .before in
     let puts = puts-of copies in
     let s = start-of puts in
-    let put = puts .put-model .ensures .0 in (
+    let put = puts .put-fitting .ensures .0 in (
       spelled-room (table-of puts) (old-of puts) (put .form),
       (
         start-room (s .args .m) (s .pre) (table-of puts) (old-of puts) (copy-of copies) put (copied copies),
@@ -109,8 +109,9 @@ settled-into-requires c κs =
     let copies = copies-of fills in
     let puts = puts-of copies in
     let s = start-of puts in
-    let put = puts .put-model .ensures .0 in (
-      room-kept (table-of puts) (copy-of copies) (filled-of fills) (parts-lent (table-of puts)) (fills .filled-into .ensures .1)
+    let put = puts .put-fitting .ensures .0 in (
+      room-kept (table-of puts) (copy-of copies) (filled-of fills) (parts-lent (table-of puts))
+          (fills .filled-into .ensures .1 .0)
           (start-room (s .args .m) (s .pre) (table-of puts) (old-of puts) (copy-of copies) put (copied copies)),
       start-settleable (s .args .m) (s .pre) (table-of puts) (old-of puts) (copy-of copies) put (copied copies) (filled-of fills)
           (fills .filled-into .ensures .0),
@@ -132,16 +133,16 @@ returns c =
     let copies = copies-of fills in
     let puts = puts-of copies in
     let s = start-of puts in
-    start-is (s .args .m) (s .pre) (table-of puts) (old-of puts) (copy-of copies) (puts .put-model .ensures .0) (copied copies) (filled-of fills)
+    start-is (s .args .m) (s .pre) (table-of puts) (old-of puts) (copy-of copies) (puts .put-fitting .ensures .0) (copied copies) (filled-of fills)
     (fills .filled-into .ensures .0) (settles .settled-into .last .1 .0) (c .recalled .result) (settles .settled-into .ensures .0) (c .recalled .ensures)
 
 pub started-spec : {M : Type 1} → statement M
 started-spec =
     tie.close
     (tie.spec
-    slice-aggregate-put-model
-    slice-aggregate-put-model-2
-    put-model-requires
+    slice-aggregate-put-fitting
+    slice-aggregate-put-fitting-2
+    put-fitting-requires
     slice-aggregate-copy-state
     slice-aggregate-copy-state-2
     copy-state-requires

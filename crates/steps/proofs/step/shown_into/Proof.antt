@@ -8,6 +8,8 @@ use Rattle.machine.specs.declared.time.Point.{Point}
 use Rattle.store.specs.Held.{WordsThere, parts-lent}
 use Rattle.store.specs.Updated.{SameBehind}
 use Rattle.store.specs.StoreFrame.{behind-pointed, behind-through}
+use Rattle.store.specs.Clean.{signals-through, after-kept}
+use Rattle.store.specs.CleanKept.{kept-pointed}
 use Rattle.steps.specs.LentFilling.{room-kept}
 use Rattle.steps.specs.LentStep.{lent-behind, lent-fillable, lent-leads-to, lent-shown, lent-never-past}
 use Rattle.steps.proofs.step.shown_into.Statement.{statement}
@@ -51,7 +53,7 @@ behind-point : (points : tie.After-put-point) → let moves = moves-of points in
 behind-point points =
     let moves = moves-of points in
     let n = parts-lent (table-of moves) in
-    behind-through n (new-of moves) (moved-of moves) (pointed-of points) (moves .moved-into .ensures .1 .1)
+    behind-through n (new-of moves) (moved-of moves) (pointed-of points) (moves .moved-into .ensures .1 .1 .0)
     (behind-pointed n (to-of moves) (moved-of moves) (pointed-of points) (points .put-point .ensures))
 
 -- and the model's are all there
@@ -122,11 +124,20 @@ returns-2 c =
       lent-shown (table-of moves) (old-of moves) (moved-of moves) (pointed-of points) to (s .args .h .0) (moves .moved-into .ensures .0)
           (points .put-point .ensures) (filled-of fills) (fills .filled-into .ensures .0) led,
       (
-        (λ j low. fills .filled-into .ensures .1 .form j
+        (λ j low. fills .filled-into .ensures .1 .0 .form j
             (behind-pointed (parts-lent (table-of moves)) to (moved-of moves) (pointed-of points) (points .put-point .ensures) .form j
             (moves .moved-into .ensures .1 .0 j low))),
-        lent-behind (parts-lent (table-of moves)) (new-of moves) (moved-of moves) (pointed-of points) (filled-of fills) to (moves .moved-into .ensures .1 .1)
-            (points .put-point .ensures) (fills .filled-into .ensures .1),
+        (
+          lent-behind (parts-lent (table-of moves)) (new-of moves) (moved-of moves) (pointed-of points)
+              (filled-of fills) to
+              (moves .moved-into .ensures .1 .1 .0) (points .put-point .ensures) (fills .filled-into .ensures .1 .0),
+          after-kept (parts-lent (table-of moves)) (old-of moves) (pointed-of points) (filled-of fills)
+              (λ j low.
+              signals-through (old-of moves) (moved-of moves) (pointed-of points) j
+              (moves .moved-into .ensures .1 .1 .1 j low)
+              (kept-pointed (moved-of moves) (pointed-of points) to (points .put-point .ensures) j))
+              (fills .filled-into .ensures .1 .1),
+        ),
       ),
     )
 

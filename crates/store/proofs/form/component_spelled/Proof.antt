@@ -1,83 +1,46 @@
--- `component_spelled` asks one word after the other. The loop's invariant: the test of all words is the test of those from j on; the measure is how many are
--- left.
-use Prim.Native.Nat.{_+_, _-_, _*_, _≤_}
-use native.Mathlib.Omega.{arith}
-use mathlib.Core.Path.{_≡_, sym}
-use lib.ListN.{drop}
+-- `component_spelled` asks the three runs of the record: the definition's three tests.
+use mathlib.Core.Path.{sym, _∙_}
 use borrow.Author.Needs.{needs}
-use Rattle.store.specs.Form.{words-within, table-limits}
-use Rattle.store.specs.Spelling.{within-start, within-more, within-fails, within-end}
+use borrow.Author.Tests.{not-true, not-false}
+use Rattle.store.specs.Form.{component-spelled}
 use Rattle.store.proofs.form.component_spelled.Statement.{statement}
 use Rattle.store.proofs.form.component_spelled.Tie as tie
 
-abbrev Inv-loop : tie.InvT-loop
-Inv-loop table i k j₀ j =
-    (j ≤ 18) × (words-within table (18 * i + 2) table-limits ≡ words-within table (18 * i + 2 + j) (drop j table-limits))
+operands-spelled-requires : tie.Need-operands-spelled-requires
+operands-spelled-requires c κs = search needs
 
-abbrev μ-loop : tie.MeasureT-loop
-μ-loop table i k j₀ j = 18 - j
+returns : tie.Need-returns
+unfolding component-spelled
+returns c = rw (sym (c .before .operands-spelled .ensures) ∙ not-true _ (c .if1 .taken))
 
-mul-k : tie.Need-mul-k Inv-loop μ-loop
-mul-k c = search needs
+spans-spelled-requires : tie.Need-spans-spelled-requires
+spans-spelled-requires c κs = search needs
 
-add-k : tie.Need-add-k Inv-loop μ-loop
-add-k c = search needs
-
-loop-holds : tie.Need-loop-holds Inv-loop μ-loop
-loop-holds c = (omega arith, within-start _ _ table-limits)
-
-add-if1 : tie.Need-add-if1 Inv-loop μ-loop
-add-if1 c = search needs
-
-mul-if1 : tie.Need-mul-if1 Inv-loop μ-loop
-mul-if1 c = search needs
-
-shared-slice-read-if1 : tie.Need-shared-slice-read-if1 Inv-loop μ-loop
-shared-slice-read-if1 c = search needs
-
-mul-if1-2 : tie.Need-mul-if1-2 Inv-loop μ-loop
-mul-if1-2 c = search needs
-
-array-read-if1 : tie.Need-array-read-if1 Inv-loop μ-loop
-array-read-if1 c = search needs
-
-returns : tie.Need-returns Inv-loop μ-loop
-returns c =
-    let turn = c .before .before .before in
-    sym (within-fails _ _ table-limits _ (turn .loop .j) (omega arith) (turn .loop .inv .1) (c .if1 .taken))
-
-add-j : tie.Need-add-j Inv-loop μ-loop
-add-j c = search needs
-
-loop-less : tie.Need-loop-less Inv-loop μ-loop
-loop-less c = search needs
-
-loop-again : tie.Need-loop-again Inv-loop μ-loop
-loop-again c =
-    let turn = c .before .before .before in
-    (omega arith, within-more _ _ table-limits _ (turn .loop .j) (omega arith) (turn .loop .inv .1) (c .if1 .left))
-
-returns-2 : tie.Need-returns-2 Inv-loop μ-loop
+returns-2 : tie.Need-returns-2
+unfolding component-spelled
 returns-2 c =
-    let turn = c .before in
-    sym (within-end _ _ table-limits _ (turn .loop .j) (omega arith) (turn .loop .inv .1))
+    let spans = c .before in
+    let operands = spans .before in
+    rw (
+      sym (operands .before .operands-spelled .ensures) ∙ not-false _ (operands .if1 .left),
+      sym (spans .spans-spelled .ensures) ∙ not-true _ (c .if2 .taken),
+    )
+
+wires-spelled-requires : tie.Need-wires-spelled-requires
+wires-spelled-requires c κs = search needs
+
+returns-3 : tie.Need-returns-3
+unfolding component-spelled
+returns-3 c =
+    let test = c .before in
+    let spans = test .before in
+    let operands = spans .before in
+    rw (
+      sym (operands .before .operands-spelled .ensures) ∙ not-false _ (operands .if1 .left),
+      sym (spans .spans-spelled .ensures) ∙ not-false _ (test .if2 .left),
+    )
+    (c .wires-spelled .ensures)
 
 pub component-spelled-spec : {M : Type 1} → statement M
 component-spelled-spec =
-    tie.close
-    (tie.spec
-    Inv-loop
-    μ-loop
-    mul-k
-    add-k
-    loop-holds
-    add-if1
-    mul-if1
-    shared-slice-read-if1
-    mul-if1-2
-    array-read-if1
-    returns
-    add-j
-    loop-less
-    loop-again
-    returns-2)
+    tie.close (tie.spec operands-spelled-requires returns spans-spelled-requires returns-2 wires-spelled-requires returns-3)

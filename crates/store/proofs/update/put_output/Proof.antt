@@ -45,9 +45,10 @@ returns c =
     let start = tag .before .before in
     let out = start .args .out in
     two-put (start .args .state .now) (start .args .i) out (tag .signal-code .result) (c .signal-word .result) (start .pre)
-    (rw (tag .signal-code .ensures) (c .signal-word .ensures))
+    (rw (tag .signal-code .ensures) (c .signal-word .ensures .0))
     (rw (tag .signal-code .ensures) (signal-limit out))
     (omega (arith, c .signal-word .ok))
+    (rw (tag .signal-code .ensures) (c .signal-word .ensures .1))
 
 pub put-output-spec : {M : Type 1} → statement M
 put-output-spec =

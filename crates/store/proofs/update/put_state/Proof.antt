@@ -138,8 +138,8 @@ returns c =
     (side .side-code .result) (c .mark-code .result) (start .pre) refl
     (held .word-of .ensures ∙ toZ-ofZ w64 (s .held) (record { sfits = held .before .struct-told .given .1 .0 .1 }))
     (speed .word-of2 .ensures ∙ toZ-ofZ w64 (s .speed) (record { sfits = speed .before .struct-told2 .given .1 .1 .0 .1 }))
-    (rw (signal-tag .signal-code .ensures) (signal .signal-word .ensures))
-    (rw (output-tag .signal-code2 .ensures) (output .signal-word2 .ensures))
+    (rw (signal-tag .signal-code .ensures) (signal .signal-word .ensures .0))
+    (rw (output-tag .signal-code2 .ensures) (output .signal-word2 .ensures .0))
     (rw (side .side-code .ensures) (side-same (s .side)))
     (rw (c .mark-code .ensures) (mark-same (s .mark)))
     (record {
@@ -153,6 +153,8 @@ returns c =
       sided = rw (side .side-code .ensures) (side-limit (s .side));
       marked = rw (c .mark-code .ensures) (mark-limit (s .mark));
     })
+    (rw (signal-tag .signal-code .ensures) (signal .signal-word .ensures .1))
+    (rw (output-tag .signal-code2 .ensures) (output .signal-word2 .ensures .1))
 
 pub put-state-spec : {M : Type 1} → statement M
 put-state-spec =

@@ -1,8 +1,9 @@
--- `signal_word` is read back with the signal's code, by cases.
+-- `signal_word` is read back with the signal's code, and is 0 where there is no value, by cases.
 use mathlib.Core.Path.{refl, ap, _∙_}
 use mir.Syntax.{w64}
 use mir.ValLaws.{toZ-ofZ}
 use Rattle.machine.specs.declared.signal.Signal.the-variants.{Value}
+use Rattle.codec.specs.Encoded.{signal-code}
 use Rattle.codec.specs.Decoded.{signal-of}
 use borrow.Author.Needs.{needs}
 use Rattle.store.proofs.update.signal_word.Statement.{statement}
@@ -19,14 +20,15 @@ word-of-requires c κs = search needs
 
 returns : tie.Need-returns
 unfolding signal-of
-returns c = rw (c .enum-told .given .1) refl
+returns c = (rw (c .enum-told .given .1) refl, λ absent. refl)
 
 returns-2 : tie.Need-returns-2
 unfolding signal-of
 returns-2 c =
     let told = c .before in
     let back = toZ-ofZ w64 (told .before .s .given .0 .0) (record { sfits = told .known-told .given .0 .1 }) in
-    rw (told .before .s .given .1) (ap Value (c .word-of .ensures ∙ back))
+    let value = told .before .s .given .1 in
+    (rw value (ap Value (c .word-of .ensures ∙ back)), λ absent. absurd (absent (ap signal-code value)))
 
 pub signal-word-spec : {M : Type 1} → statement M
 signal-word-spec = tie.close (tie.spec enum-told enum-known-s word-of-requires returns returns-2)

@@ -1,110 +1,75 @@
--- `put_model` puts one part after the other. The invariant: the first i parts are put, and the words behind the model's kept. The measure is how many are left.
-use Prim.Native.Nat.{ℕ, _-_, _≤_}
+-- `put_model` tests the count of parts and the words lent, and puts the model where both do.
+use Prim.Native.Nat.{_≤_}
 use native.Mathlib.Omega.{arith}
-use mathlib.Core.Path.{_≡_, subst, _∙_}
-use lib.ListN.{length, length-map}
+use lib.ListN.{length}
+use Rattle.store.specs.Held.{table-words, state-words-of}
+use Rattle.transfer.specs.PutInto.{too-many-put, table-short-put, state-short-put, whole-put}
 use borrow.Author.Needs.{needs}
-use Rattle.transfer.specs.ModelPut.{PutFirst, put-none, put-more, model-put, behind-put-words}
 use Rattle.transfer.proofs.intake.put_model.Statement.{statement}
 use Rattle.transfer.proofs.intake.put_model.Tie as tie
 
-abbrev Inv-loop : tie.InvT-loop
-Inv-loop table₀ state₀ m i₀ table state i = (i ≤ m .count) × PutFirst m i table₀ state₀ table state
+-- the start, seen from the test of the count
+abbrev start-of : tie.Else1 → tie.Start
+start-of c = c .before .before .before
 
-abbrev μ-loop : tie.MeasureT-loop
-μ-loop table₀ state₀ m i₀ table state i = m .count - i
+returns : tie.Need-returns
+returns c = too-many-put _ _ _ (c .if1 .taken)
 
-put-header-requires : tie.Need-put-header-requires Inv-loop μ-loop
-put-header-requires c κs = search needs
+table-size-requires : tie.Need-table-size-requires
+table-size-requires c κs = omega (arith, c .if1 .left)
 
-put-point-requires : tie.Need-put-point-requires Inv-loop μ-loop
-put-point-requires c κs = search needs
+returns-2 : tie.Need-returns-2
+returns-2 c =
+    let sized = c .before in
+    table-short-put _ _ _ (sized .before .if1 .left) (omega (arith, sized .table-size .ensures, c .if2 .taken))
 
-loop-holds : tie.Need-loop-holds Inv-loop μ-loop
-loop-holds c = (
-  omega arith,
-  put-none (c .before .before .before .before .before .before .before .before .before .before .before .args .t1) _ _ _ _
-      (c .before .before .before .before .before .before .put-header .ensures) (c .before .before .put-point .ensures),
-)
+-- there is room for the table
+table-room : (c : tie.Else2) → let s = start-of (c .before .before) in table-words (s .args .m .count) ≤ length (s .args .table .now)
+table-room c = omega (arith, c .before .table-size .ensures, c .if2 .left)
 
-mul-p : tie.Need-mul-p Inv-loop μ-loop
-mul-p c = search needs
+state-size-requires : tie.Need-state-size-requires
+state-size-requires c κs = search needs
 
-element-copy-out-p : tie.Need-element-copy-out-p Inv-loop μ-loop
-element-copy-out-p c = search needs
+returns-3 : tie.Need-returns-3
+returns-3 c =
+    let sized = c .before in
+    let table = sized .before in
+    state-short-put _ _ _ (table .before .before .if1 .left) (table-room table) (omega (arith, sized .state-size .ensures, c .if3 .taken))
 
-mul-put-component : tie.Need-mul-put-component Inv-loop μ-loop
-mul-put-component c = search needs
+-- and for the state
+state-room : (c : tie.Else3) → let s = start-of (c .before .before .before .before) in state-words-of (s .args .m .count) ≤ length (s .args .state .now)
+state-room c = omega (arith, c .before .state-size .ensures, c .if3 .left)
 
-element-copy-out-put-component : tie.Need-element-copy-out-put-component Inv-loop μ-loop
-element-copy-out-put-component c = search needs
+put-fitting-requires : tie.Need-put-fitting-requires
+put-fitting-requires c κs =
+    let state = c .before .before in
+    let table = state .before .before in
+    (table .before .before .if1 .left, (table-room table, state-room state))
 
-put-component-requires : tie.Need-put-component-requires Inv-loop μ-loop
-put-component-requires c κs = search needs
+same-length : tie.Need-same-length
+same-length c = search needs
 
-put-state-requires : tie.Need-put-state-requires Inv-loop μ-loop
-put-state-requires c κs = search needs
+same-length-2 : tie.Need-same-length-2
+same-length-2 c = search needs
 
-add-i : tie.Need-add-i Inv-loop μ-loop
-add-i c = search needs
-
-loop-less : tie.Need-loop-less Inv-loop μ-loop
-loop-less c = search needs
-
-loop-again : tie.Need-loop-again Inv-loop μ-loop
-loop-again c =
-    let put = c .before .before in
-    let record-put = put .before .before .before .before in
-    let test = record-put .before .before .before .before .before .before in
-    let turn = test .before in (
-      omega (arith, test .loop-test .taken),
-      put-more _ (turn .loop .i) _ _ _ _ _ _ (omega (arith, test .loop-test .taken)) (turn .loop .inv .1) (record-put .put-component .ensures) (put .put-state .ensures),
-    )
-
-same-length : tie.Need-same-length Inv-loop μ-loop
-same-length c =
-    let start-put = c .before .before .before .before .before .before .before .before in
-    c .before .loop .inv .1 .table-size ∙ start-put .put-header .ensures .size
-
-same-length-2 : tie.Need-same-length-2 Inv-loop μ-loop
-same-length-2 c = c .before .loop .inv .1 .state-size ∙ c .before .before .before .before .put-point .ensures .size
-
-returns : tie.Need-returns Inv-loop μ-loop
-returns c =
-    let loop = c .before .loop in
-    let point = c .before .before .before .before in
-    let header = point .before .before .before .before in
-    let start = header .before .before .before .before .before in
-    let m = start .args .t1 in
-    let done : loop .i ≡ m .count = omega (arith, c .loop-test .left, loop .inv .0) in
-    let orders : m .count ≤ length (m .order) = omega (arith, start .pre .0, simp length-map at (start .good .0)) in
-    let parts : m .count ≤ length (m .parts) = omega (arith, start .pre .0, simp length-map at (start .good .0)) in (
-      model-put m _ _ (loop .table) (loop .state)
-          (subst (λ (n : ℕ). PutFirst m n (header .put-header .last .0) (point .put-point .last .0) (loop .table) (loop .state)) done (loop .inv .1))
-          (start .pre .0) orders parts (omega (arith, start .pre .1 .0, header .put-header .ensures .size))
-          (omega (arith, start .pre .1 .1, point .put-point .ensures .size)),
-      behind-put-words m (start .args .table .now) (header .put-header .last .0) (start .args .state .now) (point .put-point .last .0) (loop .table) (loop .state)
-          (header .put-header .ensures) (point .put-point .ensures) (loop .inv .1 .behind),
-    )
+returns-4 : tie.Need-returns-4
+returns-4 c =
+    let puts = c .before .before .before .before in
+    let state = puts .before .before .before in
+    let table = state .before .before in
+    whole-put _ _ (puts .put-fitting .last .1 .0) _ (puts .put-fitting .last .1 .1 .0) (table .before .before .if1 .left) (table-room table)
+    (state-room state) (puts .put-fitting .ensures .0) (puts .put-fitting .ensures .1)
 
 pub put-model-spec : {M : Type 1} → statement M
 put-model-spec =
     tie.close
     (tie.spec
-    Inv-loop
-    μ-loop
-    put-header-requires
-    put-point-requires
-    loop-holds
-    mul-p
-    element-copy-out-p
-    mul-put-component
-    element-copy-out-put-component
-    put-component-requires
-    put-state-requires
-    add-i
-    loop-less
-    loop-again
+    returns
+    table-size-requires
+    returns-2
+    state-size-requires
+    returns-3
+    put-fitting-requires
     same-length
     same-length-2
-    returns)
+    returns-4)

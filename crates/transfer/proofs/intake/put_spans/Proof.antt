@@ -1,4 +1,5 @@
--- `put_spans` writes one place after the other. The invariant: the first j spans are written, and nothing else is changed. The measure is how many are left.
+-- `put_spans` writes one place after the other. The invariant: the words of the first j places are written, and nothing
+-- else is changed. The measure is how many are left.
 use Prim.Native.Nat.{ℕ, _+_, _-_, _*_, _≤_}
 use native.Mathlib.Omega.{arith}
 use mathlib.Core.Path.{_≡_, subst}
@@ -8,10 +9,10 @@ use Rattle.transfer.proofs.intake.put_spans.Statement.{statement}
 use Rattle.transfer.proofs.intake.put_spans.Tie as tie
 
 abbrev Inv-loop : tie.InvT-loop
-Inv-loop table₀ i spans k j₀ table j = (j ≤ 8) × SpansFirst (18 * i + 8) j spans table₀ table
+Inv-loop table₀ i count spans k j₀ table j = (j ≤ 8) × SpansFirst (18 * i + 8) j count spans table₀ table
 
 abbrev μ-loop : tie.MeasureT-loop
-μ-loop table₀ i spans k j₀ table j = 8 - j
+μ-loop table₀ i count spans k j₀ table j = 8 - j
 
 mul-k : tie.Need-mul-k Inv-loop μ-loop
 mul-k c = search needs
@@ -20,7 +21,7 @@ add-k : tie.Need-add-k Inv-loop μ-loop
 add-k c = search needs
 
 loop-holds : tie.Need-loop-holds Inv-loop μ-loop
-loop-holds c = (omega arith, spans-none _ _ _)
+loop-holds c = (omega arith, spans-none _ _ _ _)
 
 mul-span-word : tie.Need-mul-span-word Inv-loop μ-loop
 mul-span-word c = search needs
@@ -53,9 +54,9 @@ loop-again c =
     let turn = c .before .before in
     let low = c .before .loop-test .taken in (
       omega (arith, low),
-      spans-more _ (turn .loop .j) _ _ (turn .loop .table) (c .span-word .result) (turn .loop .inv .1)
+      spans-more _ (turn .loop .j) _ _ _ (turn .loop .table) (c .span-word .result) (turn .loop .inv .1)
           (omega (arith, turn .before .before .pre, turn .loop .inv .1 .size, low)) (c .span-word .ensures .0)
-          (omega (arith, c .span-word .ensures .0, c .span-word .ensures .1)),
+          (c .span-word .ensures .1),
     )
 
 same-length : tie.Need-same-length Inv-loop μ-loop
@@ -67,8 +68,9 @@ returns c =
     let start = c .before .before .before in
     let g = start .args in
     let done : loop .j ≡ 8 = omega (arith, c .loop-test .left, loop .inv .0) in
-    spans-put (g .i) (g .t3) (g .table .now) (loop .table)
-    (subst (λ (n : ℕ). SpansFirst (18 * g .i + 8) n (g .t3) (g .table .now) (loop .table)) done (loop .inv .1)) (start .good .1 .1 .0 .1 .0 .1)
+    spans-put (g .i) (g .count) (g .t4) (g .table .now) (loop .table)
+    (subst (λ (n : ℕ). SpansFirst (18 * g .i + 8) n (g .count) (g .t4) (g .table .now) (loop .table)) done
+    (loop .inv .1)) (start .good .1 .1 .1 .0 .1 .0 .1)
 
 pub put-spans-spec : {M : Type 1} → statement M
 put-spans-spec =

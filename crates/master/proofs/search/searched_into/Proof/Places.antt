@@ -161,7 +161,8 @@ pub behind-trial :
 behind-trial tries =
     let at = loop-of-trial tries in
     let s = start-of at in
-    behind-through (parts-lent (s .args .table .now)) (s .args .new .now) (at .loop .new) (words-of tries) (behind-at at) (tries .shown-into .ensures .1 .1)
+    behind-through (parts-lent (s .args .table .now)) (s .args .new .now) (at .loop .new) (words-of tries)
+    (behind-at at) (tries .shown-into .ensures .1 .1 .0)
 
 -- there is room for it
 pub room-of-trial : (tries : tie.After-shown-into Inv-loop μ-loop Inv-ceilings μ-ceilings) → WordsThere (start-of (loop-of-trial tries) .args .table .now) (words-of tries)
