@@ -1,7 +1,8 @@
 //! Document 01's played examples and a clapper through the binding, previewed, played, saved and printed: what lies in the words
 //! comes back whole, and words that spell no model are refused.
-use dozhumek::{load, load_into, preview_into, save_into, sheet_into, state_words, table_words};
+use dozhumek::{advance_into, load, load_into, preview_into, save_into, sheet_into, state_words, table_words};
 use dozhumek::{Answer, Kind, Mark, Model, Part, Preview, Refusal, Refused, Side, PARTS};
+use std::fmt::Debug;
 
 /// A Part command.
 fn part(kind: u8, a: i32, b: i32, p: u32) -> Vec<u8> {
@@ -356,7 +357,6 @@ fn previews_into_lent_words() {
     assert_eq!(called(0, needed + 1, 6), (20, [&state[..], &[9]].concat(), vec![20, 0, 0, 0, 0, 9]));
     assert_eq!(called(5, needed - 1, 5), (25, vec![9; needed - 1], vec![25, 0, 0, 0, 0]));
     assert_eq!(called(0, needed - 1, 5), (20, vec![9; needed - 1], vec![20, 0, 0, 0, 0]));
-    assert_eq!(called(5, needed, 4), (25, vec![9; needed], vec![9; 4]));
 }
 
 #[test]
@@ -399,9 +399,6 @@ fn saves_into_lent_bytes() {
     for behind in [0, 1, 1000] {
         let bytes = [&stream[..], &vec![9; behind]].concat();
         assert_eq!(saved(length + behind, 3), (0, bytes, vec![0, length as u64, 9]));
-    }
-    for words in [0, 1] {
-        assert_eq!(saved(length, words), (25, vec![9; length], vec![9; words]));
     }
 }
 
@@ -482,12 +479,11 @@ fn sheets_into_lent_bytes() {
             let bytes = [text.as_bytes(), &vec![9; behind]].concat();
             assert_eq!(sheet.printed_into(79 + behind, 3), (0, bytes, vec![0, 79, 9]));
         }
-        for words in [0, 1] {
-            assert_eq!(sheet.printed_into(80, words), (25, vec![9; 80], vec![9; words]));
-        }
+        // Fewer words spell no answer, whatever else is wrong.
         for length in 0..5 {
             let sheet = Sheet { outcome: &outcome[..length], ..sheet };
-            assert_eq!(sheet.printed_into(80, 2), (25, vec![9; 80], vec![9; 2]));
+            sheet.refused(24);
+            Sheet { choice: [0, 1, 2], ..sheet }.refused(24);
         }
         let sheet = Sheet { outcome: &outcome[..5], ..sheet };
         assert_eq!(sheet.printed_into(79, 2), (0, text.into_bytes(), vec![0, 79]));
@@ -510,24 +506,105 @@ fn sheets_refused() {
     }
 }
 
+/// Fails unless a call answers its number with every room for its answer, from none to a word more than it has, each 9
+/// before: what fits of the answer is written, the words after it are kept, and what the call leaves elsewhere is the
+/// same.
+fn answered<T: Debug + PartialEq>(answer: &[u64], left: &T, call: impl Fn(&mut [u64]) -> (u64, T)) {
+    for room in 0..=answer.len() + 1 {
+        let mut out = vec![9; room];
+        let (number, elsewhere) = call(&mut out);
+        let due: Vec<u64> = (0..room).map(|at| answer.get(at).copied().unwrap_or(9)).collect();
+        assert_eq!((number, &elsewhere, out), (answer[0], left, due));
+    }
+}
+
+#[test]
+fn loads_with_any_room_for_an_answer() {
+    let stream = table(&[part(0, 3, 0, 0), part(12, 10, -2, 0), wire(0, 1, 0)]);
+    let (length, spelled) = (stream.len(), spelled());
+    let [few, states] = [table_words(2) - 1, state_words(2)];
+    let none = (vec![9; table_words(2)], vec![9; states]);
+    let loaded = |bytes: usize, words: usize, out: &mut [u64]| {
+        let (mut table, mut state) = (vec![9; words], vec![9; states]);
+        let number = load_into(&stream[..bytes], &mut table, &mut state, out);
+        (number, (table, state))
+    };
+    answered(&[0, length as u64], &spelled, |out| loaded(length, few + 1, out));
+    answered(&[25, length as u64], &(vec![9; few], none.1.clone()), |out| loaded(length, few, out));
+    // No End, and a command that is cut.
+    answered(&[1, length as u64 - 1], &none, |out| loaded(length - 1, few + 1, out));
+    answered(&[1, length as u64 - 5], &none, |out| loaded(length - 2, few + 1, out));
+    answered(&[1, 0], &none, |out| loaded(0, few + 1, out));
+}
+
+#[test]
+fn steps_with_any_room_for_an_answer() {
+    let (table, state) = spelled();
+    let (needed, mut ahead) = (state.len(), Model::from_words(table.clone(), state.clone()));
+    advance(&mut ahead, 5);
+    let none = vec![9; needed];
+    for call in [advance_into, preview_into] {
+        let made = |table: &[u64], wanted: u64, room: usize, out: &mut [u64]| {
+            let mut new = vec![9; room];
+            (call(table, &state, wanted, &mut new, out), new)
+        };
+        answered(&[0, 5, 1, 0, 5], &ahead.state().to_vec(), |out| made(&table, 5, needed, out));
+        answered(&[25, 0, 0, 0, 0], &vec![9; needed - 1], |out| made(&table, 5, needed - 1, out));
+        answered(&[20, 0, 0, 0, 0], &vec![9; needed - 1], |out| made(&table, 0, needed - 1, out));
+        answered(&[24, 0, 0, 0, 0], &none, |out| made(&table[..table.len() - 1], 5, needed, out));
+    }
+    // A barred preview shows the old state.
+    let shown = |out: &mut [u64]| {
+        let mut new = none.clone();
+        (preview_into(&table, &state, 0, &mut new, out), new)
+    };
+    answered(&[20, 0, 0, 0, 0], &state, shown);
+}
+
+#[test]
+fn writing_calls_with_any_room_for_an_answer() {
+    let stream = table(&[part(0, 3, 0, 0), part(12, 10, -2, 0), wire(0, 1, 0)]);
+    let (length, (table, state)) = (stream.len(), spelled());
+    let saved = |table: &[u64], room: usize, out: &mut [u64]| {
+        let mut buffer = vec![9; room];
+        (save_into(table, &state, &mut buffer, out), buffer)
+    };
+    answered(&[0, length as u64], &stream, |out| saved(&table, length, out));
+    answered(&[25, length as u64], &vec![9; length - 1], |out| saved(&table, length - 1, out));
+    answered(&[24, 0], &vec![9; length], |out| saved(&table[..table.len() - 1], length, out));
+    let printed = |outcome: &[u64], third: u64, room: usize, out: &mut [u64]| {
+        let mut buffer = vec![9; room];
+        (sheet_into(&table, &state, outcome, [0, 1, third], &mut buffer, out), buffer)
+    };
+    let outcome = [22, 0, 2, 0, 1];
+    answered(&[0, 79], &refused_line(22).into_bytes(), |out| printed(&outcome, 0, 79, out));
+    answered(&[25, 79], &vec![9; 78], |out| printed(&outcome, 0, 78, out));
+    answered(&[26, 0], &vec![9; 78], |out| printed(&outcome, 2, 78, out));
+    answered(&[24, 0], &vec![9; 78], |out| printed(&outcome[..4], 2, 78, out));
+}
+
 #[test]
 fn words_that_mean_nothing() {
     let (table, state) = spelled();
-    // Words behind the model's, and any word behind an absent signal.
+    // Words after the model's, any word after an absent signal, and any in a place that no span is in.
     let mut model = Model::from_words([&table[..], &[9; 7]].concat(), [&state[..], &[9; 7]].concat());
     assert_eq!(advance(&mut model, 1).number, 0);
     assert_eq!(model.state()[state_words(2)..], [9; 7]);
     assert_eq!(model.save(), Model::from_words(table.clone(), state.clone()).save());
-    let mut absent = state;
+    let mut absent = state.clone();
     absent[state_words(1) + 4] = 9;
-    let mut model = Model::from_words(table, absent);
-    assert_eq!((model.save().is_ok(), advance(&mut model, 1).number), (true, 0));
+    let mut spare = table.clone();
+    spare[table_words(1) + 6..table_words(1) + 14].fill(u64::MAX);
+    for (table, state) in [(table.clone(), absent), (spare, state)] {
+        let mut model = Model::from_words(table, state);
+        assert_eq!((model.save().is_ok(), advance(&mut model, 1).number), (true, 0));
+    }
 }
 
 #[test]
 fn malformed_words() {
     let (table, state) = spelled();
-    // A magnitude, a kind, a preference, an operand p, a span, a port and a place of the order.
+    // A magnitude, a kind, a preference, an operand p, a port and a place of the order.
     let of_part = table_words(1);
     let in_table = [
         (0, 256),
@@ -535,8 +612,6 @@ fn malformed_words() {
         (of_part, 256 + 12),
         (of_part + 1, 511),
         (of_part + 4, 1 << 32),
-        (of_part + 6, 1 << 32),
-        (of_part + 13, 1 << 32),
         (of_part + 14, 70_000),
         (of_part + 14, 65_536 + 1),
         (of_part + 15, 70_000),
@@ -545,6 +620,13 @@ fn malformed_words() {
     for (at, word) in in_table {
         let mut table = table.clone();
         table[at] = word;
+        refused(table, state.clone());
+    }
+    // The first span and the last, of eight that are in use.
+    for at in [6, 13] {
+        let mut table = table.clone();
+        table[of_part + 5] = 8;
+        table[of_part + at] = 1 << 32;
         refused(table, state.clone());
     }
     // A tag of each signal, a side and a mark.

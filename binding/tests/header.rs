@@ -81,7 +81,7 @@ fn constants() {
         ("STATE_RECORD", STATE_RECORD),
         ("HEAD", HEAD),
         ("SHEET_LINE", SHEET_LINE),
-        ("SAVE_MOST", 3 + PARTS * (15 + 5 * SPANS + 2 * 4)),
+        ("SAVE_MOST", 3 + PARTS * (15 + 5 * SPANS + 4)),
         ("NOT_REFUSED", 0),
         ("NO_PREFERENCE", 255),
         ("UNWIRED", 0),

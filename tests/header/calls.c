@@ -272,9 +272,6 @@ static void printed(void) {
     outcome[DOZHUMEK_OUT_NUMBER] = DOZHUMEK_REFUSED_NO_STEP_ACCEPTED;
     check("a sheet of a refused answer", sheet(0, 2, sizeof buffer), DOZHUMEK_NOT_REFUSED);
     check("whether the line of a refused answer is another", memcmp(buffer, "refused 22 ", 11) != 0, 0);
-    uint64_t number = dozhumek_sheet(table, DOZHUMEK_TABLE_WORDS(parts), state, DOZHUMEK_STATE_WORDS(parts), outcome,
-        DOZHUMEK_ADVANCE_OUT - 1, 0, 1, 2, buffer, sizeof buffer, out, DOZHUMEK_SHEET_OUT);
-    check("a sheet of too few words of an answer", number, DOZHUMEK_REFUSED_TOO_SHORT);
 }
 
 // A load of the stream that is refused with a number at a position, and keeps all words.
@@ -315,7 +312,7 @@ static void commands_refused(void) {
     begin(0), refuses_at("no parts", DOZHUMEK_REFUSED_NO_PARTS, 2);
 }
 
-// Loads and other calls with too few words lent.
+// Loads and advances with too few words lent for what they write.
 static void too_short(void) {
     crossing(), load(3);
     const size_t words = DOZHUMEK_TABLE_WORDS(parts), own = DOZHUMEK_STATE_WORDS(parts);
@@ -324,21 +321,113 @@ static void too_short(void) {
     check("the position of a short load", out[DOZHUMEK_OUT_POSITION], length);
     number = dozhumek_load(stream, length, table, words, next, own - 1, out, DOZHUMEK_LOAD_OUT);
     check("a load into a short state", number, DOZHUMEK_REFUSED_TOO_SHORT);
-    number = dozhumek_load(stream, length, table, words, state, own, out, DOZHUMEK_LOAD_OUT - 1);
-    check("a load with a short answer", number, DOZHUMEK_REFUSED_TOO_SHORT);
     number = dozhumek_advance(table, words, state, own, 8, next, own - 1, out, DOZHUMEK_ADVANCE_OUT);
     check("an advance into a short state", number, DOZHUMEK_REFUSED_TOO_SHORT);
-    fill(out, WORDS(out));
-    number = dozhumek_advance(table, words, state, own, 8, next, own, out, DOZHUMEK_ADVANCE_OUT - 1);
-    check("an advance with a short answer", number, DOZHUMEK_REFUSED_TOO_SHORT);
-    number = dozhumek_preview(table, words, state, own, 8, next, own, out, DOZHUMEK_PREVIEW_OUT - 1);
-    check("a preview with a short answer", number, DOZHUMEK_REFUSED_TOO_SHORT);
-    number = dozhumek_save(table, words, state, own, buffer, sizeof buffer, out, DOZHUMEK_SAVE_OUT - 1);
-    check("a save with a short answer", number, DOZHUMEK_REFUSED_TOO_SHORT);
-    number = dozhumek_sheet(table, words, state, own, outcome, WORDS(outcome), 0, 0, 0, buffer, sizeof buffer, out,
-        DOZHUMEK_SHEET_OUT - 1);
-    check("a sheet with a short answer", number, DOZHUMEK_REFUSED_TOO_SHORT);
-    check("words of a short answer", written(out, 0, WORDS(out)), 0);
+}
+
+// The calls by room for their answer: what they are lent for writing apart from `out`, how much of it, and what they
+// are handed.
+static struct lent {
+    uint64_t table[WORDS(table)], state[WORDS(state)], next[WORDS(next)];
+    uint8_t buffer[DOZHUMEK_SAVE_MOST];
+} lent, whole;
+static size_t table_room, next_room, buffer_room, outcome_words;
+static uint64_t wanted, third;
+
+// A load of the stream.
+static uint64_t load_into(size_t room) {
+    return dozhumek_load(stream, length, lent.table, table_room, lent.state, WORDS(lent.state), out, room);
+}
+
+// An advance of the model.
+static uint64_t advance_into(size_t room) {
+    return dozhumek_advance(table, DOZHUMEK_TABLE_WORDS(parts), state, DOZHUMEK_STATE_WORDS(parts), wanted, lent.next,
+        next_room, out, room);
+}
+
+// A preview of it.
+static uint64_t preview_into(size_t room) {
+    return dozhumek_preview(table, DOZHUMEK_TABLE_WORDS(parts), state, DOZHUMEK_STATE_WORDS(parts), wanted, lent.next,
+        next_room, out, room);
+}
+
+// A save of its table.
+static uint64_t save_into(size_t room) {
+    return dozhumek_save(table, DOZHUMEK_TABLE_WORDS(parts), state, DOZHUMEK_STATE_WORDS(parts), lent.buffer,
+        buffer_room, out, room);
+}
+
+// A sheet of the last outcome.
+static uint64_t sheet_into(size_t room) {
+    return dozhumek_sheet(table, DOZHUMEK_TABLE_WORDS(parts), state, DOZHUMEK_STATE_WORDS(parts), outcome,
+        outcome_words, 0, 1, third, lent.buffer, buffer_room, out, room);
+}
+
+// A call with every room for its answer, from one word more than it has down to none. It has so many words, of which
+// the first two are given. Whatever the room is, the call answers its number, writes the words that fit, and leaves all
+// else alike.
+static void answers(
+    const char *what, uint64_t (*call)(size_t room), size_t count, uint64_t number, uint64_t second) {
+    uint64_t words[WORDS(out)] = {0};
+    for (size_t room = count + 2; room-- > 0;) {
+        fill(out, WORDS(out)), memset(&lent, FILL, sizeof lent);
+        check(what, call(room), number);
+        if (room > count) memcpy(words, out, sizeof words), memcpy(&whole, &lent, sizeof whole);
+        for (size_t i = 0; i < WORDS(out); i++) check(what, out[i], i < room && i < count ? words[i] : FILL);
+        check("whether less room for an answer leaves something else", memcmp(&lent, &whole, sizeof whole) != 0, 0);
+    }
+    check(what, words[0], number), check(what, words[1], second);
+}
+
+// Loads by room for their answer: accepted, into a short table, cut, and refused at a command.
+static void loads_answered(void) {
+    crossing(), table_room = WORDS(lent.table);
+    answers("a load", load_into, DOZHUMEK_LOAD_OUT, DOZHUMEK_NOT_REFUSED, length);
+    table_room = DOZHUMEK_TABLE_WORDS(3) - 1;
+    answers("a load into a short table", load_into, DOZHUMEK_LOAD_OUT, DOZHUMEK_REFUSED_TOO_SHORT, length);
+    length -= 1, answers("a load of a cut stream", load_into, DOZHUMEK_LOAD_OUT, DOZHUMEK_REFUSED_CUT, length);
+    begin(0), plain(13, 0, 0, 0);
+    answers("a load of kind 13", load_into, DOZHUMEK_LOAD_OUT, DOZHUMEK_REFUSED_OUT_OF_RANGE, 2);
+}
+
+// An advance, or a preview, by room for its answer: committed, refused by the search, into a short state, and barred.
+static void steps_answered(const char *what, uint64_t (*call)(size_t room)) {
+    driven(), load(3), next_room = WORDS(lent.next), wanted = 9;
+    answers(what, call, DOZHUMEK_ADVANCE_OUT, DOZHUMEK_NOT_REFUSED, 5);
+    wanted = 1, answers(what, call, DOZHUMEK_ADVANCE_OUT, DOZHUMEK_REFUSED_NO_STEP_ACCEPTED, 0);
+    next_room = DOZHUMEK_STATE_WORDS(3) - 1, wanted = 9;
+    answers(what, call, DOZHUMEK_ADVANCE_OUT, DOZHUMEK_REFUSED_TOO_SHORT, 0);
+    wanted = 0, answers(what, call, DOZHUMEK_ADVANCE_OUT, DOZHUMEK_REFUSED_WANTED_OUT_OF_RANGE, 0);
+    table[DOZHUMEK_TABLE_AT(1, DOZHUMEK_TABLE_KIND)] = DOZHUMEK_KIND_CLAPPER + 1;
+    answers(what, call, DOZHUMEK_ADVANCE_OUT, DOZHUMEK_REFUSED_NOT_SOUND, 0);
+}
+
+// A save by room for its answer: made, into a short buffer, and of words that spell no model.
+static void saves_answered(void) {
+    driven(), load(3), buffer_room = sizeof lent.buffer;
+    answers("a save", save_into, DOZHUMEK_SAVE_OUT, DOZHUMEK_NOT_REFUSED, length);
+    buffer_room = length - 1;
+    answers("a save into a short buffer", save_into, DOZHUMEK_SAVE_OUT, DOZHUMEK_REFUSED_TOO_SHORT, length);
+    table[DOZHUMEK_TABLE_COUNT] = DOZHUMEK_PARTS + 1;
+    answers("a save of too many parts", save_into, DOZHUMEK_SAVE_OUT, DOZHUMEK_REFUSED_NOT_SOUND, 0);
+}
+
+// A sheet by room for its answer: made, into a short buffer, of a part that is not there, and of words that spell no
+// model. Fewer words than an outcome has are refused so too, before anything else: without room, and of any parts.
+static void sheets_answered(void) {
+    const uint64_t line = DOZHUMEK_SHEET_LINE;
+    crossing(), load(3), goes(8, 2, 0, 2, 3, 2);
+    buffer_room = sizeof lent.buffer, outcome_words = WORDS(outcome), third = 2;
+    answers("a sheet", sheet_into, DOZHUMEK_SHEET_OUT, DOZHUMEK_NOT_REFUSED, line);
+    buffer_room = DOZHUMEK_SHEET_LINE - 1;
+    answers("a sheet into a short buffer", sheet_into, DOZHUMEK_SHEET_OUT, DOZHUMEK_REFUSED_TOO_SHORT, line);
+    third = 3;
+    answers("a sheet of part 3", sheet_into, DOZHUMEK_SHEET_OUT, DOZHUMEK_REFUSED_NOT_PRINTABLE, 0);
+    for (outcome_words = 0; outcome_words < WORDS(outcome); outcome_words++)
+        answers("a sheet of a short outcome", sheet_into, DOZHUMEK_SHEET_OUT, DOZHUMEK_REFUSED_NOT_SOUND, 0);
+    check("bytes of a sheet of a short outcome", lent.buffer[0], FILL);
+    table[DOZHUMEK_TABLE_COUNT] = DOZHUMEK_PARTS + 1;
+    answers("a sheet of too many parts", sheet_into, DOZHUMEK_SHEET_OUT, DOZHUMEK_REFUSED_NOT_SOUND, 0);
 }
 
 // Every call of the words as they are is refused as not sound, and nothing but its answer is written.
@@ -391,6 +480,8 @@ int main(void) {
     crossing_played(), others_played(), driven_played();
     saved(), printed();
     commands_refused(), too_short(), words_malformed(), last_points();
+    loads_answered(), steps_answered("an advance", advance_into), steps_answered("a preview", preview_into);
+    saves_answered(), sheets_answered();
     if (differences > 0) {
         printf("header: failed: %d of %d checks in C\n", differences, checks);
         return 1;

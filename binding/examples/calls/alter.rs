@@ -495,7 +495,7 @@ fn put_spans(words: &mut Words, part: usize, spans: u64) {
 }
 
 /// A drive with at least so many spans, and how many it has; it may be given new ones.
-fn drive_with_spans(words: &mut Words, random: &mut Random, least: u64) -> Option<(usize, usize)> {
+pub fn drive_with_spans(words: &mut Words, random: &mut Random, least: u64) -> Option<(usize, usize)> {
     let drive = some_part(words, random, |part| part[KIND] == 11)?;
     if words.part(drive)[SPAN_COUNT] < least {
         put_spans(words, drive, least + random.below(9 - least as usize) as u64);

@@ -1,8 +1,10 @@
-//! One load and one advance by both, compared: as it is, through the binding, and with too few words. Each advance is previewed
-//! as well, each answer printed, and each model's table saved.
+//! One load and one advance by both, compared: as it is, through the binding, with too few words, and with every room
+//! for its answer. Each advance is previewed as well, each answer printed, and each model's table saved.
 
 use crate::alter::any;
-use crate::lent::{self, cut, fewer, same_records, spare, state_words, table_words, Call, Load, ADVANCE, TOO_SHORT};
+use crate::lent::{
+    self, cut, fewer, fits, same_records, spare, state_words, table_words, Call, Load, ADVANCE, TOO_SHORT,
+};
 use crate::previewed::preview;
 use crate::random::Random;
 use crate::saved::{save, save_fresh};
@@ -65,16 +67,20 @@ pub fn load_both(stream: &[u8], random: &mut Random) -> Result<(Load, Option<Mod
     let count = loaded.as_ref().map_or(0, |model| model.parts.len());
     let lengths = [table_words(count) + spare(random), state_words(count) + spare(random), 2 + spare(random)];
     let got = lent::load(stream, lengths, fill);
-    if got.code != number || got.out[..2] != [number, position] || got.out[2..].iter().any(|&word| word != fill) {
+    if got.code != number || !fits(&got.out, &[number, position], fill) {
         return Err(format!("load answers {} and {:?} instead of {number} at {position}", got.code, got.out));
     }
     let words = Words::of_lent(&got.table, &got.state);
     match &loaded {
         Some(model) => {
-            // The spans in no use are free.
             let mut wanted = words.clone();
             wanted.put(model);
             same_words(&words, &wanted)?;
+            // The places for spans that no span is in are 0.
+            let after = |part: &[u64]| part[FIRST_SPAN + part[SPAN_COUNT] as usize..PORT].iter().any(|&word| word != 0);
+            if (0..count).any(|number| after(words.part(number))) {
+                return Err("load leaves noise after a part's spans".to_string());
+            }
             let behind = got.table[table_words(count)..].iter().chain(&got.state[state_words(count)..]);
             if behind.copied().any(|word| word != fill) {
                 return Err("load writes behind the model".to_string());
@@ -126,7 +132,7 @@ fn load_bound(stream: &[u8], said: [u64; 2], count: usize) -> Result<(), String>
     }
 }
 
-/// The same load with too few words.
+/// The same load with too few words, and with every room for its answer.
 fn load_short(
     stream: &[u8],
     [number, position]: [u64; 2],
@@ -149,11 +155,17 @@ fn load_short(
         seen.count(if number == 0 { "load into too few words" } else { "refused load into too few words" });
     }
     if random.once_in(16) {
-        let got = lent::load(stream, [table, state, random.below(2)], fill);
-        if got.code != TOO_SHORT || got.out.iter().any(|&word| word != fill) || !got.kept(fill) {
-            return Err(format!("load with room for {} words of its answer answers {}", got.out.len(), got.code));
+        let whole = lent::load(stream, [table, state, 2], fill);
+        for room in 0..=3 {
+            let got = lent::load(stream, [table, state, room], fill);
+            let same = got.table == whole.table && got.state == whole.state;
+            if got.code != number || !fits(&got.out, &[number, position], fill) || !same {
+                return Err(format!("load with room for {room} words answers {} and {:?}", got.code, got.out));
+            }
         }
-        seen.count("load with too little room");
+        let name =
+            if number == 0 { "load with any room for its answer" } else { "refused load with any room for its answer" };
+        seen.count(name);
     }
     Ok(())
 }
@@ -212,6 +224,7 @@ pub fn advance(given: &Words, w: u64, random: &mut Random, seen: &mut Seen) -> R
         state[..needed].copy_from_slice(&got.new[..needed]);
         after = Words::of_lent(&given.table(), &state);
         same_words(&after.plain(), &want.model.plain())?;
+        free_words(&after, &Words::of_lent(&table, &old), want.counts[0] == 0)?;
     }
     if random.once_in(8) {
         advance_bound(&table, &old, w, &want)?;
@@ -223,6 +236,24 @@ pub fn advance(given: &Words, w: u64, random: &mut Random, seen: &mut Seen) -> R
     sheet(&table, state, &want, random, seen).map_err(|what| format!("sheet: {what}"))?;
     seen.answer(given, w, &want.counts, &want.model, want.meant.is_none());
     Ok((want.counts[0], if want.counts[0] == 0 { after } else { given.clone() }))
+}
+
+/// Fails unless the free words of a state after a round are as promised: after a step the value of an absent output is 0, and
+/// that of an absent held signal is 0 or the old word; a refusal leaves the old words.
+fn free_words(after: &Words, before: &Words, committed: bool) -> Result<(), String> {
+    let clean = |number: usize| {
+        let (part, old) = (after.part(number), before.part(number));
+        let output = part[OUTPUT] == 1 || part[OUTPUT + 1] == 0;
+        output && (part[SIGNAL] == 1 || part[SIGNAL + 1] == 0 || part[SIGNAL + 1] == old[SIGNAL + 1])
+    };
+    let words = state_words(after.count());
+    let same = after.state()[..words] == before.state()[..words];
+    let kept = if committed { (0..after.count()).all(clean) } else { same };
+    if kept {
+        Ok(())
+    } else {
+        Err("advance leaves other free words than promised".to_string())
+    }
 }
 
 /// The same advance through the binding.
@@ -248,7 +279,8 @@ pub fn counts(answered: Result<Answer, Refused>) -> Option<[u64; 5]> {
     (refused_by == number).then_some([number, step, rounds, revisions, ceiling])
 }
 
-/// The same call with too few words. Whether they were too few for its state alone, and the number was 25.
+/// The same call with every room for its answer, and with too few words. Whether they were too few for its state alone,
+/// and the number was 25.
 pub fn short(
     call: &Call,
     table: &[u64],
@@ -267,11 +299,15 @@ pub fn short(
         seen.count(call.of_too_few);
     }
     if random.once_in(64) {
-        let got = call.made(table, old, w, [needed, random.below(5)], fill);
-        if got.code != TOO_SHORT || got.out.iter().any(|&word| word != fill) || !got.kept_from(0, fill) {
-            return Err(format!("room for {} words of the answer is answered {}", got.out.len(), got.code));
+        let whole = call.made(table, old, w, [needed, 5], fill);
+        for room in 0..=6 {
+            let got = call.made(table, old, w, [needed, room], fill);
+            got.says(&want.counts, fill)?;
+            if got.new != whole.new {
+                return Err(format!("another state with room for {room} words of the answer"));
+            }
         }
-        seen.count(call.with_too_little_room);
+        seen.count(if want.counts[0] == 0 { call.with_any_room } else { call.refused_with_any_room });
     }
     if !random.once_in(16) {
         return Ok(false);

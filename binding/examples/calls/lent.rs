@@ -40,13 +40,14 @@ impl Load {
 /// An exported call on a table, an old state and a wanted step, into a new state and an answer.
 type Exported = fn(&[u64], &[u64], u64, &mut [u64], &mut [u64]) -> u64;
 
-/// Such a call, with the names of its tries on too few words.
+/// Such a call, with the names of its tries on too few words and with every room for its answer.
 pub struct Call {
     into: Exported,
     pub of_too_few: &'static str,
     pub into_too_few: &'static str,
     pub barred_into_too_few: &'static str,
-    pub with_too_little_room: &'static str,
+    pub with_any_room: &'static str,
+    pub refused_with_any_room: &'static str,
 }
 
 pub const ADVANCE: Call = Call {
@@ -54,7 +55,8 @@ pub const ADVANCE: Call = Call {
     of_too_few: "advance of too few words",
     into_too_few: "advance into too few words",
     barred_into_too_few: "barred advance into too few words",
-    with_too_little_room: "advance with too little room",
+    with_any_room: "advance with any room for its answer",
+    refused_with_any_room: "refused advance with any room for its answer",
 };
 
 pub const PREVIEW: Call = Call {
@@ -62,7 +64,8 @@ pub const PREVIEW: Call = Call {
     of_too_few: "preview of too few words",
     into_too_few: "preview into too few words",
     barred_into_too_few: "barred preview into too few words",
-    with_too_little_room: "preview with too little room",
+    with_any_room: "preview with any room for its answer",
+    refused_with_any_room: "refused preview with any room for its answer",
 };
 
 /// What such a call leaves: its number, and the words of the new state and of the answer.
@@ -87,19 +90,16 @@ impl Left {
         self.new[from..].iter().all(|&word| word == fill)
     }
 
-    /// Fails unless the answer is these numbers, with `fill` behind them.
+    /// Fails unless the answer is these numbers, of which those that fit are written.
     pub fn says(&self, counts: &[u64; 5], fill: u64) -> Result<(), String> {
-        let (said, behind) = self.out.split_at(5);
-        if said != counts || self.code != counts[0] {
-            return Err(format!(
-                "number, step, rounds, revisions and ceiling are {said:?} instead of {counts:?}, and {} is answered",
-                self.code
-            ));
+        if self.code == counts[0] && fits(&self.out, counts, fill) {
+            return Ok(());
         }
-        if behind.iter().any(|&word| word != fill) {
-            return Err("a call writes behind its answer".to_string());
-        }
-        Ok(())
+        let said = &self.out;
+        Err(format!(
+            "number, step, rounds, revisions and ceiling are {said:?} instead of {counts:?}, and {} is answered",
+            self.code
+        ))
     }
 
     /// Fails unless the call is barred by a number: counts of 0, and no word of the new state written.
@@ -110,6 +110,11 @@ impl Left {
         }
         Ok(())
     }
+}
+
+/// Whether these words, all `fill` before, hold as much of an answer as they have room for, and `fill` after it.
+pub fn fits(out: &[u64], answer: &[u64], fill: u64) -> bool {
+    out.iter().enumerate().all(|(at, &word)| word == answer.get(at).copied().unwrap_or(fill))
 }
 
 /// How many words more than are needed.

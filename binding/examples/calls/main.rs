@@ -27,6 +27,7 @@ mod draft;
 #[path = "../../../second/src/bin/differ/generate.rs"]
 mod generate;
 mod lent;
+mod lists;
 mod malformed;
 #[path = "../../../second/src/bin/differ/options.rs"]
 mod options;
@@ -44,104 +45,19 @@ mod wanted;
 mod words;
 mod written;
 
-use alter::{Sort, Then, SORTS, SOUND};
-use compared::{advance, load, NOT_SOUND};
-use malformed::MALFORMED;
+use compared::load;
+use lists::{list, Last};
 use random::Random;
 use seen::Seen;
 use std::process::ExitCode;
 use std::time::Instant;
-use wanted::wanted;
-use words::{Words, FIRST_SPAN, PORT};
 
-/// What was tried last, and the stream or the words of the table and of the state that it was tried on, for the report of a
-/// difference.
-#[derive(Default)]
-struct Last {
-    what: String,
-    given: String,
-}
-
-impl Last {
-    fn load(stream: &[u8]) -> Last {
-        Last { what: "load of".to_string(), given: stream.iter().map(|byte| format!("{byte:02x}")).collect() }
-    }
-
-    fn advance(what: String, words: &Words) -> Last {
-        Last { what, given: format!("{:?} {:?}", words.table(), words.state()) }
-    }
-}
-
+/// Loads a generated stream, plays it, and alters what comes of that fourteen times.
 fn try_case(seed: u64, number: u64, seen: &mut Seen, last: &mut Last) -> Result<(), String> {
     let mut random = Random::of_case(seed, number);
-    let random = &mut random;
-    let stream = generate::case(random);
-    *last = Last::load(&stream);
+    let stream = generate::case(&mut random);
     seen.cases += 1;
-    let Some(model) = load(&stream, random, seen)? else { return Ok(()) };
-
-    // The unused places hold noise, but for spans that have to fit their width.
-    let mut words = alter::noise(random);
-    words.put(&model);
-    for number in 0..words.count() {
-        words.part_mut(number)[FIRST_SPAN..PORT].iter_mut().for_each(|span| *span &= 0xFFFF_FFFF);
-    }
-    play(&mut words, 8, random, seen, last)?;
-    seen.played(&words);
-    for _ in 0..14 {
-        play_altered(&mut words, random, seen, last)?;
-    }
-    Ok(())
-}
-
-/// Plays up to `most` steps of a sound model, which stays sound.
-fn play(words: &mut Words, most: usize, random: &mut Random, seen: &mut Seen, last: &mut Last) -> Result<(), String> {
-    for _ in 0..random.below(most + 1) {
-        let w = wanted(words, random);
-        *last = Last::advance(format!("advance by {w} of"), words);
-        let (number, after) = advance(words, w, random, seen)?;
-        *words = after;
-        if number == NOT_SOUND {
-            return Err("a model that was played is unsound".to_string());
-        }
-    }
-    Ok(())
-}
-
-/// Alters a model, advances it and, where it is sound, plays on; sometimes what comes of that is the model from then on.
-fn play_altered(words: &mut Words, random: &mut Random, seen: &mut Seen, last: &mut Last) -> Result<(), String> {
-    let (name, then, alteration): Sort = if random.once_in(6) { random.pick(MALFORMED) } else { random.pick(SORTS) };
-    let mut altered = words.clone();
-    // Some faults are far from the start.
-    let first = random.pick(&SORTS[..SOUND]);
-    let moved = first.1 == Then::Sound && random.once_in(3) && first.2(&mut altered, random);
-    if !moved {
-        altered = words.clone();
-    }
-    if !alteration(&mut altered, random) {
-        return Ok(());
-    }
-    let w = wanted(&altered, random);
-    *last = Last::advance(format!("{name}: advance by {w} of"), &altered);
-    let sound = altered.model().is_some_and(|model| model.sound());
-    match then {
-        Then::Sound if !sound => return Err("the second implementation finds it unsound".to_string()),
-        Then::Unsound if sound => return Err("the second implementation finds it sound".to_string()),
-        _ => {}
-    }
-    seen.sort(name, sound);
-    let (number, after) = advance(&altered, w, random, seen)?;
-    if (number == NOT_SOUND) == sound {
-        return Err("24 does not tell whether it is sound".to_string());
-    }
-    if sound {
-        altered = after;
-        play(&mut altered, 3, random, seen, last)?;
-        if random.once_in(4) {
-            *words = altered;
-        }
-    }
-    Ok(())
+    list(&stream, 8, 14, &mut random, seen, last)
 }
 
 struct Arguments {
@@ -160,7 +76,7 @@ fn arguments() -> Option<Arguments> {
 
 /// What differs, with the call that was made last.
 fn report(name: String, what: String, last: &Last) -> String {
-    format!("{name} differs: {what}\n{} {}", last.what, last.given)
+    format!("{name} differs: {what}\n{last}")
 }
 
 /// One line of figures, or what went wrong.
@@ -171,7 +87,7 @@ fn compare(arguments: &Arguments) -> Result<String, String> {
     let start = Instant::now();
     let swept = if arguments.only.is_none() { swept::swept() } else { vec![] };
     for (number, stream) in swept.iter().enumerate() {
-        last = Last::load(stream);
+        last = Last::Load(stream.clone());
         load(stream, &mut Random::of_case(seed, number as u64), &mut seen)
             .map_err(|what| report(format!("swept stream {number} of seed {seed}"), what, &last))?;
     }

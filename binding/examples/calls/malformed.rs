@@ -2,7 +2,7 @@
 //! its field. In some the lowest bits are what they were, so that the words would be sound if a number were taken modulo its
 //! field's width.
 
-use crate::alter::{Sort, Then};
+use crate::alter::{drive_with_spans, Sort, Then};
 use crate::random::Random;
 use crate::words::*;
 
@@ -45,9 +45,9 @@ pub const MALFORMED: &[Sort] = &[
         let place = &mut some_part(words, random)[P];
         widen(place, 1 << 32, &[1 << 32, (1 << 32) + 1], random)
     }),
-    ("a span too wide, in use or not", Then::Unsound, |words, random| {
-        let span = FIRST_SPAN + random.below(SPANS);
-        let place = &mut some_part(words, random)[span];
+    ("a span too wide", Then::Unsound, |words, random| {
+        let Some((drive, spans)) = drive_with_spans(words, random, 1) else { return false };
+        let place = &mut words.part_mut(drive)[FIRST_SPAN + random.below(spans)];
         widen(place, 1 << 32, &[1 << 32, (1 << 32) + 1], random)
     }),
 ];

@@ -1,5 +1,5 @@
-//! One preview beside an advance of the same words, compared: as it is, through the binding, and with too few words. Its answer
-//! is printed.
+//! One preview compared with an advance of the same words: as it is, through the binding, with too few words, and with
+//! every room for its answer. Its answer is printed.
 
 use crate::alter::any;
 use crate::compared::{counts, same_words, short, Expected};

@@ -1,5 +1,6 @@
-//! One model's table saved by both, compared: into exact room, room that is short by a byte, longer room and none, through the
-//! binding, and with too few words. What was saved is loaded again by both, and saved again.
+//! One model's table saved by both, compared: into exact room, room that is short by a byte, longer room and none,
+//! through the binding, with too few words, and with every room for its answer. What was saved is loaded again by both,
+//! and saved again.
 
 use crate::compared::{load_both, NOT_SOUND};
 use crate::lent::spare;
@@ -59,8 +60,8 @@ impl Writing for Save {
 }
 
 impl Given<'_> {
-    /// Saves the table with both, into every sort of room, through the binding and with too few words. Its bytes, none where the
-    /// model is not sound.
+    /// Saves the table with both, into every sort of room, through the binding, with too few words, and with every room
+    /// for the answer. Its bytes, none where the model is not sound.
     fn save(&self, random: &mut Random, seen: &mut Seen) -> Result<Vec<u8>, String> {
         let bytes = self.meant.map_or(vec![], second::saved);
         let needed = bytes.len();
@@ -80,8 +81,11 @@ impl Given<'_> {
             seen.count("save of too few words");
         }
         if random.once_in(16) {
-            self.unanswered(&Save, [needed, random.below(2)])?;
-            seen.count("save with too little room");
+            let room = random.pick(&[0, needed, MUCH]);
+            seen.count(match self.with_any_room(&Save, room, random)? {
+                0 => "save with any room for its answer",
+                _ => "refused save with any room for its answer",
+            });
         }
         Ok(bytes)
     }

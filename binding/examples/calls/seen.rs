@@ -45,24 +45,27 @@ const WANTED: [Wanted; 10] = [
 ];
 
 /// What else has to be tried.
-const OTHERS: [&str; 65] = [
+const OTHERS: [&str; 70] = [
     "load through the binding",
     "refused load through the binding",
     "load into too few words",
     "refused load into too few words",
-    "load with too little room",
+    "load with any room for its answer",
+    "refused load with any room for its answer",
     "advance through the binding",
     "refused advance through the binding",
     "advance of too few words",
     "advance into too few words",
     "barred advance into too few words",
-    "advance with too little room",
+    "advance with any room for its answer",
+    "refused advance with any room for its answer",
     "preview through the binding",
     "refused preview through the binding",
     "preview of too few words",
     "preview into too few words",
     "barred preview into too few words",
-    "preview with too little room",
+    "preview with any room for its answer",
+    "refused preview with any room for its answer",
     "save into no room",
     "save into room short by a byte",
     "save into exact room",
@@ -73,7 +76,8 @@ const OTHERS: [&str; 65] = [
     "barred save into room for any table",
     "save through the binding",
     "save of too few words",
-    "save with too little room",
+    "save with any room for its answer",
+    "refused save with any room for its answer",
     "a fresh model's table loaded again",
     "any model's table loaded again",
     "sheet into no room",
@@ -93,7 +97,8 @@ const OTHERS: [&str; 65] = [
     "sheet of an altered answer, refused",
     "sheet through the binding",
     "sheet of too few words",
-    "sheet with too little room",
+    "sheet with any room for its answer",
+    "refused sheet with any room for its answer",
     "sheet of too few words of an answer",
     "words behind all places",
     "no word behind the model",
@@ -237,11 +242,26 @@ impl Seen {
         missing
     }
 
+    /// How many calls of each sort agreed, by number.
+    pub fn calls(&self) -> String {
+        let all = |counts: &[u64]| counts.iter().sum::<u64>();
+        format!(
+            "{} loads{}; {} advances{}, {} of 24 by rule; {} previews{}; {} saves{}; {} sheets{}",
+            self.loads,
+            numbers(&self.load_numbers),
+            self.advances,
+            numbers(&self.numbers),
+            self.by_rule,
+            all(&self.preview_numbers),
+            numbers(&self.preview_numbers),
+            all(&self.save_numbers),
+            numbers(&self.save_numbers),
+            all(&self.sheet_numbers),
+            numbers(&self.sheet_numbers),
+        )
+    }
+
     pub fn figures(&self) -> String {
-        let numbers = |counts: &[u64]| -> String {
-            let reached = counts.iter().enumerate().filter(|(_, &count)| count > 0);
-            reached.map(|(number, count)| format!(" {number}:{count}")).collect()
-        };
         let sorts: Vec<String> = SORTS
             .iter()
             .chain(MALFORMED)
@@ -256,19 +276,8 @@ impl Seen {
             .collect();
         let others: Vec<String> = self.others.iter().map(|(name, count)| format!("{name} {count}")).collect();
         format!(
-            "{} loads{}; {} advances{}, {} of 24 by rule; {} previews{}; {} saves{}; {} sheets{}; at most {} rounds and {} \
-             revisions; altered (sound+unsound where both can be): {}; {}; kinds{}",
-            self.loads,
-            numbers(&self.load_numbers),
-            self.advances,
-            numbers(&self.numbers),
-            self.by_rule,
-            self.preview_numbers.iter().sum::<u64>(),
-            numbers(&self.preview_numbers),
-            self.save_numbers.iter().sum::<u64>(),
-            numbers(&self.save_numbers),
-            self.sheet_numbers.iter().sum::<u64>(),
-            numbers(&self.sheet_numbers),
+            "{}; at most {} rounds and {} revisions; altered (sound+unsound where both can be): {}; {}; kinds{}",
+            self.calls(),
             self.most_rounds,
             self.most_revisions,
             sorts.join(", "),
@@ -276,4 +285,10 @@ impl Seen {
             numbers(&self.kinds),
         )
     }
+}
+
+/// The counts that are not 0, each by its number.
+pub fn numbers(counts: &[u64]) -> String {
+    let reached = counts.iter().enumerate().filter(|(_, &count)| count > 0);
+    reached.map(|(number, count)| format!(" {number}:{count}")).collect()
 }

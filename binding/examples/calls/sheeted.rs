@@ -1,6 +1,6 @@
-//! One answer printed as a line of a sheet by both, compared: with parts that there are and that there are not, into no room, room
-//! that is short by a byte, exact room and longer room, as it was given and with numbers altered, through the binding, and with
-//! too few words.
+//! One answer printed as a line of a sheet by both, compared: with parts that there are and that there are not, into no
+//! room, room that is short by a byte, exact room and longer room, as it was given and with numbers altered, through
+//! the binding, with too few words, and with every room for its answer.
 
 use crate::alter::any;
 use crate::compared::{Expected, NOT_SOUND};
@@ -22,7 +22,7 @@ const NOT_PRINTED: u64 = 26;
 const WIDEST: [u64; 3] = [9_999_999_999, 9_999, 99];
 
 /// Prints an answer, whose model has these words, into every sort of room; and some also with numbers altered, through the
-/// binding, and with too few words.
+/// binding, with too few words, and with every room for its answer.
 pub fn sheet(
     table: &[u64],
     state: &[u64],
@@ -158,7 +158,7 @@ impl Given<'_> {
         Ok(())
     }
 
-    /// The same sheet of too few words of the model or of the answer, and with too few for its own answer.
+    /// The same sheet of too few words of the model or of the answer, and with every room for its own answer.
     fn print_short(&self, want: &Expected, random: &mut Random, seen: &mut Seen) -> Result<(), String> {
         let (choice, _) = choice(&want.model, random);
         let outcome = &want.counts;
@@ -167,12 +167,16 @@ impl Given<'_> {
             seen.count("sheet of too few words");
         }
         if random.once_in(16) {
-            self.unanswered(&Sheet { outcome, choice }, [LINE, random.below(2)])?;
-            seen.count("sheet with too little room");
+            let room = some_room(random);
+            seen.count(match self.with_any_room(&Sheet { outcome, choice }, room, random)? {
+                0 => "sheet with any room for its answer",
+                _ => "refused sheet with any room for its answer",
+            });
         }
         if random.once_in(16) {
+            // They spell no answer, whatever model, parts and room are.
             let outcome = &outcome[..random.below(5)];
-            self.unanswered(&Sheet { outcome, choice }, [LINE, 2])?;
+            Given { meant: None, ..*self }.with_any_room(&Sheet { outcome, choice }, some_room(random), random)?;
             seen.count("sheet of too few words of an answer");
         }
         Ok(())

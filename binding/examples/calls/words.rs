@@ -116,7 +116,7 @@ impl Words {
         }
     }
 
-    /// The words with 0 behind each absent signal, where a word means nothing.
+    /// The words with 0 in those of a part that are free: the value of an absent signal, and the spans after the count.
     pub fn plain(&self) -> Words {
         let mut words = self.clone();
         for number in 0..PARTS {
@@ -126,6 +126,8 @@ impl Words {
                     part[signal + 1] = 0;
                 }
             }
+            let spans = part[SPAN_COUNT].min(SPANS as u64) as usize;
+            part[FIRST_SPAN + spans..PORT].fill(0);
         }
         words
     }
@@ -134,10 +136,12 @@ impl Words {
     pub fn part_spelled(&self, number: usize) -> bool {
         let part = self.part(number);
         let within = |from: usize, to: usize, most: u64| part[from..to].iter().all(|&word| word <= most);
+        // The places for spans that no span is in are free.
+        let spans = part[SPAN_COUNT].min(SPANS as u64) as usize;
         part[KIND] < KINDS as u64
             && part[PREFERENCE] <= 0xFF
             && part[P] <= 0xFFFF_FFFF
-            && within(FIRST_SPAN, PORT, 0xFFFF_FFFF)
+            && within(FIRST_SPAN, FIRST_SPAN + spans, 0xFFFF_FFFF)
             && within(PORT, RATIO, 0x1_0000)
             && part[SIGNAL] < 2
             && part[OUTPUT] < 2

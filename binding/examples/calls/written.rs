@@ -2,7 +2,7 @@
 
 use crate::alter::any;
 use crate::compared::NOT_SOUND;
-use crate::lent::{cut, spare, TOO_SHORT};
+use crate::lent::{cut, fits, spare};
 use crate::random::Random;
 use crate::words::*;
 use second::{Model, Written};
@@ -26,6 +26,11 @@ pub struct Given<'a> {
 impl Given<'_> {
     /// Makes a call with both into so many bytes, and fails unless number, length and the whole buffer agree. The number.
     pub fn written_in(&self, call: &impl Writing, room: usize, random: &mut Random) -> Result<u64, String> {
+        self.answered_in(call, [room, 2 + spare(random)], random)
+    }
+
+    /// The same with so many words for the answer, of which those that fit have to be written.
+    fn answered_in(&self, call: &impl Writing, [room, words]: [usize; 2], random: &mut Random) -> Result<u64, String> {
         let fill = any(random);
         let [mut due, mut buffer] = [(); 2].map(|_| vec![fill as u8; room]);
         let said = match self.meant {
@@ -35,9 +40,9 @@ impl Given<'_> {
             }
             None => [NOT_SOUND, 0],
         };
-        let mut out = vec![fill; 2 + spare(random)];
+        let mut out = vec![fill; words];
         let code = call.exported(self.table, self.state, &mut buffer, &mut out);
-        if code != said[0] || out[..2] != said || out[2..].iter().any(|&word| word != fill) {
+        if code != said[0] || !fits(&out, &said, fill) {
             return Err(format!("a call into {room} bytes answers {code} and {out:?} instead of {said:?}"));
         }
         match (0..room).find(|&at| buffer[at] != due[at]) {
@@ -63,14 +68,12 @@ impl Given<'_> {
         Given { table, state, meant: None }.written_in(call, room, random).map(|_| ())
     }
 
-    /// Makes a call with words that are too few for an answer, of so many bytes and so many words. Fails unless it is answered
-    /// 25 and all is kept.
-    pub fn unanswered(&self, call: &impl Writing, [room, words]: [usize; 2]) -> Result<(), String> {
-        let (mut buffer, mut out) = (vec![1; room], vec![1; words]);
-        let code = call.exported(self.table, self.state, &mut buffer, &mut out);
-        if code != TOO_SHORT || buffer.iter().any(|&byte| byte != 1) || out.iter().any(|&word| word != 1) {
-            return Err(format!("a call with {words} words for its answer answers {code} and leaves {out:?}"));
+    /// Makes a call into so many bytes with every room for its answer, from none to a word more than it has. The
+    /// number.
+    pub fn with_any_room(&self, call: &impl Writing, room: usize, random: &mut Random) -> Result<u64, String> {
+        for words in 0..=2 {
+            self.answered_in(call, [room, words], random)?;
         }
-        Ok(())
+        self.answered_in(call, [room, 3], random)
     }
 }

@@ -80,6 +80,9 @@ fn seen(mutation: &Mutation) -> Result<Option<String>, Box<dyn Error>> {
     let programs = PROGRAMS.map(|name| Path::new(PLACE).join("target/release").join(name));
     let run = Command::new("target/release/differ").args(programs).args(["--unnamed", "1"]).output()?;
     let said = String::from_utf8_lossy(&run.stdout).lines().next().unwrap_or("").to_string();
+    if !run.status.success() && !said.contains(" differs: ") {
+        return Err(format!("{}: differ tells of no difference: {said}", mutation.name).into());
+    }
     Ok((!run.status.success()).then_some(said))
 }
 

@@ -1,5 +1,6 @@
 //! What clappers came to: speeds and positions that had to be clamped, inputs at steps that moved them, dropped trials.
 
+use crate::lines::Line;
 use crate::seen::add_each;
 use second::{Kind, Model, Part};
 
@@ -21,36 +22,9 @@ const ENDS: [&str; 2] = ["10^9", "-10^9"];
 const INPUTS: [&str; 5] = ["unwired", "absent", "negative", "zero", "positive"];
 const RATIOS: [&str; 2] = ["ratio 1", "a higher ratio"];
 
-/// What a line tells of a point, and of the step to it.
-struct Line {
-    t: u64,
-    revised: bool,
-    outputs: Vec<Option<i64>>,
-}
-
-impl Line {
-    /// The start point, which no line shows.
-    fn start(model: &Model) -> Line {
-        let outputs = model.parts.iter().map(|part| part.output.map(i64::from)).collect();
-        Line { t: 0, revised: false, outputs }
-    }
-
-    fn read(line: &str) -> Line {
-        let words: Vec<&str> = line.split(' ').collect();
-        let number = |at: usize| words.get(at).and_then(|word| word.parse().ok()).unwrap_or(0);
-        let outputs = words.iter().skip(5).map(|word| word.parse().ok()).collect();
-        Line { t: number(0), revised: number(4) > 0, outputs }
-    }
-}
-
 impl Clappers {
-    /// Counts what the clappers of a table did from its start point on, by the lines that were printed.
-    pub fn count(&mut self, model: &Model, lines: &str) {
-        if !model.parts.iter().any(|part| matches!(part.kind, Kind::Clapper { .. })) {
-            return;
-        }
-        let mut points = vec![Line::start(model)];
-        points.extend(lines.lines().filter(|line| !line.starts_with("refused")).map(Line::read));
+    /// Counts what the clappers of a table did from its start point on, by the points that were printed.
+    pub fn count(&mut self, model: &Model, points: &[Line]) {
         for (number, part) in model.parts.iter().enumerate() {
             if let Kind::Clapper { b, .. } = part.kind {
                 let mut speed = b.into();
@@ -63,19 +37,17 @@ impl Clappers {
 
     /// Counts a clapper's step, before which it has this speed; gives the one that it has then.
     fn step(&mut self, part: &Part, number: usize, speed: i64, before: &Line, after: &Line) -> i64 {
-        let d = (after.t / part.ratio - before.t / part.ratio) as i64;
         let input = part.inputs[0].map(|source| before.outputs[usize::from(source)]);
-        let x = input.flatten().unwrap_or(0);
         let position = before.outputs[number].unwrap_or(0);
-        let (speed, speed_end) = clamped(speed + x * d);
-        let (moved, position_end) = clamped(position + speed * d);
+        let swing = Swing::of(part, number, speed, before, after);
+        let ((speed, speed_end), (moved, position_end)) = (clamped(swing.speed), clamped(swing.position));
         self.astray += u64::from(after.outputs[number] != Some(moved));
         if let Some(end) = speed_end.or(position_end) {
             let which = if position_end.is_none() { 0 } else { 1 + usize::from(speed_end.is_some()) };
             self.clamped[2 * which + end] += 1;
         }
         if moved != position {
-            self.revised += u64::from(after.revised);
+            self.revised += u64::from(after.revisions > 0);
             let input = match input {
                 None => 0,
                 Some(None) => 1,
@@ -108,8 +80,29 @@ impl Clappers {
     }
 }
 
+/// The speed and the position that a step leads to, before each is clamped.
+pub struct Swing {
+    pub speed: i64,
+    pub position: i64,
+}
+
+impl Swing {
+    /// That of a clapper with this number and, before the step, this speed.
+    pub fn of(part: &Part, number: usize, speed: i64, before: &Line, after: &Line) -> Swing {
+        let d = local_ticks(part, before, after);
+        let speed = speed + before.input(part.inputs[0]).unwrap_or(0) * d;
+        let position = before.outputs[number].unwrap_or(0) + clamped(speed).0 * d;
+        Swing { speed, position }
+    }
+}
+
+/// By how much a part's local count grows from a point to the next.
+pub fn local_ticks(part: &Part, before: &Line, after: &Line) -> i64 {
+    (after.t / part.ratio - before.t / part.ratio) as i64
+}
+
 /// The value next to a number, and which end of the values that is where the number lies beyond it.
-fn clamped(number: i64) -> (i64, Option<usize>) {
+pub fn clamped(number: i64) -> (i64, Option<usize>) {
     let billion = 1_000_000_000;
     match number {
         above if above > billion => (billion, Some(0)),

@@ -226,18 +226,22 @@ fn bad_begin(draft: &Draft, random: &mut Random) -> Commands {
     commands
 }
 
-/// P at the edge of 10^18, sometimes with a loop.
+/// P at the edge of 10^18, sometimes with a loop, and sometimes of the last of 32 parts.
 fn period_at_its_limit(random: &mut Random) -> Commands {
     let ratio = random.between(9, 15);
     let p = 10i64.pow(18 - ratio as u32) + random.between(-1, 1);
     let mut draft = Draft { magnitude: ratio as u8, ..Draft::default() };
+    let full = random.once_in(4);
+    while full && !draft.is_full(2) {
+        draft.add(CONSTANT, 1, 0, 0);
+    }
     let number = draft.add(random.pick(&[SQUARE, PULSE, DETECTOR]), 0, 0, p.clamp(1, 1_000_000_000) as u32);
     draft.rows[number].preference = 0;
-    if random.once_in(3) {
+    if !full && random.once_in(3) {
         let gain = draft.add(GAIN, 1, 0, 0);
         draft.wire(gain, gain, 0);
     }
-    if random.once_in(2) {
+    if !full && random.once_in(2) {
         draft.add(CONSTANT, 1, 0, 0);
         draft.renumber(random);
     }

@@ -27,6 +27,18 @@ pub fn is_direct(kind: u8, port: u8) -> bool {
     matches!((kind, port), (GAIN | HOLD, 0) | (ADDER | SAMPLER, 0 | 1) | (RESET, 1))
 }
 
+/// Whether a kind names operands a, b and p.
+pub fn names(kind: u8) -> [bool; 3] {
+    match kind {
+        CONSTANT | GAIN | INTEGRATOR | RESET | DRIVE => [true, false, false],
+        SQUARE => [true; 3],
+        PULSE => [true, false, true],
+        DETECTOR => [false, false, true],
+        CLAPPER => [true, true, false],
+        _ => [false; 3],
+    }
+}
+
 #[derive(Clone, Debug)]
 pub struct Row {
     pub kind: u8,
@@ -143,6 +155,18 @@ impl Draft {
         for (source, reader, _) in &mut self.wires {
             (*source, *reader) = (new[*source], new[*reader]);
         }
+    }
+
+    /// The table's bytes, with its wires after all parts and in their order.
+    pub fn in_order(&self) -> Vec<u8> {
+        let mut bytes = vec![1, self.magnitude];
+        for row in &self.rows {
+            bytes.extend(row.bytes());
+            bytes.extend(row.spans.iter().flat_map(|&s| span(s)));
+        }
+        bytes.extend(self.wires.iter().flat_map(|&(source, reader, port)| [4, source as u8, reader as u8, port]));
+        bytes.push(5);
+        bytes
     }
 
     /// The table's commands up to End. Wires stand behind both of their parts, at once or later.

@@ -1,5 +1,7 @@
 //! Random cases with a purpose: tables in which something happens, and scores that let it happen.
 
+#[path = "generate/full.rs"]
+mod full;
 #[path = "generate/with_mass.rs"]
 mod with_mass;
 
@@ -12,19 +14,44 @@ const BILLION: u64 = 1_000_000_000;
 /// The stream of one case.
 pub fn case(random: &mut Random) -> Vec<u8> {
     match random.below(200) {
-        0..=103 => stream(&mixed(random), random),
+        0..=127 => made(random),
+        128 if random.once_in(6) => overlong(random),
+        128..=187 => damaged(random),
+        _ => noisy(random),
+    }
+}
+
+/// A whole table and a score.
+pub fn made(random: &mut Random) -> Vec<u8> {
+    match random.below(128) {
+        0..=95 => stream(&mixed(random), random),
+        96..=103 => stream(&full::full(random), random),
         104..=113 => stream(&ladder(random), random),
         114..=119 => stream(&sharp(random), random),
         120..=122 => stream(&steep(random), random),
-        123..=127 => restless(random),
-        128 if random.once_in(6) => overlong(random),
-        128..=161 => {
-            let draft = if random.once_in(3) { ladder(random) } else { mixed(random) };
-            damage::damaged(&draft, random)
-        }
-        162..=187 => damage::at_fault(random),
-        188..=195 => damage::any_commands(random),
-        _ => damage::noise(random),
+        _ => restless(random),
+    }
+}
+
+/// A whole table and a score that something is wrong with, or a table with a command at fault.
+pub fn damaged(random: &mut Random) -> Vec<u8> {
+    if random.below(60) < 26 {
+        return damage::at_fault(random);
+    }
+    let draft = match random.below(12) {
+        0..=3 => ladder(random),
+        4 => full::full(random),
+        _ => mixed(random),
+    };
+    damage::damaged(&draft, random)
+}
+
+/// Commands in any order, or bytes.
+pub fn noisy(random: &mut Random) -> Vec<u8> {
+    if random.once_in(3) {
+        damage::noise(random)
+    } else {
+        damage::any_commands(random)
     }
 }
 

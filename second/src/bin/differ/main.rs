@@ -1,20 +1,27 @@
 //! Compares other programs with the library, byte by byte, on named cases and on random ones with a purpose: one that
-//! rehearses a stream, one that saves its table, and one that prints the sheet. Every saved table is loaded again by both.
+//! rehearses a stream, one that saves its table, and one that prints the sheet. Every saved table is loaded again by
+//! both.
 //!
 //!     differ REHEARSE SAVETABLE PRINTSHEET [--cases N] [--seed S] [--only NUMBER] [--unnamed 1]
 //!
-//! Case NUMBER of seed S is the same everywhere; --unnamed 1 leaves the named and the swept ones out. What differs is
-//! printed with its seed, number and bytes. The status is 0 only if nothing differs and the cases reached all they should.
+//! Case NUMBER of seed S is the same everywhere. --unnamed 1 leaves the named and the swept ones out, without which
+//! not all is reached. What differs is printed with its seed, number and bytes. The status is 0 only if nothing
+//! differs and, unless some were left out, the cases reached all they should.
 
 mod clappers;
+mod commands;
 mod damage;
 mod draft;
+mod ends;
 mod generate;
+mod last;
+mod lines;
 mod named;
 mod options;
 mod program;
 mod random;
 mod saves;
+mod scores;
 mod seen;
 mod sheets;
 mod swept;
@@ -77,15 +84,15 @@ fn compare(arguments: &Arguments) -> Result<String, String> {
         return one_case(arguments.seed, number, &programs);
     }
     let (named, swept) = if arguments.unnamed { (vec![], vec![]) } else { (named::named(), swept::swept()) };
-    for (ticket, case) in named.iter().enumerate() {
-        named_case(case, ticket as u64, &programs)?;
-    }
-
     let start = Instant::now();
-    let seen = many_cases(arguments, &programs, &swept)?;
+    let mut seen = Seen::default();
+    for (ticket, case) in named.iter().enumerate() {
+        named_case(case, ticket as u64, &programs, &mut seen)?;
+    }
+    seen.add(&many_cases(arguments, &programs, &swept)?);
     let seconds = start.elapsed().as_secs_f64();
     let missing = seen.missing();
-    if !missing.is_empty() {
+    if !arguments.unnamed && !missing.is_empty() {
         return Err(format!(
             "{} cases of seed {} reached too little: {}",
             arguments.cases,
@@ -115,7 +122,7 @@ fn one_case(seed: u64, number: u64, programs: &Programs) -> Result<String, Strin
 
 /// A named case: the library and the program both have to print what the document says, and to save its table and print
 /// its sheet alike.
-fn named_case(case: &Named, ticket: u64, programs: &Programs) -> Result<(), String> {
+fn named_case(case: &Named, ticket: u64, programs: &Programs, seen: &mut Seen) -> Result<(), String> {
     if case.wrong_reading == Some(&case.expected) {
         return Err(format!("{}: the case does not tell the readings apart", case.name));
     }
@@ -123,7 +130,8 @@ fn named_case(case: &Named, ticket: u64, programs: &Programs) -> Result<(), Stri
     if own != case.expected.as_bytes() {
         return Err(format!("{}: the library differs from the document", case.name));
     }
-    let Some(what) = difference(programs, ticket, &case.stream, &own, &mut Seen::default()) else {
+    let Some(what) = difference(programs, ticket, &case.stream, &own, seen) else {
+        seen.count(&case.stream, &own);
         return Ok(());
     };
     let misread = what.got.is_some() && what.got.as_deref() == case.wrong_reading.map(str::as_bytes);
@@ -217,11 +225,16 @@ impl Difference {
 /// What differs where a stream is rehearsed, where its table is saved and loaded again, and where its sheet is printed.
 fn difference(programs: &Programs, ticket: u64, stream: &[u8], expected: &[u8], seen: &mut Seen) -> Option<Difference> {
     match programs.rehearse.run(ticket, stream) {
-        Ok(got) if got.out == expected => seen
+        Ok(got) if got.out != expected => {
+            Some(Difference { text: first_line_that_differs(expected, &got.out), got: Some(got.out) })
+        }
+        Ok(got) if !got.errors.is_empty() => {
+            Difference::of(format!("on standard error {}", first_line_that_differs(&[], &got.errors)))
+        }
+        Ok(_) => seen
             .saves
             .difference(programs, ticket, stream, expected)
             .or_else(|| seen.sheets.difference(programs, ticket, stream, expected)),
-        Ok(got) => Some(Difference { text: first_line_that_differs(expected, &got.out), got: Some(got.out) }),
         Err(text) => Difference::of(text),
     }
 }

@@ -2,6 +2,7 @@
 //! the answer of the wrong reading is written down too, so that the case is seen to tell the two apart.
 
 mod clappers;
+mod longest;
 
 use crate::draft::*;
 
@@ -43,13 +44,7 @@ impl Table {
 
     /// The table's bytes and a score's.
     fn score(self, steps: &[u32]) -> Vec<u8> {
-        let mut bytes = vec![1, self.0.magnitude];
-        for row in &self.0.rows {
-            bytes.extend(row.bytes());
-            bytes.extend(row.spans.iter().flat_map(|&s| span(s)));
-        }
-        bytes.extend(self.0.wires.iter().flat_map(|&(source, reader, port)| [4, source as u8, reader as u8, port]));
-        bytes.push(5);
+        let mut bytes = self.0.in_order();
         bytes.extend(steps.iter().flat_map(|&w| wanted(w)));
         bytes
     }
@@ -74,6 +69,7 @@ pub fn named() -> Vec<Named> {
     all.push(restless());
     all.push(case("played: the empty stream", Vec::new(), "refused 1 at 0\n", None));
     all.push(longest_score());
+    all.extend(longest::longest());
     all
 }
 

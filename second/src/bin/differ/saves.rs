@@ -7,16 +7,21 @@ use second::{load, saved, Kind, Model, Part};
 
 /// How many tables were saved, by what is telling of them, and how many could not be.
 #[derive(Default)]
-pub struct Saves([u64; 6]);
+pub struct Saves([u64; NAMES.len()]);
 
-const NAMES: [&str; 6] = [
+const NAMES: [&str; 8] = [
     "not saved",
     "saved",
     "saved otherwise than in the stream",
     "saved with spans",
     "saved with wires to both ports of a part",
     "saved with a default magnitude that is not the master's",
+    "saved in 1,891 bytes",
+    "saved in 1,891 bytes and otherwise than in the stream",
 ];
+
+/// The bytes of the longest table: Begin, 32 drives with eight spans and a wire each, and End.
+const LONGEST: usize = 2 + 32 * (15 + 8 * 5 + 4) + 1;
 
 /// How many steps are rehearsed from a saved table, and the bytes of one in a score.
 const STEPS: usize = 10;
@@ -41,7 +46,7 @@ impl Saves {
         };
         let table = due.out;
         let (own, score) = stream.split_at(accepted.end);
-        self.count(&accepted.model, table != own);
+        self.count(&accepted.model, table.len() == LONGEST, table != own);
         match load(&table) {
             Ok(again) if again.model == accepted.model && again.end == table.len() => {}
             _ => return Difference::of(format!("the library loads another model from {}", hexadecimal(&table))),
@@ -52,13 +57,14 @@ impl Saves {
         rehearsed_again(programs, ticket, &table, score, lines)
     }
 
-    /// Counts a table that was saved, in other bytes than the stream's or not.
-    fn count(&mut self, model: &Model, otherwise: bool) {
+    /// Counts a table that was saved, in the most bytes or not, and in other ones than the stream's or not.
+    fn count(&mut self, model: &Model, longest: bool, otherwise: bool) {
         let has = |telling: fn(&Part) -> bool| model.parts.iter().any(telling);
         let spans = has(|part| matches!(&part.kind, Kind::Drive { spans, .. } if !spans.is_empty()));
         let both = has(|part| part.inputs[0].is_some() && part.inputs[1].is_some());
         let lower = model.default_magnitude < model.magnitude();
-        for (count, is_one) in self.0[1..].iter_mut().zip([true, otherwise, spans, both, lower]) {
+        let those = [true, otherwise, spans, both, lower, longest, longest && otherwise];
+        for (count, is_one) in self.0[1..].iter_mut().zip(those) {
             *count += u64::from(is_one);
         }
     }
@@ -79,7 +85,7 @@ fn rehearsed_again(programs: &Programs, ticket: u64, table: &[u8], score: &[u8],
     let again = [table, &score[..score.len().min(WANTED * STEPS)]].concat();
     let lines = lines.split_inclusive(|&byte| byte == b'\n').take(STEPS).collect::<Vec<_>>().concat();
     match programs.rehearse.run(ticket, &again) {
-        Ok(got) if got.out == lines => None,
+        Ok(got) if got.out == lines && got.errors.is_empty() => None,
         Ok(got) => {
             Difference::of(format!("rehearsed from its saved table {}", first_line_that_differs(&lines, &got.out)))
         }

@@ -1,13 +1,19 @@
 //! What the cases reached.
 
 use crate::clappers::Clappers;
+use crate::commands::Commands;
 use crate::draft::KINDS;
+use crate::ends::Ends;
+use crate::last::Last;
+use crate::lines::Played;
 use crate::saves::Saves;
+use crate::scores::Scores;
 use crate::sheets::Sheets;
 use crate::zeros::Zeros;
 use second::load;
 
-/// Refusals that a stream of at most 65,536 bytes can reach. 23 needs a tick near 10^18 and 24 a model that no load gives.
+/// Refusals that a stream of at most 65,536 bytes can reach. 23 needs a tick near 10^18, where the 13,107 steps of
+/// 10^9 that fit such a stream do not lead, and 24 a model that no load gives.
 pub const REACHABLE: [u8; 14] = [1, 2, 3, 5, 6, 7, 8, 9, 10, 11, 12, 20, 21, 22];
 
 #[derive(Default)]
@@ -27,6 +33,10 @@ pub struct Seen {
     steps: [u64; 2],
     zeros: Zeros,
     clappers: Clappers,
+    ends: Ends,
+    last: Last,
+    commands: Commands,
+    scores: Scores,
     pub saves: Saves,
     pub sheets: Sheets,
 }
@@ -36,12 +46,18 @@ impl Seen {
     pub fn count(&mut self, stream: &[u8], output: &[u8]) {
         self.cases += 1;
         let output = String::from_utf8_lossy(output);
-        let accepted = match load(stream) {
+        let loaded = load(stream);
+        self.commands.count(stream, &loaded);
+        let accepted = match &loaded {
             Ok(accepted) => {
                 self.accepted += 1;
                 count_kinds(&mut self.accepted_kinds, &stream[..accepted.end]);
-                self.zeros.count(&accepted.model, &output);
-                self.clappers.count(&accepted.model, &output);
+                let played = Played::read(accepted, stream, &output);
+                self.zeros.count(&accepted.model, &played.points);
+                self.clappers.count(&accepted.model, &played.points);
+                self.ends.count(&accepted.model, &played.points);
+                self.last.count(&accepted.model, &played);
+                self.scores.count(&played, &stream[accepted.end..], &output);
                 true
             }
             Err(refusal) => {
@@ -75,10 +91,28 @@ impl Seen {
         add_each(&mut self.steps, &other.steps);
         self.zeros.add(&other.zeros);
         self.clappers.add(&other.clappers);
+        self.ends.add(&other.ends);
+        self.last.add(&other.last);
+        self.commands.add(&other.commands);
+        self.scores.add(&other.scores);
         self.saves.add(&other.saves);
         self.sheets.add(&other.sheets);
         self.most_rounds = self.most_rounds.max(other.most_rounds);
         self.most_revisions = self.most_revisions.max(other.most_revisions);
+    }
+
+    /// How often each was seen that is counted by name.
+    fn reached(&self) -> Vec<(String, u64)> {
+        let mut all: Vec<(String, u64)> = Vec::new();
+        all.extend(self.zeros.named().map(|(name, count)| (format!("{name}, at a detector"), count)));
+        all.extend(self.clappers.named().map(|(name, count)| (format!("a clapper's {name}"), count)));
+        all.extend(self.saves.named().map(|(name, count)| (format!("a table {name}"), count)));
+        all.extend(self.sheets.named().map(|(name, count)| (format!("a sheet's {name}"), count)));
+        all.extend(self.ends.named().into_iter().map(|(name, count)| (format!("a {name}"), count)));
+        all.extend(self.last.named().map(|(name, count)| (format!("as the last of 32 parts a {name}"), count)));
+        all.extend(self.commands.named());
+        all.extend(self.scores.named().map(|(name, count)| (format!("a score's {name}"), count)));
+        all
     }
 
     /// What was not reached and should have been.
@@ -100,20 +134,15 @@ impl Seen {
             must(self.refused_kinds[kind] > 0, format!("kind {kind} in a refused table"));
         }
         must(self.steps[0] > 0 && self.steps[1] > 0, "steps of 0 and longer ones".to_string());
-        for (name, count) in self.zeros.named() {
-            must(count > 0, format!("{name}, at a detector"));
-        }
-        for (name, count) in self.clappers.named() {
-            must(count > 0, format!("a clapper's {name}"));
-        }
-        for (name, count) in self.saves.named() {
-            must(count > 0, format!("a table {name}"));
-        }
-        for (name, count) in self.sheets.named() {
-            must(count > 0, format!("a sheet's {name}"));
+        for (name, count) in self.reached() {
+            must(count > 0, name);
         }
         let astray = self.clappers.astray();
         must(astray == 0, format!("only positions of clappers that the lines before lead to ({astray} are others)"));
+        let astray = self.ends.astray();
+        must(astray == 0, format!("only values that the lines lead to ({astray} are others)"));
+        let astray = self.commands.astray();
+        must(astray == 0, format!("only refusals of a command's first fault ({astray} are others)"));
         must(
             self.most_revisions == 29,
             format!("29 revisions, and no more (at most {} were made)", self.most_revisions),
@@ -131,10 +160,12 @@ impl Seen {
         let clappers: Vec<String> = self.clappers.named().map(|(name, count)| format!("{name} {count}")).collect();
         let saves: Vec<String> = self.saves.named().map(|(name, count)| format!("{name} {count}")).collect();
         let sheets: Vec<String> = self.sheets.named().map(|(name, count)| format!("{name} {count}")).collect();
+        let scores: Vec<String> = self.scores.named().map(|(name, count)| format!("{name} {count}")).collect();
         format!(
             "{} tables accepted, {} refused; {} lines; refusals{}; in scores{}; kinds accepted{}; kinds refused{}; \
-             steps of 0 {}, longer {}; at most {} rounds and {} revisions; at detectors {}; of clappers {}; of tables {}; \
-             of sheets {}",
+             steps of 0 {}, longer {}; at most {} rounds and {} revisions; at detectors {}; of clappers {}; \
+             of tables {}; of sheets {}; of scores {}; {} at the ends of the values; {} at the last of 32 parts; \
+             {} of operands and faults",
             self.accepted,
             self.cases - self.accepted,
             self.lines,
@@ -150,8 +181,18 @@ impl Seen {
             clappers.join(", "),
             saves.join(", "),
             sheets.join(", "),
+            scores.join(", "),
+            sorts(self.ends.named()),
+            sorts(self.last.named()),
+            sorts(self.commands.named()),
         )
     }
+}
+
+/// How many sorts there are, and how often the rarest was seen.
+fn sorts(named: impl IntoIterator<Item = (String, u64)>) -> String {
+    let counts: Vec<u64> = named.into_iter().map(|(_, count)| count).collect();
+    format!("{} sorts, each {} times or more,", counts.len(), counts.iter().min().unwrap_or(&0))
 }
 
 pub fn add_each(to: &mut [u64], from: &[u64]) {

@@ -1,5 +1,10 @@
 //! Small cases that go through all of a kind: every operand at the edges of its range, every port, every cut of a
-//! stream, every short sequence of commands.
+//! stream, every short sequence of commands, commands with several faults, numbers at the ends of the values.
+
+#[path = "swept/extremes.rs"]
+mod extremes;
+#[path = "swept/faults.rs"]
+mod faults;
 
 use crate::draft::*;
 
@@ -42,6 +47,11 @@ pub fn swept() -> Vec<Vec<u8>> {
         ports(kind, &mut all);
     }
     bytes(&mut all);
+    spans(&mut all);
+    wires(&mut all);
+    wanted_steps(&mut all);
+    all.0.extend(faults::faults());
+    all.0.extend(extremes::extremes());
     let drive = [good_row(DRIVE), span(2), span(5)].concat();
     cuts(&drive, &mut all);
     sequences(&[], &mut all);
@@ -82,7 +92,42 @@ fn bytes(all: &mut Streams) {
         all.add(&[&[byte]]);
         all.add(&[&[1, 0], &[byte]]);
         all.add(&[&[1, 0], &good_row(CONSTANT), &[5], &SCORE, &[byte], &SCORE]);
+        all.add(&[&[1, 0], &good_row(CONSTANT), &[5], &SCORE, &[byte]]);
     }
+}
+
+/// Spans at the edges of their range, and at those of the one before.
+fn spans(all: &mut Streams) {
+    let start = [&[1, 0][..], &good_row(DRIVE)].concat();
+    for first in [0, 1, 2, 999_999_999, 1_000_000_000, 1_000_000_001, u32::MAX] {
+        all.add(&[&start, &span(first), &[5], &SCORE]);
+        for second in [first.saturating_sub(1), first, first.saturating_add(1)] {
+            all.add(&[&start, &span(first), &span(second), &[5], &SCORE]);
+        }
+    }
+}
+
+/// Wires whose parts are the first, the last and the one after it, in tables of one part, of two and of 32.
+fn wires(all: &mut Streams) {
+    for parts in [1, 2, 32] {
+        let start = [&[1, 0][..], &good_row(INTEGRATOR).repeat(parts)].concat();
+        let numbers = [0, parts as u8 - 1, parts as u8, 255];
+        for source in numbers {
+            for reader in numbers {
+                all.add(&[&start, &[4, source, reader, 0], &[5], &SCORE]);
+            }
+        }
+    }
+}
+
+/// Wanted steps at the edges of their range: where all are accepted, where some are, and where a part is always due.
+fn wanted_steps(all: &mut Streams) {
+    let edges = [1, 0, 1, 1_000_000_000, 1_000_000_001, 1, u32::MAX, 2, 0, 1, 999_999_999, 5];
+    let score: Vec<u8> = edges.into_iter().flat_map(wanted).collect();
+    let drive = [good_row(DRIVE), span(2), span(5)].concat();
+    all.add(&[&[1, 0], &good_row(CONSTANT), &[5], &score]);
+    all.add(&[&[1, 0], &drive, &[5], &score]);
+    all.add(&[&[1, 0], &good_row(CONSTANT), &good_row(DELAY), &[4, 0, 1, 0], &[5], &score]);
 }
 
 /// Every cut of a stream with all commands.

@@ -1,5 +1,6 @@
 //! Zeros at detectors: where the input came from, whether it rested at zero, and where it went from there.
 
+use crate::lines::Line;
 use crate::seen::add_each;
 use second::{Kind, Model};
 
@@ -21,15 +22,12 @@ struct Input {
 }
 
 impl Zeros {
-    /// Counts what the detectors of a table read at its start point and on the lines that were printed.
-    pub fn count(&mut self, model: &Model, lines: &str) {
+    /// Counts what the detectors of a table read at its start point and at the points that were printed.
+    pub fn count(&mut self, model: &Model, points: &[Line]) {
         for detector in model.parts.iter().filter(|part| matches!(part.kind, Kind::Detector { .. })) {
-            let Some(source) = detector.inputs[0].map(usize::from) else { continue };
             let mut input = Input::default();
-            self.read(&mut input, 0, model.parts[source].output.map(i64::from));
-            for line in lines.lines().filter(|line| !line.starts_with("refused")) {
-                let words: Vec<&str> = line.split(' ').collect();
-                self.read(&mut input, words[0].parse().unwrap_or(0), words[5 + source].parse().ok());
+            for point in points {
+                self.read(&mut input, point.t, point.input(detector.inputs[0]));
             }
         }
     }
