@@ -4,7 +4,8 @@ use crate::edit::Place;
 use std::fs;
 use std::path::Path;
 
-/// What an error says that only a proof's shape caused: a need, a place on the way to one, or a field of it is not there.
+/// What an error says that only a proof's shape caused: a need, a place on the way to one, or a field of it is not
+/// there.
 const UNFIT: [&str; 12] = [
     "has no `Need-",
     "has no `After-",

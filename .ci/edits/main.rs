@@ -1,17 +1,17 @@
 //! Sees that the wrong programs of the must-fail edits say what they show, and show it.
 //!
-//! An edit, `crates/CRATE/must-fail/TOPIC.edit`, holds one or more wrong programs. Each has a comment, which begins with its
-//! name, one or more lines `# refused in: PLACE`, and the replacements that make it. A place is a fact that it breaks:
+//! An edit, `crates/CRATE/must-fail/TOPIC.edit`, holds one or more wrong programs. Each has a comment, which begins
+//! with its name, one or more lines `# refused in: PLACE`, and the replacements that make it. A place is a fact that it
+//! breaks:
 //!
 //!     # refused in: FILE DECLARATION [ROW]    a proof or a law of the crate, and a row of it
 //!     # refused in: fn PATH                   a function that has no proof file, with its crate and modules
 //!
-//! `edits apply` sees that each edit is well formed, before `rt ci` starts: every text to be replaced is there exactly once,
-//! no two wrong programs of an edit change one function or name one place, no two of a crate have one name, and no edit
-//! has more than eight of them.
-//! `edits refused` reads the logs that `rt ci` left: at every place there must be an error of its own. An error that follows
-//! from another ("was not admitted") is none, nor one that says only that the proof no longer fits the code's shape.
-//! Both print a line of figures, or a line for each fault; the status tells.
+//! `edits apply` sees that each edit is well formed, before `rt ci` starts: every text to be replaced is there exactly
+//! once, no two wrong programs of an edit change one function or name one place, no two of a crate have one name, and
+//! no edit has more than eight of them. `edits refused` reads the logs that `rt ci` left: at every place there must be
+//! an error of its own. An error that follows from another ("was not admitted") is none, nor one that says only that
+//! the proof no longer fits the code's shape. Both print a line of figures, or a line for each fault; the status tells.
 
 use std::collections::HashMap;
 use std::path::{Path, PathBuf};
@@ -84,13 +84,15 @@ fn applied(named: &Named) -> Result<(), String> {
     Ok(())
 }
 
-/// The function that a wrong program changes first, by the line that begins it, or the changed line where there is none.
+/// The function that a wrong program changes first, by the line that begins it, or the changed line where there is
+/// none.
 fn function_changed(named: &Named, program: &WrongProgram) -> String {
     let replacement = &program.replacements[0];
     let path = PathBuf::from("crates").join(&named.krate).join(&replacement.file);
     let text = fs::read_to_string(path).unwrap_or_default();
     let before = text.split(replacement.old.as_str()).next().unwrap_or_default();
-    let begins = |line: &&str| replacement.file.starts_with("src/") && (line.contains("fn ") || line.contains("const "));
+    let begins =
+        |line: &&str| replacement.file.starts_with("src/") && (line.contains("fn ") || line.contains("const "));
     let own = replacement.old.lines().next().filter(|line| line.contains("const "));
     let line = own.or_else(|| before.lines().rev().find(begins)).unwrap_or(&replacement.old);
     format!("{} {}", replacement.file, line.trim())
