@@ -238,8 +238,8 @@ pub fn advance(given: &Words, w: u64, random: &mut Random, seen: &mut Seen) -> R
     Ok((want.counts[0], if want.counts[0] == 0 { after } else { given.clone() }))
 }
 
-/// Fails unless the free words of a state after a round are as promised: after a step the value of an absent output is 0, and
-/// that of an absent held signal is 0 or the old word; a refusal leaves the old words.
+/// Fails unless the free words of a state after a round are as promised: after a step the value of an absent output is
+/// 0, and that of an absent held signal is 0 or the old word; a refusal leaves the old words.
 fn free_words(after: &Words, before: &Words, committed: bool) -> Result<(), String> {
     let clean = |number: usize| {
         let (part, old) = (after.part(number), before.part(number));

@@ -164,3 +164,14 @@ flatMap-few f (x ∷ xs) d n few =
     let head : length (f x) ≤ n = few 0 (omega arith) in
     let rest : length (flatMap f xs) ≤ n * length xs = flatMap-few f xs d n (λ i p. few (suc i) (omega arith)) in
     rw (length-append (f x) (flatMap f xs), mul-suc n (length xs)) (omega arith)
+
+-- the front of two lists is the same where each element of it is
+pub take-same : (n : ℕ) (k l : List ℕ) → length k ≡ length l →
+    ((j : ℕ) → j < n → j < length l → getD k j 0 ≡ getD l j 0) → take n k ≡ take n l
+take-same zero k l size each = refl
+take-same (suc n) [] [] size each = refl
+take-same (suc n) [] (y ∷ l) size each = absurd (omega arith)
+take-same (suc n) (x ∷ k) [] size each = absurd (omega arith)
+take-same (suc n) (x ∷ k) (y ∷ l) size each =
+    ap₂ _∷_ (each 0 (omega arith) (omega arith))
+    (take-same n k l (omega arith) (λ j low inside. each (suc j) (omega arith) (omega arith)))

@@ -1,7 +1,8 @@
--- What is proved of the definitions themselves: `played`, the ten marked examples, `rehearsals`, what is printed of refused and of long streams,
--- `chained`, an example of a chain of calls, `kind-table`, the table of kinds line by line, `crossings`, that zeros leave no trace at a detector,
--- `clappers`, what a clapper does, with the law of its motion, and `sheet-examples`, worked sheet lines. The rows compute
--- each number, order and range of the definitions, at its ends: `time-rows` and the others, by topic.
+-- What is proved of the definitions themselves: `played`, the ten marked examples, `rehearsals`, what is printed of
+-- refused and of long streams, `chained`, an example of a chain of calls, `kind-table`, the table of kinds line by
+-- line, `crossings`, that zeros leave no trace at a detector, `clappers`, what a clapper does, with the law of its
+-- motion, and `sheet-examples`, worked sheet lines. The rows compute each number, order and range of the definitions,
+-- at its ends: `time-rows` and the others, by topic.
 pub mod Computing
 pub mod Played
 pub mod Rehearsals

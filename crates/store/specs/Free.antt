@@ -19,6 +19,7 @@ use Rattle.machine.specs.declared.part.Part.{Part}
 use Rattle.machine.specs.declared.model.Model.{Model}
 use Rattle.machine.specs.Model.{most-spans, trimmed-component, trimmed-part, trimmed}
 use Rattle.laws.specs.Bools.{either}
+use Rattle.laws.specs.ListLaws.{take-same}
 use Rattle.codec.specs.Words.{table}
 use Rattle.codec.specs.Tables.{length-table, table-at, table-same, map-table}
 use Rattle.codec.specs.Decoded.{signal-of}
@@ -49,17 +50,6 @@ pub record SameButFree (ts us ss vs : List ℕ) : Type 0 where
   pub state-size : length vs ≡ length ss
   pub table : (x : ℕ) → (FreeInTable ts x → ⊥) → lent us x ≡ lent ts x
   pub state : (x : ℕ) → (FreeInState (parts-lent ts) ss x → ⊥) → lent vs x ≡ lent ss x
-
--- the front of two lists is the same where each element of it is
-pub take-same : (n : ℕ) (k l : List ℕ) → length k ≡ length l →
-    ((j : ℕ) → j < n → j < length l → getD k j 0 ≡ getD l j 0) → take n k ≡ take n l
-take-same zero k l size each = refl
-take-same (suc n) [] [] size each = refl
-take-same (suc n) [] (y ∷ l) size each = absurd (omega arith)
-take-same (suc n) (x ∷ k) [] size each = absurd (omega arith)
-take-same (suc n) (x ∷ k) (y ∷ l) size each =
-    ap₂ _∷_ (each 0 (omega arith) (omega arith))
-    (take-same n k l (omega arith) (λ j low inside. each (suc j) (omega arith) (omega arith)))
 
 -- a signal is the same where its code is, and its value's word where there is a value
 signal-same : (c d v w : ℕ) → d ≡ c → (c ≡ 1 → w ≡ v) → signal-of d w ≡ signal-of c v

@@ -1,4 +1,5 @@
--- A model by value, put into words whatever they are: the number of that, and what the words hold then. Assumes nothing.
+-- A model by value, put into words whatever they are: the number of that, and what the words hold then. Assumes
+-- nothing.
 use Prim.Native.Nat.{ℕ, _≤_, _<_}
 use native.Mathlib.Omega.{arith}
 use mathlib.Core.Path.{_≡_, refl}
@@ -12,14 +13,14 @@ use Rattle.machine.specs.Model.{most-parts}
 use Rattle.store.specs.Held.{table-words, state-words-of}
 use Rattle.transfer.specs.ModelPut.{KeptBehind, ModelPut}
 
--- the number of putting a model of so many parts into so many words of a table and of a state: 24 where it counts more parts than a
--- model may have, else 25 where the words of either are too few
+-- the number of putting a model of so many parts into so many words of a table and of a state: 24 where it counts more
+-- parts than a model may have, else 25 where the words of either are too few
 unfoldable pub put-number : (count table state : ℕ) → ℕ
 put-number count table state =
     cond (leb count most-parts) (cond (leb (table-words count) table && leb (state-words-of count) state) 0 25) 24
 
--- a model, the words of a table before and after it was put, a and b, and of a state, s and t: where the number is 0 the words hold the
--- model, and those after it are kept; where it is not, all words are kept
+-- a model, the words of a table before and after it was put, a and b, and of a state, s and t: where the number is 0
+-- the words hold the model, and those after it are kept; where it is not, all words are kept
 pub record PutInto (m : Model) (a b s t : List ℕ) (number : ℕ) : Type 0 where
   pub is : number ≡ put-number (m .count) (length a) (length s)
   pub put : number ≡ 0 → ModelPut m b t
@@ -27,17 +28,24 @@ pub record PutInto (m : Model) (a b s t : List ℕ) (number : ℕ) : Type 0 wher
   pub kept : (number ≡ 0 → ⊥) → (b ≡ a) × (t ≡ s)
 
 -- a call that is refused with a number keeps all words
-refused-put : (m : Model) (a s : List ℕ) (number : ℕ) → (number ≡ 0 → ⊥) → number ≡ put-number (m .count) (length a) (length s) →
+refused-put : (m : Model) (a s : List ℕ) (number : ℕ) → (number ≡ 0 → ⊥) →
+    number ≡ put-number (m .count) (length a) (length s) →
     PutInto m a a s s number
 refused-put m a s number some is =
-    record { is = is; put = λ none. absurd (some none); behind = λ none. absurd (some none); kept = λ other. (refl, refl) }
+    record {
+      is = is;
+      put = λ none. absurd (some none);
+      behind = λ none. absurd (some none);
+      kept = λ other. (refl, refl);
+    }
 
 -- so does one of too many parts, one with too few words of a table, and one with too few of a state
 pub too-many-put : (m : Model) (a s : List ℕ) → most-parts < m .count → PutInto m a a s s 24
 unfolding put-number
 too-many-put m a s many = refused-put m a s 24 (λ none. omega arith) (rw (lt-leb (m .count) most-parts many) refl)
 
-pub table-short-put : (m : Model) (a s : List ℕ) → m .count ≤ most-parts → length a < table-words (m .count) → PutInto m a a s s 25
+pub table-short-put : (m : Model) (a s : List ℕ) → m .count ≤ most-parts → length a < table-words (m .count) →
+    PutInto m a a s s 25
 unfolding put-number
 table-short-put m a s few short =
     refused-put m a s 25 (λ none. omega arith)

@@ -17,6 +17,7 @@ use Rattle.machine.specs.declared.part.Source.{Source}
 use Rattle.machine.specs.declared.part.Source.the-variants.{Unwired, From}
 use Rattle.machine.specs.Kind.{kind-number, kind-of}
 use Rattle.machine.specs.Model.{most-spans}
+use Rattle.laws.specs.ListLaws.{take-same}
 use Rattle.laws.specs.Bools.{and-intro, cond-true, cond-false}
 use Rattle.codec.specs.Words.{table, word-signed}
 use Rattle.codec.specs.Encoded.{source-code}
@@ -27,7 +28,6 @@ use Rattle.store.specs.Held.{lent, table-words, stored-spans, stored-ratio, sto
 use Rattle.store.specs.Form.{any-word, any-32, operand-limits, spans-used, span-limits, wire-limits, words-within}
 use Rattle.store.specs.WordsWritten.{Outside, written, length-written, written-at, written-before, written-outside}
 use Rattle.store.specs.Updated.{within-all}
-use Rattle.store.specs.Free.{take-same}
 
 -- the word of span place j, where a part counts so many spans: the span, or 0 where no span is there
 abbrev pub used-span : ℕ → List ℕ → ℕ → ℕ

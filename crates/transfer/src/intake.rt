@@ -1,7 +1,7 @@
 // A model by value, put into the words of a table and of a state.
 //
-// The contracts cite `specs/TableRuns.antt`, `specs/ComponentPut.antt`, `specs/ModelPut.antt` and `specs/PutInto.antt`: what
-// was written is read back, from words within their limits.
+// The contracts cite `specs/TableRuns.antt`, `specs/ComponentPut.antt`, `specs/ModelPut.antt` and `specs/PutInto.antt`:
+// what was written is read back, from words within their limits.
 use codec::fields::kind_code;
 use codec::fields::source_code;
 use machine::model::Model;
@@ -137,8 +137,8 @@ pub fn put_fitting(m: Model, table: &mut [u64], state: &mut [u64])
     }
 }
 
-// The model, put into words, whatever they are. The answer is 24 where the model counts more than 32 parts, else 25 where the
-// table's or the state's words are too few; then no word is written. It is 0 where the model was put.
+// The model, put into words, whatever they are. The answer is 24 where the model counts more than 32 parts, else 25
+// where the table's or the state's words are too few; then no word is written. It is 0 where the model was put.
 pub fn put_model(m: Model, table: &mut [u64], state: &mut [u64]) -> u64
     ensures { λ n. ⌜ PutInto m (now (table .entry)) (now (table .exit)) (now (state .entry)) (now (state .exit)) n ⌝ }
 {

@@ -78,7 +78,8 @@ returns-3 c =
     let puts = puts-of advances in
     let s = start-of puts in
     committed-by-value (s .args .m) (s .args .w) 290 (table-of puts) (old-of puts) _ (new-of advances) (advances .advance-into .result)
-    (puts .put-fitting .ensures .0) (omega arith) (advances .advance-into .ensures) (c .recalled .result) (c .recalled .ensures) (test .if2 .left)
+    (puts .put-fitting .ensures .0) (omega arith) (advances .advance-into .ensures) (c .recalled .result)
+    (c .recalled .ensures) (test .if2 .left)
 
 pub advance-spec : {M : Type 1} → statement M
 advance-spec =

@@ -56,7 +56,8 @@ returns-2 c =
     let accepted = puts .before .before .before .before in
     let loads = accepted .before .before in
     let start = loads .before .before .before in
-    table-told _ _ _ _ _ (loads .load .result) _ (loads .load .ensures .0) (accepted .if1 .left) (start .pre) (puts .put-fitting .ensures .0)
+    table-told _ _ _ _ _ (loads .load .result) _ (loads .load .ensures .0) (accepted .if1 .left) (start .pre)
+    (puts .put-fitting .ensures .0)
     (saves .save .ensures)
 
 pub tell-spec : {M : Type 1} → statement M

@@ -1,5 +1,6 @@
--- `write_spelled` puts the line where the buffer has room for it: because it has room for any line of so many parts, or because the line was measured and
--- is no longer. The three pieces that are put one behind the other are the definition's text, which is the line whatever the ceiling is.
+-- `write_spelled` puts the line where the buffer has room for it: because it has room for any line of so many parts, or
+-- because the line was measured and is no longer. The three pieces that are put one behind the other are the
+-- definition's text, which is the line whatever the ceiling is.
 use Prim.Native.Nat.{ℕ, _+_, _*_, _≤_}
 use native.Mathlib.Omega.{arith}
 use mathlib.Core.Path.{_≡_}
@@ -31,7 +32,8 @@ abbrev start-of : tie.After-point-of → tie.Start
 start-of point = words-of point .before .before
 
 -- the numbers of a point that words hold fit a word
-point-fits : (ss : List ℕ) {now : Point} → now ≡ stored-point ss → ((k : ℕ) → Fits w64 (getD ss k 0)) → Fits w64 (tick now) × Fits w64 (now .n)
+point-fits : (ss : List ℕ) {now : Point} → now ≡ stored-point ss → ((k : ℕ) → Fits w64 (getD ss k 0)) →
+    Fits w64 (tick now) × Fits w64 (now .n)
 unfolding stored-point
 point-fits ss same word = rw same (word 0, word 1)
 
@@ -49,16 +51,20 @@ numbers-of c =
 few : (c : tie.After-point-of) → length (numbers-of c) ≤ 104
 few c =
     let fits = start-of c .fits in
-    let point = point-fits (start-of c .args .state .now) (c .point-of .ensures) (words-of c .shared-slice-known2 .given) in
+    let point = point-fits (start-of c .args .state .now) (c .point-of .ensures)
+    (words-of c .shared-slice-known2 .given) in
     numbers-most (point .0) (point .1) (fits .step) (fits .rounds) (fits .revisions)
 
 size : (c : tie.After-point-of) →
     let args = start-of c .args in
-    (length (line-of c) ≡ length (numbers-of c) + length (outputs-text (held (args .table .now) (args .state .now) .parts)) + 1) ×
+    (length (line-of c) ≡ length (numbers-of c) +
+    length (outputs-text (held (args .table .now) (args .state .now) .parts)) + 1) ×
     (length (line-of c) ≤ 21 * parts-lent (args .table .now) + 105)
 size c =
-    let args = start-of c .args in
-    (lent-size (args .table .now) (args .state .now) _ _ _ _, lent-most (args .table .now) (args .state .now) _ _ _ _ (few c))
+    let args = start-of c .args in (
+      lent-size (args .table .now) (args .state .now) _ _ _ _,
+      lent-most (args .table .now) (args .state .now) _ _ _ _ (few c),
+    )
 
 short : (c : tie.After-point-of) → length (line-of c) ≤ 1024
 short c =
@@ -66,7 +72,8 @@ short c =
     omega arith
 
 -- there is room for it where the two ways meet
-enough : (c : tie.Joined2) → length (line-of (c .before .before)) ≤ length (start-of (c .before .before) .args .buf .now)
+enough : (c : tie.Joined2) → length (line-of (c .before .before)) ≤
+    length (start-of (c .before .before) .args .buf .now)
 enough c =
     let line = size (c .before .before) in
     ⊎-elim (λ w. omega arith) (λ w. omega arith) (c .if2 .came)
@@ -74,10 +81,12 @@ enough c =
 -- it is the line of the call, whatever the ceiling
 same-line : (c : tie.After-point-of) (ceiling : ℕ) →
     let args = start-of c .args in
-    line-of c ≡ answer-line (lent-answer (args .table .now) (args .state .now) (args .number) (args .step) (args .rounds) (args .revisions) ceiling)
+    line-of c ≡ answer-line (lent-answer (args .table .now) (args .state .now) (args .number) (args .step)
+    (args .rounds) (args .revisions) ceiling)
 same-line c =
     let args = start-of c .args in
-    committed-lent (args .table .now) (args .state .now) (args .number) (args .step) (args .rounds) (args .revisions) (c .before .if1 .left) (c .point-of .ensures)
+    committed-lent (args .table .now) (args .state .now) (args .number) (args .step) (args .rounds) (args .revisions)
+    (c .before .if1 .left) (c .point-of .ensures)
 
 -- a text that is written is written under each of its names
 written-line : {text before after : List ℕ} {w : Written} {line : ℕ → List ℕ} → ((ceiling : ℕ) → text ≡ line ceiling) →
@@ -95,7 +104,8 @@ returns c =
     let written = c .before .before in
     let test = written .before .before in
     let args = test .before .before .before .before .args in
-    written-line (refused-lent (args .table .now) (args .state .now) (args .number) (args .step) (args .rounds) (args .revisions) (test .if1 .taken))
+    written-line (refused-lent (args .table .now) (args .state .now) (args .number) (args .step) (args .rounds)
+    (args .revisions) (test .if1 .taken))
     (written .write-refused .ensures .0, omega (arith, written .write-refused .ensures .1))
 
 point-of-requires : tie.Need-point-of-requires
@@ -168,7 +178,8 @@ returns-3 c =
     let numbers = outputs .before .before .before .before in
     let met = numbers .before .before in
     let point = met .before .before in
-    let put = put-then (put-then (numbers .put-numbers .ensures) (outputs .put-outputs .ensures)) (feed .put-byte .ensures) in
+    let put = put-then (put-then (numbers .put-numbers .ensures) (outputs .put-outputs .ensures))
+    (feed .put-byte .ensures) in
     written-line (same-line point) (room 1024 put (short point) (enough met))
 
 pub write-spelled-spec : {M : Type 1} → statement M

@@ -33,7 +33,8 @@ returns c =
     let put = c .before .before .before .before in
     let loading = put .before .before .before .before in
     let reading = loading .before .before in
-    all-to-come (loading .load .result) (reading .bytes-read .ensures) (loading .load .ensures .0) (put .put-fitting .ensures .0)
+    all-to-come (loading .load .result) (reading .bytes-read .ensures) (loading .load .ensures .0)
+    (put .put-fitting .ensures .0)
 
 pub begun-spec : {M : Type 1} → statement M
 begun-spec =

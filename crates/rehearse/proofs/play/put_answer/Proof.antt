@@ -26,7 +26,8 @@ returns : tie.Need-returns
 returns c =
     let call = c .before .before .before in
     let start = call .before .before .before .before .before in
-    put-part (start .args .used) (start .pre .1 .1) (call .write-spelled .ensures .0 (start .args .v .ceiling)) (call .write-spelled .ensures .1)
+    put-part (start .args .used) (start .pre .1 .1) (call .write-spelled .ensures .0 (start .args .v .ceiling))
+    (call .write-spelled .ensures .1)
 
 pub put-answer-spec : {M : Type 1} → statement M
 put-answer-spec =

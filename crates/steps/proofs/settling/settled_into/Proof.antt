@@ -134,7 +134,8 @@ returns : tie.Need-returns Inv-loop μ-loop
 returns c =
     let s = c .before .before .before .before .before in
     let loop = c .before .loop in
-    let past : parts-lent (s .args .table .now) ≤ loop .i = omega (arith, c .loop-test .left, c .before .before .parts-of .ensures) in (
+    let past : parts-lent (s .args .table .now) ≤ loop .i =
+    omega (arith, c .loop-test .left, c .before .before .parts-of .ensures) in (
       settled-done (s .args .table .now) (s .args .new .now) (s .pre .1) (loop .i) (loop .new) (loop .inv) past,
       (loop .inv .behind, loop .inv .signals),
     )

@@ -133,7 +133,8 @@ returns c =
     let copies = copies-of fills in
     let puts = puts-of copies in
     let s = start-of puts in
-    start-is (s .args .m) (s .pre) (table-of puts) (old-of puts) (copy-of copies) (puts .put-fitting .ensures .0) (copied copies) (filled-of fills)
+    start-is (s .args .m) (s .pre) (table-of puts) (old-of puts) (copy-of copies) (puts .put-fitting .ensures .0)
+    (copied copies) (filled-of fills)
     (fills .filled-into .ensures .0) (settles .settled-into .last .1 .0) (c .recalled .result) (settles .settled-into .ensures .0) (c .recalled .ensures)
 
 pub started-spec : {M : Type 1} → statement M

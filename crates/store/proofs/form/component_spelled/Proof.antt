@@ -43,4 +43,5 @@ returns-3 c =
 
 pub component-spelled-spec : {M : Type 1} → statement M
 component-spelled-spec =
-    tie.close (tie.spec operands-spelled-requires returns spans-spelled-requires returns-2 wires-spelled-requires returns-3)
+    tie.close (tie.spec operands-spelled-requires returns spans-spelled-requires returns-2 wires-spelled-requires
+    returns-3)

@@ -1,4 +1,5 @@
--- `put_fitting` puts one part after the other. The invariant: the first i parts are put, and the words behind the model's kept. The measure is how many are left.
+-- `put_fitting` puts one part after the other. The invariant: the first i parts are put, and the words behind the
+-- model's kept. The measure is how many are left.
 use Prim.Native.Nat.{ℕ, _-_, _≤_}
 use native.Mathlib.Omega.{arith}
 use mathlib.Core.Path.{_≡_, subst, _∙_}
@@ -58,7 +59,8 @@ loop-again c =
     let test = record-put .before .before .before .before .before .before in
     let turn = test .before in (
       omega (arith, test .loop-test .taken),
-      put-more _ (turn .loop .i) _ _ _ _ _ _ (omega (arith, test .loop-test .taken)) (turn .loop .inv .1) (record-put .put-component .ensures) (put .put-state .ensures),
+      put-more _ (turn .loop .i) _ _ _ _ _ _ (omega (arith, test .loop-test .taken)) (turn .loop .inv .1)
+          (record-put .put-component .ensures) (put .put-state .ensures),
     )
 
 same-length : tie.Need-same-length Inv-loop μ-loop
@@ -80,10 +82,12 @@ returns c =
     let orders : m .count ≤ length (m .order) = omega (arith, start .pre .0, simp length-map at (start .good .0)) in
     let parts : m .count ≤ length (m .parts) = omega (arith, start .pre .0, simp length-map at (start .good .0)) in (
       model-put m _ _ (loop .table) (loop .state)
-          (subst (λ (n : ℕ). PutFirst m n (header .put-header .last .0) (point .put-point .last .0) (loop .table) (loop .state)) done (loop .inv .1))
+          (subst (λ (n : ℕ). PutFirst m n (header .put-header .last .0) (point .put-point .last .0) (loop .table)
+          (loop .state)) done (loop .inv .1))
           (start .pre .0) orders parts (omega (arith, start .pre .1 .0, header .put-header .ensures .size))
           (omega (arith, start .pre .1 .1, point .put-point .ensures .size)),
-      behind-put-words m (start .args .table .now) (header .put-header .last .0) (start .args .state .now) (point .put-point .last .0) (loop .table) (loop .state)
+      behind-put-words m (start .args .table .now) (header .put-header .last .0) (start .args .state .now)
+          (point .put-point .last .0) (loop .table) (loop .state)
           (header .put-header .ensures) (point .put-point .ensures) (loop .inv .1 .behind),
     )
 

@@ -24,7 +24,8 @@ returns-2 c =
     table-short-put _ _ _ (sized .before .if1 .left) (omega (arith, sized .table-size .ensures, c .if2 .taken))
 
 -- there is room for the table
-table-room : (c : tie.Else2) → let s = start-of (c .before .before) in table-words (s .args .m .count) ≤ length (s .args .table .now)
+table-room : (c : tie.Else2) → let s = start-of (c .before .before) in
+    table-words (s .args .m .count) ≤ length (s .args .table .now)
 table-room c = omega (arith, c .before .table-size .ensures, c .if2 .left)
 
 state-size-requires : tie.Need-state-size-requires
@@ -34,10 +35,12 @@ returns-3 : tie.Need-returns-3
 returns-3 c =
     let sized = c .before in
     let table = sized .before in
-    state-short-put _ _ _ (table .before .before .if1 .left) (table-room table) (omega (arith, sized .state-size .ensures, c .if3 .taken))
+    state-short-put _ _ _ (table .before .before .if1 .left) (table-room table)
+    (omega (arith, sized .state-size .ensures, c .if3 .taken))
 
 -- and for the state
-state-room : (c : tie.Else3) → let s = start-of (c .before .before .before .before) in state-words-of (s .args .m .count) ≤ length (s .args .state .now)
+state-room : (c : tie.Else3) → let s = start-of (c .before .before .before .before) in
+    state-words-of (s .args .m .count) ≤ length (s .args .state .now)
 state-room c = omega (arith, c .before .state-size .ensures, c .if3 .left)
 
 put-fitting-requires : tie.Need-put-fitting-requires
@@ -57,7 +60,8 @@ returns-4 c =
     let puts = c .before .before .before .before in
     let state = puts .before .before .before in
     let table = state .before .before in
-    whole-put _ _ (puts .put-fitting .last .1 .0) _ (puts .put-fitting .last .1 .1 .0) (table .before .before .if1 .left) (table-room table)
+    whole-put _ _ (puts .put-fitting .last .1 .0) _ (puts .put-fitting .last .1 .1 .0)
+    (table .before .before .if1 .left) (table-room table)
     (state-room state) (puts .put-fitting .ensures .0) (puts .put-fitting .ensures .1)
 
 pub put-model-spec : {M : Type 1} → statement M
