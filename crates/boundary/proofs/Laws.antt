@@ -12,20 +12,19 @@ use Rattle.machine.specs.declared.model.Written.{Written}
 use Rattle.machine.specs.Model.{most-parts, trimmed, trimmed-loaded}
 use Rattle.machine.specs.Load.{load}
 use Rattle.machine.specs.Sound.{sound}
-use Rattle.machine.specs.Advance.{Outcome}
+use Rattle.machine.specs.declared.model.Outcome.{Outcome}
 use Rattle.machine.specs.Writing.{WrittenAs}
-use Rattle.store.specs.Clean.{CleanWords}
-use Rattle.writing.specs.Fitting.{nothing-written}
-use Rattle.transfer.specs.ModelPut.{KeptBehind}
-use Rattle.transfer.specs.PutInto.{put-number, PutInto}
-use Rattle.loading.specs.LoadOwed.{accepted-is-a-table}
-use Rattle.master.specs.declared.verdict.Verdict.{Verdict}
-use Rattle.master.specs.Into.{verdict-of, outcome-into, CalledInto}
-use Rattle.preview.specs.PreviewedInto.{PreviewedInto}
-use Rattle.sheet.specs.SheetInto.{SheetInto}
+use Rattle.words_store.specs.Clean.{CleanWords}
+use Rattle.write_bytes.specs.Fitting.{nothing-written}
+use Rattle.words_transfer.specs.ModelPut.{KeptBehind}
+use Rattle.words_transfer.specs.PutInto.{put-number, PutInto}
+use Rattle.load_call.specs.LoadOwed.{accepted-is-a-table}
+use Rattle.advance_call.specs.Into.{outcome-into, CalledInto}
+use Rattle.preview_call.specs.PreviewedInto.{PreviewedInto}
+use Rattle.sheet_call.specs.SheetInto.{SheetInto}
 use Rattle.boundary.specs.PutFront.{put-front}
 use Rattle.boundary.specs.Exported.{taken-number, TakenIn, LoadedWords, outcome-words, AdvancedWords}
-use Rattle.boundary.specs.Exported.{PreviewedWords, WrittenWords, verdict-lent, printed-refusal, printed-line}
+use Rattle.boundary.specs.Exported.{PreviewedWords, WrittenWords, outcome-lent, printed-refusal, printed-line}
 use Rattle.boundary.specs.Exported.{PrintedInto, PrintedWords}
 
 -- a word written after those in front
@@ -102,35 +101,30 @@ loaded-words stream table₀ table₁ state₀ state₁ out₀ out₁ r number i
       kept = taken .kept;
     }
 
--- the five numbers of a verdict, in words
-abbrev verdict-words : Verdict → List ℕ
-verdict-words v = v .number ∷ v .step ∷ v .rounds ∷ v .revisions ∷ v .ceiling ∷ []
-
 -- put in front, they are those of the outcome that it is of
-ended-words : (out₀ out₁ : List ℕ) (v : Verdict) (e : Outcome) → v ≡ verdict-of e →
-    out₁ ≡ put-front (verdict-words v) out₀ → out₁ ≡ put-front (outcome-words e) out₀
-unfolding outcome-words
-ended-words out₀ out₁ v e ends written = written ∙ ap (λ (x : Verdict). put-front (verdict-words x) out₀) ends
+ended-words : (out₀ out₁ : List ℕ) (v e : Outcome) → v ≡ e →
+    out₁ ≡ put-front (outcome-words v) out₀ → out₁ ≡ put-front (outcome-words e) out₀
+ended-words out₀ out₁ v e ends written = written ∙ ap (λ (x : Outcome). put-front (outcome-words x) out₀) ends
 
 -- what an advance comes to, and a preview
-module _ (table old : List ℕ) (w : ℕ) (new₀ new₁ out₀ out₁ : List ℕ) (v : Verdict) where
+module _ (table old : List ℕ) (w : ℕ) (new₀ new₁ out₀ out₁ : List ℕ) (v : Outcome) where
   abbrev due : Outcome
   due = outcome-into table old w (length new₀)
 
-  pub advanced-words : CalledInto due table old new₀ new₁ v → out₁ ≡ put-front (verdict-words v) out₀ →
+  pub advanced-words : CalledInto due table old new₀ new₁ v → out₁ ≡ put-front (outcome-words v) out₀ →
       AdvancedWords table old w new₀ new₁ out₀ out₁ (v .number)
   advanced-words found written =
       record {
-        is = ap (λ (x : Verdict). x .number) (found .ends);
+        is = ap (λ (x : Outcome). x .number) (found .ends);
         answer = ended-words out₀ out₁ v due (found .ends) written;
         called = subst (CalledInto due table old new₀ new₁) (found .ends) found;
       }
 
-  pub previewed-words : PreviewedInto table old w new₀ new₁ v → out₁ ≡ put-front (verdict-words v) out₀ →
+  pub previewed-words : PreviewedInto table old w new₀ new₁ v → out₁ ≡ put-front (outcome-words v) out₀ →
       PreviewedWords table old w new₀ new₁ out₀ out₁ (v .number)
   previewed-words found written =
       record {
-        is = ap (λ (x : Verdict). x .number) (found .ends);
+        is = ap (λ (x : Outcome). x .number) (found .ends);
         answer = ended-words out₀ out₁ v due (found .ends) written;
         previewed = subst (PreviewedInto table old w new₀ new₁) (found .ends) found;
       }
@@ -158,7 +152,7 @@ module _ (table state outcome : List ℕ) (first second third : ℕ) where
       (nothing-written 24 (printed-line table state outcome first second third) buffer (λ none. omega arith))
 
   pub printed-told : (buffer₀ buffer₁ : List ℕ) (w : Written) → 5 ≤ length outcome →
-      SheetInto table state (verdict-lent outcome) first second third buffer₀ buffer₁ w →
+      SheetInto table state (outcome-lent outcome) first second third buffer₀ buffer₁ w →
       PrintedInto table state outcome first second third buffer₀ buffer₁ w
   unfolding printed-refusal
   printed-told buffer₀ buffer₁ w enough line = rw (le-leb 5 (length outcome) enough) line

@@ -10,26 +10,25 @@ use Rattle.machine.specs.declared.model.Model.{Model}
 use Rattle.machine.specs.declared.model.Written.{Written}
 use Rattle.machine.specs.Load.{load}
 use Rattle.machine.specs.Sound.{sound}
-use Rattle.machine.specs.Advance.{Outcome}
+use Rattle.machine.specs.declared.model.Outcome.{Outcome}
 use Rattle.machine.specs.Writing.{written-number, written-length, WrittenAs}
 use Rattle.machine.specs.Save.{saved-bytes}
 use Rattle.machine.specs.Sheet.{sheet-line}
-use Rattle.store.specs.Held.{lent, table-words, state-words-of}
-use Rattle.store.specs.Form.{spelled}
-use Rattle.store.specs.Clean.{CleanWords}
-use Rattle.transfer.specs.ModelPut.{KeptBehind, ModelPut}
-use Rattle.master.specs.declared.verdict.Verdict.{Verdict}
-use Rattle.master.specs.Into.{verdict-of, lent-model, outcome-into, CalledInto}
-use Rattle.preview.specs.PreviewedInto.{PreviewedInto}
-use Rattle.saving.specs.SavedInto.{lent-refusal}
-use Rattle.sheet.specs.SheetInto.{verdict-answer, lent-sheet-refusal}
+use Rattle.words_store.specs.ModelIn.{slot, table-words, state-words}
+use Rattle.words_store.specs.Form.{spelled}
+use Rattle.words_store.specs.Clean.{CleanWords}
+use Rattle.words_transfer.specs.ModelPut.{KeptBehind, ModelPut}
+use Rattle.advance_call.specs.Into.{lent-model, outcome-into, CalledInto}
+use Rattle.preview_call.specs.PreviewedInto.{PreviewedInto}
+use Rattle.save_call.specs.SavedInto.{lent-refusal}
+use Rattle.sheet_call.specs.SheetInto.{outcome-answer, lent-sheet-refusal}
 use Rattle.boundary.specs.PutFront.{put-front}
 
 -- the number of a load that ended with a number and a model of so many parts, with so many words lent for the table and
 -- for the state: 25 where the table is accepted and there are too few of either
 unfoldable pub taken-number : (number count table state : ℕ) → ℕ
 taken-number number count table state =
-    cond (eqb number 0) (cond (leb (table-words count) table && leb (state-words-of count) state) 0 25) number
+    cond (eqb number 0) (cond (leb (table-words count) table && leb (state-words count) state) 0 25) number
 
 -- A model that was loaded with a number, the words of a table and of a state before and after it was taken in, and the
 -- number that the call then has. Where that is 0 the model was put into the words, and those after it are kept; where
@@ -70,13 +69,13 @@ pub record AdvancedWords (table old : List ℕ) (w : ℕ) (new₀ new₁ out₀ 
   pub answer : out₁ ≡ put-front (outcome-words (outcome-into table old w (length new₀))) out₀
   pub called :
       let ends = outcome-into table old w (length new₀) in
-      CalledInto ends table old new₀ new₁ (verdict-of ends)
+      CalledInto ends table old new₀ new₁ (ends)
 
 -- The same of a preview by at most w, but for what it leaves in the words of the new state.
 pub record PreviewedWords (table old : List ℕ) (w : ℕ) (new₀ new₁ out₀ out₁ : List ℕ) (number : ℕ) : Type 0 where
   pub is : number ≡ outcome-into table old w (length new₀) .number
   pub answer : out₁ ≡ put-front (outcome-words (outcome-into table old w (length new₀))) out₀
-  pub previewed : PreviewedInto table old w new₀ new₁ (verdict-of (outcome-into table old w (length new₀)))
+  pub previewed : PreviewedInto table old w new₀ new₁ ((outcome-into table old w (length new₀)))
 
 -- A call that writes bytes: a buffer, the words of the answer, and the call's number; `refusal` is what its own tests
 -- come to, and `bytes` what it has to write. The number and the length are those of every writing call, and are put in
@@ -93,14 +92,14 @@ SavedWords table state buffer₀ buffer₁ out₀ out₁ number =
     WrittenWords (lent-refusal table state) (saved-bytes (lent-model table state)) buffer₀ buffer₁ out₀ out₁ number
 
 -- how a call ended, by the words that an advance or a preview writes
-abbrev pub verdict-lent : List ℕ → Verdict
-verdict-lent outcome =
+abbrev pub outcome-lent : List ℕ → Outcome
+outcome-lent outcome =
     record {
-      number = lent outcome 0;
-      step = lent outcome 1;
-      rounds = lent outcome 2;
-      revisions = lent outcome 3;
-      ceiling = lent outcome 4;
+      number = slot outcome 0;
+      step = slot outcome 1;
+      rounds = slot outcome 2;
+      revisions = slot outcome 3;
+      ceiling = slot outcome 4;
     }
 
 -- The answer that the words of a table, of a state and of an outcome tell, printed as a sheet line with three chosen
@@ -110,11 +109,11 @@ module _ (table state outcome : List ℕ) (first second third : ℕ) where
   -- that answer's line
   unfoldable pub printed-refusal : ℕ
   printed-refusal =
-      cond (leb 5 (length outcome)) (lent-sheet-refusal table state (verdict-lent outcome) first second third) 24
+      cond (leb 5 (length outcome)) (lent-sheet-refusal table state (outcome-lent outcome) first second third) 24
 
   -- its line
   abbrev pub printed-line : List ℕ
-  printed-line = sheet-line (verdict-answer table state (verdict-lent outcome)) first second third
+  printed-line = sheet-line (outcome-answer table state (outcome-lent outcome)) first second third
 
   -- what the call below the exported one leaves in a buffer, and answers
   abbrev pub PrintedInto : (buffer₀ buffer₁ : List ℕ) → Written → Type 0

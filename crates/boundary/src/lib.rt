@@ -1,26 +1,26 @@
 // The calls `load`, `advance`, `preview`, `save` and `sheet` for programs in Rust and C, through a static library. A
-// model lies in words of 64 bits that the caller lends, as the crate `store` lays down in its `specs/Held.antt`: those
+// model lies in words of 64 bits that the caller lends, as the crate `store` lays down in its `specs/ModelIn.antt`: those
 // of a table, 18 for each part and 2 before them, and those of a state, 9 for each part and 2 before them. The calls
 // work in the caller's own memory. Each returns its number whatever is lent; of the answer's words those that `out` has
 // room for are written into it, from the first on, and the words of `out` after them are kept. The contracts cite
 // `specs/Exported.antt`; they ask nothing of the caller but that each slice is one, and that what is lent for writing
 // overlaps no other.
-use loading::load;
+use advance_call::advance_into;
+use load_call::load;
 use machine::model::Model;
+use machine::model::Outcome;
 use machine::model::Written;
-use master::advance_into;
-use master::verdict::Verdict;
-use preview::preview_into;
-use saving::save;
-use sheet::sheet;
-use transfer::intake::put_model;
+use preview_call::preview_into;
+use save_call::save;
+use sheet_call::sheet;
+use words_transfer::intake::put_model;
 ghost use mathlib.Core.Path.{_≡_};
 ghost use mathlib.Core.List.{[], _∷_};
 ghost use Prim.Native.Nat.{_≤_};
 ghost use lib.ListN.{length, set};
 ghost use Rattle.boundary.specs.PutFront.{put-front};
 ghost use Rattle.boundary.specs.Exported.{AdvancedWords, LoadedWords, PreviewedWords, PrintedInto, PrintedWords};
-ghost use Rattle.boundary.specs.Exported.{SavedWords, TakenIn, verdict-lent};
+ghost use Rattle.boundary.specs.Exported.{SavedWords, TakenIn, outcome-lent};
 
 // The number of a call whose words spell nothing.
 const UNSPELLED: u64 = 24;
@@ -58,11 +58,11 @@ fn put_counts(out: &mut [u64], number: u64, step: u64, rounds: u64, revisions: u
 }
 
 // How a call ended, by the words that an advance or a preview writes.
-fn verdict_in(outcome: &[u64]) -> Verdict
+fn outcome_in(outcome: &[u64]) -> Outcome
     requires { ⌜ 5 ≤ length (now outcome) ⌝ }
-    ensures { λ r. ⌜ r ≡ verdict-lent (now (outcome .entry)) ⌝ }
+    ensures { λ r. ⌜ r ≡ outcome-lent (now (outcome .entry)) ⌝ }
 {
-    Verdict {
+    Outcome {
         number: outcome[0],
         step: outcome[1],
         rounds: outcome[2],
@@ -123,16 +123,16 @@ pub extern "C" fn dozhumek_advance(
         (now (new .entry)) (now (new .exit))
         (now (out .entry)) (now (out .exit)) n ⌝ }
 {
-    let verdict = advance_into(table, old, wanted, new);
+    let ended = advance_into(table, old, wanted, new);
     put_counts(
         out,
-        verdict.number,
-        verdict.step,
-        verdict.rounds,
-        verdict.revisions,
-        verdict.ceiling,
+        ended.number,
+        ended.step,
+        ended.rounds,
+        ended.revisions,
+        ended.ceiling,
     );
-    verdict.number
+    ended.number
 }
 
 // What an advance by at most `wanted` would answer, of the model that the words spell, whatever they are. The number
@@ -151,16 +151,16 @@ pub extern "C" fn dozhumek_preview(
         (now (new .entry)) (now (new .exit))
         (now (out .entry)) (now (out .exit)) n ⌝ }
 {
-    let verdict = preview_into(table, old, wanted, new);
+    let ended = preview_into(table, old, wanted, new);
     put_counts(
         out,
-        verdict.number,
-        verdict.step,
-        verdict.rounds,
-        verdict.revisions,
-        verdict.ceiling,
+        ended.number,
+        ended.step,
+        ended.rounds,
+        ended.revisions,
+        ended.ceiling,
     );
-    verdict.number
+    ended.number
 }
 
 // The bytes of the table of the model that the words spell, whatever they are, written into `buffer`, whose bytes after
@@ -203,8 +203,8 @@ fn print_words(
             length: 0,
         };
     }
-    let verdict = verdict_in(outcome);
-    sheet(table, state, verdict, first, second, third, buffer)
+    let ended = outcome_in(outcome);
+    sheet(table, state, ended, first, second, third, buffer)
 }
 
 // The sheet line of an answer. The words of a table and of a state spell its model, those of `outcome` its five

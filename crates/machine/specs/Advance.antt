@@ -7,6 +7,7 @@ use lib.Dec.{eqb, leb, ltb}
 use Rattle.machine.specs.declared.part.Part.{Part}
 use Rattle.machine.specs.declared.model.Model.{Model}
 use Rattle.machine.specs.declared.model.Answer.{Answer}
+use Rattle.machine.specs.declared.model.Outcome.{Outcome}
 use Rattle.machine.specs.Lists.{any}
 use Rattle.machine.specs.Time.{last-tick, last-microstep, tick}
 use Rattle.machine.specs.Kind.{period, marked}
@@ -60,14 +61,6 @@ tried m h =
 -- a round at h, and what follows where it changed nothing
 unfoldable pub turn : Model → ℕ → Turn
 turn m h = cond (eqb (round m h) h) (tried m h) (Lower (round m h))
-
--- how a call ends: number, step and counts
-pub record Outcome : Type 0 where
-  pub number : ℕ
-  pub step : ℕ
-  pub rounds : ℕ
-  pub revisions : ℕ
-  pub ceiling : ℕ
 
 -- what a turn at h leads to, after n rounds and v revisions before it, under the ceiling c: rounds go on at a lower h; "the next ceiling and h are
 -- floor(h / 2)" and revisions grow by one; or the call ends. The round that changed nothing counts too

@@ -147,8 +147,8 @@ fields-of [] line = []
 fields-of (w ∷ ws) line = take w line ∷ fields-of ws (drop (suc w) line)
 
 -- what stands in field k
-unfoldable pub number-at : List (List ℕ) → ℕ → ℕ
-number-at fs k = number-read (getD fs k [])
+unfoldable pub ordered-part : List (List ℕ) → ℕ → ℕ
+ordered-part fs k = number-read (getD fs k [])
 
 unfoldable pub signal-at : List (List ℕ) → ℕ → Signal
 signal-at fs k = signal-read (getD fs k [])
@@ -156,7 +156,7 @@ signal-at fs k = signal-read (getD fs k [])
 -- what fields show
 unfoldable pub fields-read : List (List ℕ) → Shown
 fields-read fs =
-    ShownStep (number-at fs 0) (number-at fs 1) (number-at fs 2) (number-at fs 3) (number-at fs 4) (signal-at fs 5) (signal-at fs 6) (signal-at fs 7)
+    ShownStep (ordered-part fs 0) (ordered-part fs 1) (ordered-part fs 2) (ordered-part fs 3) (ordered-part fs 4) (signal-at fs 5) (signal-at fs 6) (signal-at fs 7)
 
 -- what a line shows: a refusal where it begins with the r of `refused `, else its fields
 unfoldable pub sheet-read : List ℕ → Shown

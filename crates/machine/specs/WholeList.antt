@@ -15,7 +15,8 @@ use Rattle.machine.specs.Kind.{period}
 use Rattle.machine.specs.Model.{part-at, reading0, trimmed}
 use Rattle.machine.specs.Step.{steps-made}
 use Rattle.machine.specs.Accept.{Accepts}
-use Rattle.machine.specs.Advance.{Outcome, outcome}
+use Rattle.machine.specs.Advance.{outcome}
+use Rattle.machine.specs.declared.model.Outcome.{Outcome}
 use Rattle.machine.specs.Calls.{Call, last-model, committed, visited}
 
 -- all parts accept a step of h, where the model m stands

@@ -32,6 +32,15 @@ pub struct Answer {
     pub ceiling: u64,
 }
 
+// How a call ends: document 01's number (0: committed) and the counts. Where the model is in lent words, this is the answer.
+pub struct Outcome {
+    pub number: u64,
+    pub step: u64,
+    pub rounds: u64,
+    pub revisions: u64,
+    pub ceiling: u64,
+}
+
 // What a preview returns: the model handed in, and the answer that an advance of it has.
 pub struct Preview {
     pub given: Model,

@@ -1,11 +1,11 @@
 // The score's commands: what the score holds at a position of the stream. Its promise cites the
 // machine's `Score.antt`.
+use load_operands::cursor::ByteRead;
+use load_operands::cursor::Cursor;
+use load_operands::cursor::WordRead;
+use load_operands::cursor::byte;
+use load_operands::cursor::u32_at;
 use machine::model::Score;
-use operands::cursor::ByteRead;
-use operands::cursor::Cursor;
-use operands::cursor::WordRead;
-use operands::cursor::byte;
-use operands::cursor::word;
 ghost use mathlib.Core.Path.{_≡_};
 ghost use Rattle.machine.specs.Score.{score-at};
 
@@ -19,7 +19,7 @@ pub fn score_at(s: &[u8], at: usize) -> Score
     };
     match b {
         6 => {
-            let WordRead::Got(wanted, c) = word(s, c) else {
+            let WordRead::Got(wanted, c) = u32_at(s, c) else {
                 return Score::Refused(1, at);
             };
             Score::Wanted(wanted as u64, c.at)

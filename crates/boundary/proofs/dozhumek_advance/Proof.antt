@@ -1,4 +1,5 @@
 -- `dozhumek_advance` makes the call on words, and then puts its five numbers in front of the answer's words.
+use Rattle.boundary.specs.Exported.{outcome-words}
 use Rattle.boundary.proofs.Laws.{advanced-words}
 use borrow.Author.Needs.{needs}
 use Rattle.boundary.proofs.dozhumek_advance.Statement.{statement}
@@ -17,6 +18,7 @@ same-length-2 : tie.Need-same-length-2
 same-length-2 c = search needs
 
 returns : tie.Need-returns
+unfolding outcome-words
 returns c =
     let writes = c .before .before in
     let calls = writes .before .before .before .before in

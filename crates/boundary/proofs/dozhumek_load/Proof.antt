@@ -1,6 +1,6 @@
 -- `dozhumek_load` loads the stream, puts the model into the words where they have room for it, and then puts its two
 -- numbers in front of the answer's words.
-use Rattle.loading.specs.LoadOwed.{accepted-few}
+use Rattle.load_call.specs.LoadOwed.{accepted-few}
 use Rattle.boundary.proofs.Laws.{loaded-words}
 use borrow.Author.Needs.{needs}
 use Rattle.boundary.proofs.dozhumek_load.Statement.{statement}

@@ -8,8 +8,8 @@ use Rattle.boundary.proofs.print_words.Tie as tie
 returns : tie.Need-returns
 returns c = printed-few _ _ _ _ _ _ _ (omega arith)
 
-verdict-in-requires : tie.Need-verdict-in-requires
-verdict-in-requires c κs = search needs
+outcome-in-requires : tie.Need-outcome-in-requires
+outcome-in-requires c κs = search needs
 
 sheet-requires : tie.Need-sheet-requires
 sheet-requires c κs = search needs
@@ -21,8 +21,8 @@ returns-2 : tie.Need-returns-2
 returns-2 c =
     let calls = c .before .before in
     let reads = calls .before .before in
-    let line = rw (reads .verdict-in .ensures) at (calls .sheet .ensures) in
+    let line = rw (reads .outcome-in .ensures) at (calls .sheet .ensures) in
     printed-told _ _ _ _ _ _ _ _ (calls .sheet .result) (reads .before .if1 .left) line
 
 pub print-words-spec : {M : Type 1} → statement M
-print-words-spec = tie.close (tie.spec returns verdict-in-requires sheet-requires same-length returns-2)
+print-words-spec = tie.close (tie.spec returns outcome-in-requires sheet-requires same-length returns-2)

@@ -11,8 +11,8 @@ use borrow.Author.Tests.{lt-ltb, le-ltb, le-leb, lt-leb, ne-eqb}
 use Rattle.machine.specs.declared.model.Score.the-variants.{Wanted, Refused}
 use Rattle.machine.specs.Load.{known-command, command-width, byte-at, word-at}
 use Rattle.machine.specs.Score.{score-command, score-at}
-use Rattle.operands.specs.declared.cursor.Cursor.{Cursor}
-use Rattle.operands.specs.Operands.{Behind, ReadAt, byte-cases, cut-number, cut-scores, read-behind, word-cases}
+use Rattle.load_operands.specs.declared.cursor.Cursor.{Cursor}
+use Rattle.load_operands.specs.Operands.{Behind, ReadAt, byte-cases, cut-number, cut-scores, read-behind, word-cases}
 use Rattle.score.proofs.command.score_at.Statement.{statement}
 use Rattle.score.proofs.command.score_at.Tie as tie
 
@@ -70,8 +70,8 @@ returns c =
     let past : length (args .s .now) ≤ args .at = omega arith in
     rw (le-ltb _ _ past)
 
-word-requires : tie.Need-word-requires
-word-requires c κs = search needs
+u32-at-requires : tie.Need-u32-at-requires
+u32-at-requires c κs = search needs
 
 enum-known-wanted : tie.Need-enum-known-wanted
 enum-known-wanted c = search needs
@@ -84,7 +84,7 @@ returns-2 c =
     let command = c .before .before .before in
     let found = command .before .before in
     let behind = byte-read found .0 in
-    let short = rw (c .enum-told2 .given .1) at (word-cases (c .before .before .word .ensures)) in
+    let short = rw (c .enum-told2 .given .1) at (word-cases (c .before .before .u32-at .ensures)) in
     cut _ _ _ _ (byte-read found) (command .match2 .keys1) (omega arith)
 
 cast-t11 : tie.Need-cast-t11
@@ -95,7 +95,7 @@ returns-3 c =
     let operand = c .before in
     let command = operand .before .before .before in
     let found = command .before .before in
-    let word = rw (operand .wanted .given .1) at (word-cases (operand .before .before .word .ensures)) in
+    let word = rw (operand .wanted .given .1) at (word-cases (operand .before .before .u32-at .ensures)) in
     whole _ _ _ _ (byte-read found) _ _ (command .match2 .keys1) (read-behind word-at _ _ 1 4 _ _ _ (byte-read found .0) word)
 
 returns-4 : tie.Need-returns-4
@@ -124,7 +124,7 @@ score-at-spec =
     enum-known-b
     enum-told
     returns
-    word-requires
+    u32-at-requires
     enum-known-wanted
     enum-told-2
     returns-2

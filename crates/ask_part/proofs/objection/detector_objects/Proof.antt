@@ -1,0 +1,17 @@
+-- `detector_objects` makes the definition's two tests in the definition's order.
+use mathlib.Core.Path.{sym, _∙_}
+use borrow.Author.Needs.{needs}
+use Rattle.ask_part.proofs.objection.detector_objects.Statement.{statement}
+use Rattle.ask_part.proofs.objection.detector_objects.Tie as tie
+
+marked-of-requires : tie.Need-marked-of-requires
+marked-of-requires c κs = search needs
+
+returns : tie.Need-returns
+returns c = simp (sym (c .before .before .before .marked-of .ensures) ∙ c .before .before .if1 .taken)
+
+returns-2 : tie.Need-returns-2
+returns-2 c = search needs
+
+pub detector-objects-spec : {M : Type 1} → statement M
+detector-objects-spec = tie.close (tie.spec marked-of-requires returns returns-2)
