@@ -12,9 +12,11 @@ use Rattle.machine.specs.Sound.{component-fits, speed-fits}
 -- the machine's `state-fits`, of a state, a kind and a ratio
 unfoldable pub state-holds : (t ratio : ℕ) → Kind → State → Bool
 state-holds t ratio k s =
-    eqb (s .local .0) (local-count t ratio .0) && is-value (s .held) && speed-fits k (s .speed) && is-signal (s .signal) && is-signal (s .output)
+    eqb (s .local .0) (local-count t ratio .0) && is-value (s .held) && speed-fits k (s .speed) &&
+    is-signal (s .signal) && is-signal (s .output)
 
--- a part that fits, among n parts at tick t, by the master's magnitude: its component, its ratio, its period and its state
+-- a part that fits, among n parts at tick t, by the master's magnitude: its component, its ratio, its period and its
+-- state
 unfoldable pub part-fits : (n magnitude t : ℕ) → Part → Bool
 part-fits n magnitude t p =
     let ratio = ratio-of magnitude (p .component .preference) in

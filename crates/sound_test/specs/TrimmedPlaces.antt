@@ -1,4 +1,5 @@
--- A model with its unused places cut away, by the places of the model itself: how many parts it has, each part, each preference. Assumes nothing.
+-- A model with its unused places cut away, by the places of the model itself: how many parts it has, each part, each
+-- preference. Assumes nothing.
 use Prim.Native.Nat.{ℕ, _+_, _≤_, _<_}
 use native.Mathlib.Omega.{arith}
 use mathlib.Core.Path.{_≡_, ap, sym, _∙_}
@@ -49,14 +50,17 @@ module _ (m : Model) (few : m .count ≤ length (m .parts)) where
       let inside : i < length (trimmed m .parts) = omega (arith, parts-count) in
       let within : i < length (map (λ (p : Part). p .component) (trimmed m .parts)) =
       omega (arith, parts-count, length-map (trimmed m .parts) (λ (p : Part). p .component)) in
-      getD-map-in (λ (c : Component). c .preference) (map (λ (p : Part). p .component) (trimmed m .parts)) i blank-component 0 within ∙
-      ap (λ (c : Component). c .preference) (getD-map-in (λ (p : Part). p .component) (trimmed m .parts) i blank-part blank-component inside) ∙
+      getD-map-in (λ (c : Component). c .preference)
+      (map (λ (p : Part). p .component) (trimmed m .parts)) i blank-component 0 within ∙
+      ap (λ (c : Component). c .preference)
+      (getD-map-in (λ (p : Part). p .component) (trimmed m .parts) i blank-part blank-component inside) ∙
       ap (λ (p : Part). p .component .preference) (part-trimmed i h)
 
   -- a loop's turn: the test of the parts from i on asks part i and those behind it
   pub parts-on :
       (f : Part → Bool) (i : ℕ) → i < m .count →
-      every f (drop i (trimmed m .parts)) ≡ (f (trimmed-part (part-at (m .parts) i)) && every f (drop (i + 1) (trimmed m .parts)))
+      every f (drop i (trimmed m .parts)) ≡
+      (f (trimmed-part (part-at (m .parts) i)) && every f (drop (i + 1) (trimmed m .parts)))
   parts-on f i h =
       let inside : i < length (trimmed m .parts) = omega (arith, parts-count) in
       every-on f (trimmed m .parts) i blank-part inside ∙
@@ -74,15 +78,19 @@ module _ (m : Model) (few : m .count ≤ length (m .parts)) where
 
 -- the components of the trimmed parts are those of the parts in use, trimmed
 pub components-trimmed :
-    (m : Model) → table-of (trimmed m) .parts ≡ map trimmed-component (map (λ (p : Part). p .component) (take (m .count) (m .parts)))
+    (m : Model) → table-of (trimmed m) .parts ≡
+    map trimmed-component (map (λ (p : Part). p .component) (take (m .count) (m .parts)))
 unfolding table-of trimmed trimmed-part
 components-trimmed m =
     let front = take (m .count) (m .parts) in
-    map-map (λ (p : Part). p .component) trimmed-part front ∙ sym (map-map trimmed-component (λ (p : Part). p .component) front)
+    map-map (λ (p : Part). p .component) trimmed-part front ∙
+    sym (map-map trimmed-component (λ (p : Part). p .component) front)
 
--- the direct sources of a trimmed model's components are those of its parts in use, since trimming a component changes none of them
+-- the direct sources of a trimmed model's components are those of its parts in use, since trimming a component
+-- changes none of them
 pub directs-trimmed :
-    (m : Model) (ds : List Direct) → take (m .count) ds ≡ map (λ (p : Part). direct-of (p .component)) (take (m .count) (m .parts)) →
+    (m : Model) (ds : List Direct) →
+    take (m .count) ds ≡ map (λ (p : Part). direct-of (p .component)) (take (m .count) (m .parts)) →
     map direct-of (table-of (trimmed m) .parts) ≡ take (m .count) ds
 unfolding direct-of trimmed-component
 directs-trimmed m ds e =

@@ -1,4 +1,5 @@
--- Soundness by one test of each part: what the code asks of a model, put together, is the machine's definition. Assumes nothing.
+-- Soundness by one test of each part: what the code asks of a model, put together, is the machine's definition.
+-- Assumes nothing.
 use Prim.Native.Nat.{ℕ, _*_, _≤_, _<_}
 use native.Mathlib.Omega.{arith}
 use mathlib.Core.Path.{_≡_, ap, sym, _∙_}
@@ -49,7 +50,13 @@ module _ (n g t : ℕ) (p : Part) where
   apart h =
       let r = ratio-of g (p .component .preference) in
       let (((component, ratio), period), state) = simp and-eq-true-iff at h in
-      record { component = component; ratio = ratio; period = period; state = state-by t r p (eqb-true (p .ratio) r ratio) ∙ state }
+      record {
+        component = component;
+        ratio = ratio;
+        period = period;
+        state =
+            state-by t r p (eqb-true (p .ratio) r ratio) ∙ state;
+      }
 
 -- what the machine asks of all parts of a model
 record AllTests (x : Model) : Type 0 where
@@ -105,17 +112,20 @@ module _ (x : Model) where
       record {
         components =
             every-map (component-fits n) component-of ps ∙
-            every-intro (λ (p : Part). component-fits n (p .component)) ps blank-part (λ i below. one i below .component);
+            every-intro (λ (p : Part). component-fits n (p .component)) ps blank-part
+            (λ i below. one i below .component);
         ratios =
             same-map (λ (p : Part). p .ratio) ratio-by component-of ps ∙
-            every-intro (λ (p : Part). eqb (p .ratio) (ratio-by (p .component))) ps blank-part (λ i below. one i below .ratio);
+            every-intro (λ (p : Part). eqb (p .ratio) (ratio-by (p .component))) ps blank-part
+            (λ i below. one i below .ratio);
         periods =
             every-map within component-of ps ∙
             every-intro (λ (p : Part). within (p .component)) ps blank-part (λ i below. one i below .period);
         states = every-intro (state-fits t) ps blank-part (λ i below. one i below .state);
       }
 
--- the tests of the code from the last to the first: the order of the parts, each part, the master's magnitude, the point
+-- the tests of the code from the last to the first: the order of the parts, each part, the master's magnitude, the
+-- point
 unfoldable pub order-holds : Model → Bool
 order-holds x = ordered (table-of x .parts) && same (x .order) (part-order (table-of x .parts))
 
@@ -129,7 +139,8 @@ unfoldable pub tests : ℕ → Model → Bool
 tests n x = in-time (x .point) && magnitude-holds n (magnitude-of (table-of x)) x
 
 -- each by the answer of its first test, and those behind it
-pub tests-by : (n : ℕ) (x : Model) (time : Bool) → time ≡ in-time (x .point) → tests n x ≡ (time && magnitude-holds n (magnitude-of (table-of x)) x)
+pub tests-by : (n : ℕ) (x : Model) (time : Bool) → time ≡ in-time (x .point) →
+    tests n x ≡ (time && magnitude-holds n (magnitude-of (table-of x)) x)
 unfolding tests
 tests-by n x time e = rw e
 
@@ -140,7 +151,8 @@ unfolding magnitude-holds
 magnitude-by n g x known master e = rw (e, ← master)
 
 pub parts-by :
-    (n g : ℕ) (x : Model) (fit : Bool) → fit ≡ every (part-fits n g (tick (x .point))) (x .parts) → parts-hold n g x ≡ (fit && order-holds x)
+    (n g : ℕ) (x : Model) (fit : Bool) → fit ≡ every (part-fits n g (tick (x .point))) (x .parts) →
+    parts-hold n g x ≡ (fit && order-holds x)
 unfolding parts-hold
 parts-by n g x fit e = rw e
 
@@ -152,17 +164,20 @@ pub failed : (all first others : Bool) → all ≡ (first && others) → first �
 failed all first others e h = sym (rw h at e)
 
 -- a model with as many parts as it says, and neither none nor too many, is sound where it passes them
-module _ (x : Model) (counted : x .count ≡ length (x .parts)) (some : 1 ≤ length (table-of x .parts)) (few : length (table-of x .parts) ≤ most-parts) where
+module _ (x : Model) (counted : x .count ≡ length (x .parts)) (some : 1 ≤ length (table-of x .parts))
+    (few : length (table-of x .parts) ≤ most-parts) where
   there : sound x ≡ true → tests (length (table-of x .parts)) x ≡ true
   unfolding sound table-fits tests magnitude-holds parts-hold order-holds
   there h =
-      let (((((c, (((((magnitude, s), f), components), periods), order)), r), same-order), time), states) = simp and-eq-true-iff at h in
+      let (((((c, (((((magnitude, s), f), components), periods), order)), r), same-order), time), states) =
+      simp and-eq-true-iff at h in
       let known = known-there (length (table-of x .parts)) (table-of x) magnitude components in
       let parts = parts-there x (record { components = components; ratios = r; periods = periods; states = states }) in
       simp and-eq-true-iff (time, (known, (parts, (order, same-order))))
 
   -- its table fits
-  table-back : magnitude-known (magnitude-of (table-of x)) ≡ true → AllTests x → ordered (table-of x .parts) ≡ true → table-fits (table-of x) ≡ true
+  table-back : magnitude-known (magnitude-of (table-of x)) ≡ true → AllTests x → ordered (table-of x .parts) ≡ true →
+      table-fits (table-of x) ≡ true
   unfolding table-fits
   table-back known f order =
       let magnitude = known-back (table-of x) known in
@@ -183,7 +198,8 @@ module _ (x : Model) (counted : x .count ≡ length (x .parts)) (some : 1 ≤ le
 
 -- of a trimmed model, in its own places
 pub sound-trimmed :
-    (m : Model) → 1 ≤ m .count → m .count ≤ 32 → m .count ≤ length (m .parts) → sound (trimmed m) ≡ tests (m .count) (trimmed m)
+    (m : Model) → 1 ≤ m .count → m .count ≤ most-parts → m .count ≤ length (m .parts) →
+    sound (trimmed m) ≡ tests (m .count) (trimmed m)
 unfolding trimmed
 sound-trimmed m some few room =
     let n = components-count m room in
@@ -198,7 +214,7 @@ unsound-none m none =
     let some = table-facts (table-of (trimmed m)) (sound-facts (trimmed m) h .table) .some in
     omega (arith, none, some, components-count m room))
 
-pub unsound-many : (m : Model) → 32 < m .count → length (m .parts) ≡ 32 → sound (trimmed m) ≡ false
+pub unsound-many : (m : Model) → most-parts < m .count → length (m .parts) ≡ most-parts → sound (trimmed m) ≡ false
 unfolding trimmed
 unsound-many m many full =
     refuted (sound (trimmed m))

@@ -15,7 +15,7 @@ use words_store::lookup::parts_of;
 ghost use mathlib.Core.Path.{_≡_};
 ghost use Prim.Native.Nat.{_≤_};
 ghost use Rattle.machine.specs.Lists.{every};
-ghost use Rattle.machine.specs.Model.{trimmed, trimmed-part};
+ghost use Rattle.machine.specs.Model.{most-parts, trimmed, trimmed-part};
 ghost use Rattle.machine.specs.Time.{last-magnitude};
 ghost use Rattle.words_store.specs.ModelIn.{WordsThere, model-in, part-count};
 ghost use Rattle.sound_test.specs.Parts.{part-fits, state-holds};
@@ -66,7 +66,7 @@ fn part_fits(p: Part, parts: usize, magnitude: u8, t: Ticks) -> bool
 // Whether every part may be one of the model's at tick `t`, by the master's magnitude.
 pub(crate) fn parts_fit_in(table: &[u64], state: &[u64], magnitude: u8, t: Ticks) -> bool
     requires { ⌜ WordsThere (now table) (now state) ⌝ }
-    requires { ⌜ part-count (now table) ≤ 32 ⌝ }
+    requires { ⌜ part-count (now table) ≤ most-parts ⌝ }
     requires { ⌜ magnitude ≤ last-magnitude ⌝ }
     ensures { λ r. ⌜ r ≡ every (part-fits (part-count (now (table .entry))) magnitude (t .0)) (trimmed (model-in (now (table .entry)) (now (state .entry))) .parts) ⌝ }
 {

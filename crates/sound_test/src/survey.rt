@@ -12,6 +12,7 @@ use words_store::lookup::ordered_part;
 use words_store::lookup::parts_of;
 ghost use Prim.Native.Nat.{_≤_};
 ghost use lib.ListN.{length};
+ghost use Rattle.machine.specs.Model.{most-parts};
 ghost use Rattle.words_store.specs.ModelIn.{part-count, table-words};
 ghost use Rattle.sound_test.specs.LentSurveyed.{LentSurveyed};
 
@@ -25,7 +26,7 @@ pub struct Survey {
 // The survey of a table: the largest of the default magnitude and the preferences of the parts, their direct sources,
 // and the part order that is given.
 pub(crate) fn surveyed_in(table: &[u64]) -> Survey
-    requires { ⌜ part-count (now table) ≤ 32 ⌝ }
+    requires { ⌜ part-count (now table) ≤ most-parts ⌝ }
     requires { ⌜ table-words (part-count (now table)) ≤ length (now table) ⌝ }
     ensures { λ r. ⌜ LentSurveyed (now (table .entry)) r ⌝ }
 {

@@ -1,11 +1,13 @@
 -- Clean words: what is in those free words that a call writes. The value's word of an absent signal is 0, and so is
 -- a span word after a part's count of spans. A state written from an old one is clean but for held signals whose two
 -- words were copied. Assumes nothing.
-use Prim.Native.Nat.{ℕ, _+_, _*_, _≤_, _<_}
+use Prim.Native.Nat.{ℕ, _+_, _≤_, _<_}
 use mathlib.Core.Path.{_≡_, _∙_}
 use mathlib.Core.Logic.{_⊎_, inl, inr}
 use mathlib.Core.List.{List}
 use Rattle.machine.specs.Model.{most-spans}
+use Rattle.words_store.specs.Layout.{in-table, in-state, span-count-field, spans-field, signal-field}
+use Rattle.words_store.specs.Layout.{signal-value-field, output-field, output-value-field}
 use Rattle.words_store.specs.ModelIn.{slot, state-words}
 
 -- a signal by the places of its two words: the value's word is 0 unless the code says that there is a value
@@ -14,10 +16,10 @@ CleanSignal ws code value = (slot ws code ≡ 1 → ⊥) → slot ws value ≡ 0
 
 -- the held signal of part j, and its stored output
 abbrev pub CleanHeld : List ℕ → ℕ → Type 0
-CleanHeld ss j = CleanSignal ss (9 * j + 5) (9 * j + 6)
+CleanHeld ss j = CleanSignal ss (in-state j signal-field) (in-state j signal-value-field)
 
 abbrev pub CleanOutput : List ℕ → ℕ → Type 0
-CleanOutput ss j = CleanSignal ss (9 * j + 7) (9 * j + 8)
+CleanOutput ss j = CleanSignal ss (in-state j output-field) (in-state j output-value-field)
 
 -- a state of n parts
 pub record CleanState (n : ℕ) (ss : List ℕ) : Type 0 where
@@ -26,7 +28,8 @@ pub record CleanState (n : ℕ) (ss : List ℕ) : Type 0 where
 
 -- the span words of part j after its count of spans
 abbrev pub CleanSpans : List ℕ → ℕ → Type 0
-CleanSpans ts j = (x : ℕ) → slot ts (18 * j + 7) ≤ x → x < most-spans → slot ts (18 * j + 8 + x) ≡ 0
+CleanSpans ts j = (x : ℕ) → slot ts (in-table j span-count-field) ≤ x → x < most-spans →
+    slot ts (in-table j spans-field + x) ≡ 0
 
 -- a table and a state of n parts
 pub record CleanWords (n : ℕ) (ts ss : List ℕ) : Type 0 where
@@ -39,12 +42,13 @@ CleanOrKept a b code value = CleanSignal b code value ⊎ ((slot b code ≡ slot
 
 -- so are both signals of part j
 abbrev pub SignalsKept : List ℕ → List ℕ → ℕ → Type 0
-SignalsKept a b j = CleanOrKept a b (9 * j + 5) (9 * j + 6) × CleanOrKept a b (9 * j + 7) (9 * j + 8)
+SignalsKept a b j = CleanOrKept a b (in-state j signal-field) (in-state j signal-value-field) ×
+    CleanOrKept a b (in-state j output-field) (in-state j output-value-field)
 
 -- a state b of n parts after a step from the state a: each output is clean, and each held signal is or has its words
 -- from a
 pub record CleanAfter (n : ℕ) (a b : List ℕ) : Type 0 where
-  pub signals : (j : ℕ) → j < n → CleanOrKept a b (9 * j + 5) (9 * j + 6)
+  pub signals : (j : ℕ) → j < n → CleanOrKept a b (in-state j signal-field) (in-state j signal-value-field)
   pub outputs : (j : ℕ) → j < n → CleanOutput b j
 
 -- a state b of n parts has the words of the state a
@@ -65,29 +69,33 @@ kept-through a b c code value (inr (same, word)) (inr (same′, word′)) = inr 
 
 pub signals-through : (a b c : List ℕ) (j : ℕ) → SignalsKept a b j → SignalsKept b c j → SignalsKept a c j
 signals-through a b c j first second = (
-  kept-through a b c (9 * j + 5) (9 * j + 6) (first .0) (second .0),
-  kept-through a b c (9 * j + 7) (9 * j + 8) (first .1) (second .1),
+  kept-through a b c (in-state j signal-field) (in-state j signal-value-field) (first .0) (second .0),
+  kept-through a b c (in-state j output-field) (in-state j output-value-field) (first .1) (second .1),
 )
 
 -- a state after a step is one of the state before it, and stays so while its signals are clean or kept
 pub after-kept : (n : ℕ) (a b c : List ℕ) → ((j : ℕ) → j < n → SignalsKept a b j) → CleanAfter n b c → CleanAfter n a c
 after-kept n a b c kept after =
     record {
-      signals = λ j low. kept-through a b c (9 * j + 5) (9 * j + 6) (kept j low .0) (after .signals j low);
+      signals = λ j low. kept-through a b c (in-state j signal-field) (in-state j signal-value-field) (kept j low .0)
+          (after .signals j low);
       outputs = after .outputs;
     }
 
 pub kept-after : (n : ℕ) (a b c : List ℕ) → CleanAfter n a b → ((j : ℕ) → j < n → SignalsKept b c j) → CleanAfter n a c
 kept-after n a b c after kept =
     record {
-      signals = λ j low. kept-through a b c (9 * j + 5) (9 * j + 6) (after .signals j low) (kept j low .0);
-      outputs = λ j low. clean-kept b c (9 * j + 7) (9 * j + 8) (after .outputs j low) (kept j low .1);
+      signals = λ j low. kept-through a b c (in-state j signal-field) (in-state j signal-value-field)
+          (after .signals j low) (kept j low .0);
+      outputs = λ j low. clean-kept b c (in-state j output-field) (in-state j output-value-field) (after .outputs j low)
+          (kept j low .1);
     }
 
 -- so the state after a step from a clean state is clean
 pub clean-after : (n : ℕ) (a b : List ℕ) → CleanState n a → CleanAfter n a b → CleanState n b
 clean-after n a b before after =
     record {
-      signals = λ j low. clean-kept a b (9 * j + 5) (9 * j + 6) (before .signals j low) (after .signals j low);
+      signals = λ j low. clean-kept a b (in-state j signal-field) (in-state j signal-value-field)
+          (before .signals j low) (after .signals j low);
       outputs = after .outputs;
     }

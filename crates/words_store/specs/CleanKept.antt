@@ -1,6 +1,6 @@
 -- Writing the numbers, the output or the state of a part, or the point, leaves every signal clean or as it was; copying
 -- a state leaves the signals of the state that is copied. Assumes nothing.
-use Prim.Native.Nat.{ℕ, _+_, _*_, _≤_, _<_}
+use Prim.Native.Nat.{ℕ, _+_, _≤_, _<_}
 use native.Mathlib.Omega.{arith}
 use mathlib.Core.Path.{_≡_, sym, subst}
 use mathlib.Core.Bool.{true, false}
@@ -13,6 +13,8 @@ use Rattle.machine.specs.declared.time.Point.{Point}
 use Rattle.machine.specs.declared.signal.Signal.{Signal}
 use Rattle.machine.specs.declared.part.State.{State}
 use Rattle.laws.specs.Bools.{either}
+use Rattle.words_store.specs.Layout.{in-state, signal-field, signal-value-field, output-field}
+use Rattle.words_store.specs.Layout.{output-value-field}
 use Rattle.words_store.specs.ModelIn.{slot, state-words}
 use Rattle.words_store.specs.Clean.{SignalsKept}
 use Rattle.words_store.specs.Updated.{StatePut, PointPut, Copied}
@@ -24,8 +26,14 @@ use Rattle.words_store.specs.Shown.{OutputPut, output-outside}
 all-kept : (a b : List ℕ) (j : ℕ) →
     ((x : ℕ) → state-words j ≤ x → x < state-words (j + 1) → slot b x ≡ slot a x) → SignalsKept a b j
 all-kept a b j same = (
-  inr (same (9 * j + 5) (omega arith) (omega arith), same (9 * j + 6) (omega arith) (omega arith)),
-  inr (same (9 * j + 7) (omega arith) (omega arith), same (9 * j + 8) (omega arith) (omega arith)),
+  inr (
+    same (in-state j signal-field) (omega arith) (omega arith),
+    same (in-state j signal-value-field) (omega arith) (omega arith),
+  ),
+  inr (
+    same (in-state j output-field) (omega arith) (omega arith),
+    same (in-state j output-value-field) (omega arith) (omega arith),
+  ),
 )
 
 -- where every word outside part i's record is kept, the signals of all parts are clean or kept where those of part i
@@ -42,14 +50,25 @@ pub kept-numbered : (a b : List ℕ) (i local : ℕ) (held speed : ℤ) → Numb
     SignalsKept a b j
 kept-numbered a b i local held speed put =
     kept-outside a b i (numbers-outside i local held speed a b put) (
-      inr (put .others (9 * i + 5) (inr (omega arith)), put .others (9 * i + 6) (inr (omega arith))),
-      inr (put .others (9 * i + 7) (inr (omega arith)), put .others (9 * i + 8) (inr (omega arith))),
+      inr (
+        put .others (in-state i signal-field) (inr (omega arith)),
+        put .others (in-state i signal-value-field) (inr (omega arith)),
+      ),
+      inr (
+        put .others (in-state i output-field) (inr (omega arith)),
+        put .others (in-state i output-value-field) (inr (omega arith)),
+      ),
     )
 
 pub kept-shown : (a b : List ℕ) (i : ℕ) (out : Signal) → OutputPut i out a b → (j : ℕ) → SignalsKept a b j
 kept-shown a b i out put =
-    kept-outside a b i (output-outside a b i out put)
-    (inr (put .others (9 * i + 5) (inl (omega arith)), put .others (9 * i + 6) (inl (omega arith))), inl (put .clean))
+    kept-outside a b i (output-outside a b i out put) (
+      inr (
+        put .others (in-state i signal-field) (inl (omega arith)),
+        put .others (in-state i signal-value-field) (inl (omega arith)),
+      ),
+      inl (put .clean),
+    )
 
 pub kept-put : (a b : List ℕ) (i : ℕ) (s : State) → StatePut i s a b → (j : ℕ) → SignalsKept a b j
 kept-put a b i s put = kept-outside a b i (put .others) (inl (put .held-clean), inl (put .output-clean))

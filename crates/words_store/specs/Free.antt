@@ -2,7 +2,7 @@
 -- spans, and the value's word of an absent signal. Shown: words that differ in free places alone mean the same trimmed
 -- model and are spelled alike. The idea: no place that is read and kept by trimming is free, so that each field is read
 -- from the same words. Assumes nothing.
-use Prim.Native.Nat.{ℕ, zero, suc, _+_, _-_, _*_, _%_, _≤_, _<_}
+use Prim.Native.Nat.{ℕ, zero, suc, _+_, _-_, _%_, _≤_, _<_}
 use native.Mathlib.Omega.{arith}
 use mathlib.Core.Path.{_≡_, refl, sym, ap, ap₂, _∙_}
 use mathlib.Core.Bool.{Bool, true, false, _&&_}
@@ -23,9 +23,16 @@ use Rattle.laws.specs.ListLaws.{take-same}
 use Rattle.words_codec.specs.Words.{tabulate}
 use Rattle.words_codec.specs.Tables.{length-table, table-at, table-same, map-table}
 use Rattle.words_codec.specs.Decoded.{decode-signal}
+use Rattle.words_store.specs.Layout.{in-table, in-state, preference-field, a-field, b-field, p-field}
+use Rattle.words_store.specs.Layout.{span-count-field, spans-field, port0-field, port1-field, ratio-field}
+use Rattle.words_store.specs.Layout.{order-field, kind-field, local-field, held-field, speed-field}
+use Rattle.words_store.specs.Layout.{signal-field, signal-value-field, output-field, output-value-field}
+use Rattle.words_store.specs.Layout.{side-field, mark-field}
 use Rattle.words_store.specs.ModelIn.{slot, part-count, table-words, state-words, stored-spans, stored-component}
-use Rattle.words_store.specs.ModelIn.{stored-ratio, ordered-part, stored-state, stored-part, stored-point, model-in}
-use Rattle.words_store.specs.Form.{any-word, any-32, operand-limits, spans-used, span-limits, wire-limits, state-limits}
+use Rattle.words_store.specs.ModelIn.{stored-ratio, ordered-part, stored-state, stored-part, stored-point}
+use Rattle.words_store.specs.ModelIn.{model-in}
+use Rattle.words_store.specs.Form.{any-word, any-32, operand-limits, spans-used, span-limits, wire-limits}
+use Rattle.words_store.specs.Form.{state-limits}
 use Rattle.words_store.specs.Form.{words-within, component-spelled, part-spelled, parts-spelled, spelled}
 use Rattle.words_store.specs.Updated.{state-spelled, within-same}
 
@@ -34,15 +41,16 @@ use Rattle.words_store.specs.Updated.{state-spelled, within-same}
 abbrev pub FreeInTable : List ℕ → ℕ → Type 0
 FreeInTable ts x =
     (table-words (part-count ts) ≤ x) ⊎
-    ((j : ℕ) × (s : ℕ) × (slot ts (18 * j + 7) ≤ s) × (s < most-spans) × (x ≡ 18 * j + 8 + s))
+    ((j : ℕ) × (s : ℕ) × (slot ts (in-table j span-count-field) ≤ s) × (s < most-spans) ×
+    (x ≡ in-table j spans-field + s))
 
 -- a place x of a state of n parts is free: it is after the model's words, or that of the value of a held signal or of
 -- an output that is absent
 abbrev pub FreeInState : ℕ → List ℕ → ℕ → Type 0
 FreeInState n ss x =
     (state-words n ≤ x) ⊎
-    (((j : ℕ) × (slot ss (9 * j + 5) ≡ 1 → ⊥) × (x ≡ 9 * j + 6)) ⊎
-    ((j : ℕ) × (slot ss (9 * j + 7) ≡ 1 → ⊥) × (x ≡ 9 * j + 8)))
+    (((j : ℕ) × (slot ss (in-state j signal-field) ≡ 1 → ⊥) × (x ≡ in-state j signal-value-field)) ⊎
+    ((j : ℕ) × (slot ss (in-state j output-field) ≡ 1 → ⊥) × (x ≡ in-state j output-value-field)))
 
 -- the words us and vs are as many as ts and ss and agree with them but in free places
 pub record SameButFree (ts us ss vs : List ℕ) : Type 0 where
@@ -101,87 +109,98 @@ module _ (ts us ss vs : List ℕ) (same : SameButFree ts us ss vs) where
       bound (inr (inr (j, absent, e))) = omega arith
 
   -- the operands and the wires of a part, and its spans that are in use
-  operands : (j : ℕ) → j < part-count ts → (x : ℕ) → 18 * j + 2 ≤ x → x < 18 * j + 8 → slot us x ≡ slot ts x
+  operands : (j : ℕ) → j < part-count ts → (x : ℕ) → in-table j kind-field ≤ x → x < in-table j spans-field →
+      slot us x ≡ slot ts x
   operands j low x from to = same .table x (λ free. bound free)
     where
       bound : FreeInTable ts x → ⊥
       bound (inl far) = omega arith
       bound (inr (k, s, count, few, e)) = omega arith
 
-  wires : (j : ℕ) → j < part-count ts → (x : ℕ) → 18 * j + 16 ≤ x → x < 18 * j + 20 → slot us x ≡ slot ts x
+  wires : (j : ℕ) → j < part-count ts → (x : ℕ) → in-table j port0-field ≤ x → x < table-words (j + 1) →
+      slot us x ≡ slot ts x
   wires j low x from to = same .table x (λ free. bound free)
     where
       bound : FreeInTable ts x → ⊥
       bound (inl far) = omega arith
       bound (inr (k, s, count, few, e)) = omega arith
 
-  spans : (j : ℕ) → j < part-count ts → (s : ℕ) → s < slot ts (18 * j + 7) → s < most-spans →
-      slot us (18 * j + 8 + s) ≡ slot ts (18 * j + 8 + s)
-  spans j low s used inside = same .table (18 * j + 8 + s) (λ free. bound free)
+  spans : (j : ℕ) → j < part-count ts → (s : ℕ) → s < slot ts (in-table j span-count-field) → s < most-spans →
+      slot us (in-table j spans-field + s) ≡ slot ts (in-table j spans-field + s)
+  spans j low s used inside = same .table (in-table j spans-field + s) (λ free. bound free)
     where
-      bound : FreeInTable ts (18 * j + 8 + s) → ⊥
+      bound : FreeInTable ts (in-table j spans-field + s) → ⊥
       bound (inl far) = omega arith
       bound (inr (k, z, count, few, e)) =
           let part : k ≡ j = omega arith in
-          let fewer : slot ts (18 * j + 7) ≤ z = rw part at count in
+          let fewer : slot ts (in-table j span-count-field) ≤ z = rw part at count in
           omega arith
 
   -- the words of a state but the two values', and these where there is a value
-  plain : (j x : ℕ) → j < part-count ts → 9 * j + 2 ≤ x → x < 9 * j + 11 → (x ≡ 9 * j + 6 → ⊥) →
-      (x ≡ 9 * j + 8 → ⊥) → slot vs x ≡ slot ss x
-  plain j x low from to model-in output = same .state x (λ free. bound free)
+  plain : (j x : ℕ) → j < part-count ts → in-state j local-field ≤ x → x < state-words (j + 1) →
+      (x ≡ in-state j signal-value-field → ⊥) →
+      (x ≡ in-state j output-value-field → ⊥) → slot vs x ≡ slot ss x
+  plain j x low from to held output = same .state x (λ free. bound free)
     where
       bound : FreeInState (part-count ts) ss x → ⊥
       bound (inl far) = omega arith
-      bound (inr (inl (k, absent, e))) = model-in (omega arith)
+      bound (inr (inl (k, absent, e))) = held (omega arith)
       bound (inr (inr (k, absent, e))) = output (omega arith)
 
-  held-value : (j : ℕ) → j < part-count ts → slot ss (9 * j + 5) ≡ 1 → slot vs (9 * j + 6) ≡ slot ss (9 * j + 6)
-  held-value j low present = same .state (9 * j + 6) (λ free. bound free)
+  held-value : (j : ℕ) → j < part-count ts → slot ss (in-state j signal-field) ≡ 1 →
+      slot vs (in-state j signal-value-field) ≡ slot ss (in-state j signal-value-field)
+  held-value j low present = same .state (in-state j signal-value-field) (λ free. bound free)
     where
-      bound : FreeInState (part-count ts) ss (9 * j + 6) → ⊥
+      bound : FreeInState (part-count ts) ss (in-state j signal-value-field) → ⊥
       bound (inl far) = omega arith
       bound (inr (inl (k, absent, e))) =
           let part : k ≡ j = omega arith in
-          absent (ap (λ (z : ℕ). slot ss (9 * z + 5)) part ∙ present)
+          absent (ap (λ (z : ℕ). slot ss (in-state z signal-field)) part ∙ present)
       bound (inr (inr (k, absent, e))) = omega arith
 
-  output-value : (j : ℕ) → j < part-count ts → slot ss (9 * j + 7) ≡ 1 → slot vs (9 * j + 8) ≡ slot ss (9 * j + 8)
-  output-value j low present = same .state (9 * j + 8) (λ free. bound free)
+  output-value : (j : ℕ) → j < part-count ts → slot ss (in-state j output-field) ≡ 1 →
+      slot vs (in-state j output-value-field) ≡ slot ss (in-state j output-value-field)
+  output-value j low present = same .state (in-state j output-value-field) (λ free. bound free)
     where
-      bound : FreeInState (part-count ts) ss (9 * j + 8) → ⊥
+      bound : FreeInState (part-count ts) ss (in-state j output-value-field) → ⊥
       bound (inl far) = omega arith
       bound (inr (inl (k, absent, e))) = omega arith
       bound (inr (inr (k, absent, e))) =
           let part : k ≡ j = omega arith in
-          absent (ap (λ (z : ℕ). slot ss (9 * z + 7)) part ∙ present)
+          absent (ap (λ (z : ℕ). slot ss (in-state z output-field)) part ∙ present)
 
   -- so each part is the same trimmed
   state-meant : (j : ℕ) → j < part-count ts → stored-state vs j ≡ stored-state ss j
   unfolding stored-state
   state-meant j low =
-      let at : (x : ℕ) → 9 * j + 2 ≤ x → x < 9 * j + 11 → (x ≡ 9 * j + 6 → ⊥) → (x ≡ 9 * j + 8 → ⊥) → slot vs x ≡
+      let at : (x : ℕ) → in-state j local-field ≤ x → x < state-words (j + 1) →
+      (x ≡ in-state j signal-value-field → ⊥) → (x ≡ in-state j output-value-field → ⊥) → slot vs x ≡
       slot ss x = λ x. plain j x low in
       rw (
-        at (9 * j + 2) (omega arith) (omega arith) (λ e. omega arith) (λ e. omega arith),
-        at (9 * j + 3) (omega arith) (omega arith) (λ e. omega arith) (λ e. omega arith),
-        at (9 * j + 4) (omega arith) (omega arith) (λ e. omega arith) (λ e. omega arith),
-        signal-same (slot ss (9 * j + 5)) (slot vs (9 * j + 5)) (slot ss (9 * j + 6)) (slot vs (9 * j + 6))
-            (at (9 * j + 5) (omega arith) (omega arith) (λ e. omega arith) (λ e. omega arith)) (held-value j low),
-        signal-same (slot ss (9 * j + 7)) (slot vs (9 * j + 7)) (slot ss (9 * j + 8)) (slot vs (9 * j + 8))
-            (at (9 * j + 7) (omega arith) (omega arith) (λ e. omega arith) (λ e. omega arith)) (output-value j low),
-        at (9 * j + 9) (omega arith) (omega arith) (λ e. omega arith) (λ e. omega arith),
-        at (9 * j + 10) (omega arith) (omega arith) (λ e. omega arith) (λ e. omega arith),
+        at (in-state j local-field) (omega arith) (omega arith) (λ e. omega arith) (λ e. omega arith),
+        at (in-state j held-field) (omega arith) (omega arith) (λ e. omega arith) (λ e. omega arith),
+        at (in-state j speed-field) (omega arith) (omega arith) (λ e. omega arith) (λ e. omega arith),
+        signal-same (slot ss (in-state j signal-field)) (slot vs (in-state j signal-field))
+            (slot ss (in-state j signal-value-field)) (slot vs (in-state j signal-value-field))
+            (at (in-state j signal-field) (omega arith) (omega arith) (λ e. omega arith) (λ e. omega arith))
+            (held-value j low),
+        signal-same (slot ss (in-state j output-field)) (slot vs (in-state j output-field))
+            (slot ss (in-state j output-value-field)) (slot vs (in-state j output-value-field))
+            (at (in-state j output-field) (omega arith) (omega arith) (λ e. omega arith) (λ e. omega arith))
+            (output-value j low),
+        at (in-state j side-field) (omega arith) (omega arith) (λ e. omega arith) (λ e. omega arith),
+        at (in-state j mark-field) (omega arith) (omega arith) (λ e. omega arith) (λ e. omega arith),
       )
       refl
 
-  spans-meant : (j : ℕ) → j < part-count ts → take (slot ts (18 * j + 7)) (stored-spans us j) ≡
-      take (slot ts (18 * j + 7)) (stored-spans ts j)
+  spans-meant : (j : ℕ) → j < part-count ts → take (slot ts (in-table j span-count-field)) (stored-spans us j) ≡
+      take (slot ts (in-table j span-count-field)) (stored-spans ts j)
   unfolding stored-spans
   spans-meant j low =
-      let f : ℕ → ℕ = λ (s : ℕ). slot us (18 * j + 8 + s) % 4294967296 in
-      let g : ℕ → ℕ = λ (s : ℕ). slot ts (18 * j + 8 + s) % 4294967296 in
-      take-same (slot ts (18 * j + 7)) (tabulate f 8) (tabulate g 8) (length-table f 8 ∙ sym (length-table g 8))
+      let f : ℕ → ℕ = λ (s : ℕ). slot us (in-table j spans-field + s) % 4294967296 in
+      let g : ℕ → ℕ = λ (s : ℕ). slot ts (in-table j spans-field + s) % 4294967296 in
+      take-same (slot ts (in-table j span-count-field)) (tabulate f 8) (tabulate g 8)
+      (length-table f 8 ∙ sym (length-table g 8))
       (λ s used inside.
       let few : s < 8 = omega (arith, length-table g 8) in
       table-at f 8 s 0 few ∙ ap (λ (w : ℕ). w % 4294967296) (spans j low s used few) ∙ sym (table-at g 8 s 0 few))
@@ -191,22 +210,22 @@ module _ (ts us ss vs : List ℕ) (same : SameButFree ts us ss vs) where
   unfolding trimmed-component stored-component
   component-meant j low =
       rw (
-        operands j low (18 * j + 2) (omega arith) (omega arith),
-        operands j low (18 * j + 3) (omega arith) (omega arith),
-        operands j low (18 * j + 4) (omega arith) (omega arith),
-        operands j low (18 * j + 5) (omega arith) (omega arith),
-        operands j low (18 * j + 6) (omega arith) (omega arith),
-        operands j low (18 * j + 7) (omega arith) (omega arith),
+        operands j low (in-table j kind-field) (omega arith) (omega arith),
+        operands j low (in-table j preference-field) (omega arith) (omega arith),
+        operands j low (in-table j a-field) (omega arith) (omega arith),
+        operands j low (in-table j b-field) (omega arith) (omega arith),
+        operands j low (in-table j p-field) (omega arith) (omega arith),
+        operands j low (in-table j span-count-field) (omega arith) (omega arith),
         spans-meant j low,
-        wires j low (18 * j + 16) (omega arith) (omega arith),
-        wires j low (18 * j + 17) (omega arith) (omega arith),
+        wires j low (in-table j port0-field) (omega arith) (omega arith),
+        wires j low (in-table j port1-field) (omega arith) (omega arith),
       )
       refl
 
   part-meant : (j : ℕ) → j < part-count ts → trimmed-part (stored-part us vs j) ≡ trimmed-part (stored-part ts ss j)
   unfolding trimmed-part stored-part stored-ratio
   part-meant j low = rw
-      (component-meant j low, wires j low (18 * j + 18) (omega arith) (omega arith), state-meant j low) refl
+      (component-meant j low, wires j low (in-table j ratio-field) (omega arith) (omega arith), state-meant j low) refl
 
   -- and so is the model
   parts-meant :
@@ -224,8 +243,9 @@ module _ (ts us ss vs : List ℕ) (same : SameButFree ts us ss vs) where
   order-meant : tabulate (ordered-part us) (part-count ts) ≡ tabulate (ordered-part ts) (part-count ts)
   unfolding ordered-part
   order-meant =
-      table-same (λ (j : ℕ). slot us (18 * j + 19) % 65536) (λ (j : ℕ). slot ts (18 * j + 19) % 65536) (part-count ts)
-      (λ j low. ap (λ (w : ℕ). w % 65536) (wires j low (18 * j + 19) (omega arith) (omega arith)))
+      table-same (λ (j : ℕ). slot us (in-table j order-field) % 65536)
+      (λ (j : ℕ). slot ts (in-table j order-field) % 65536) (part-count ts)
+      (λ j low. ap (λ (w : ℕ). w % 65536) (wires j low (in-table j order-field) (omega arith) (omega arith)))
 
   pub same-meant : trimmed (model-in us vs) ≡ trimmed (model-in ts ss)
   unfolding trimmed model-in stored-point
@@ -242,39 +262,40 @@ module _ (ts us ss vs : List ℕ) (same : SameButFree ts us ss vs) where
   component-alike : (j : ℕ) → j < part-count ts → component-spelled us j ≡ component-spelled ts j
   unfolding component-spelled
   component-alike j low =
-      let count = slot ts (18 * j + 7) in
-      let span-at : (x : ℕ) → 18 * j + 8 ≤ x → x < 18 * j + 8 + length (span-limits count) → slot us x ≡ slot ts x =
+      let count = slot ts (in-table j span-count-field) in
+      let span-at : (x : ℕ) → in-table j spans-field ≤ x → x < in-table j spans-field + length (span-limits count) →
+      slot us x ≡ slot ts x =
       λ x from to.
       let within = length-replicate (spans-used count) any-32 in
-      let s : ℕ = x - (18 * j + 8) in
-      let place : x ≡ 18 * j + 8 + s = omega arith in
+      let s : ℕ = x - (in-table j spans-field) in
+      let place : x ≡ in-table j spans-field + s = omega arith in
       let word = spans j low s (omega arith) (omega arith) in
       ap (slot us) place ∙ word ∙ ap (slot ts) (sym place) in
       ap₂ _&&_
-      (ap₂ _&&_ (within-same ts us (18 * j + 2) operand-limits (λ x from to. operands j low x from (omega arith)))
-      (ap (λ (n : ℕ). words-within us (18 * j + 8) (span-limits n))
-      (operands j low (18 * j + 7) (omega arith) (omega arith)) ∙
-      within-same ts us (18 * j + 8) (span-limits count) span-at))
-      (within-same ts us (18 * j + 16) wire-limits (λ x from to. wires j low x from (omega arith)))
+      (ap₂ _&&_ (within-same ts us (table-words j) operand-limits (λ x from to. operands j low x from (omega arith)))
+      (ap (λ (n : ℕ). words-within us (in-table j spans-field) (span-limits n))
+      (operands j low (in-table j span-count-field) (omega arith) (omega arith)) ∙
+      within-same ts us (in-table j spans-field) (span-limits count) span-at))
+      (within-same ts us (in-table j port0-field) wire-limits (λ x from to. wires j low x from (omega arith)))
 
   module _ (small : (x : ℕ) → slot ss x ≤ any-word) (small′ : (x : ℕ) → slot vs x ≤ any-word) where
     state-alike : (j : ℕ) → j < part-count ts → state-spelled vs j ≡ state-spelled ss j
-    state-alike j low = within-alike ss vs (9 * j + 2) state-limits
+    state-alike j low = within-alike ss vs (state-words j) state-limits
         (λ n few. cases n few (either (eqb n 4)) (either (eqb n 6)))
       where
         free : (x : ℕ) → leb (slot vs x) any-word ≡ leb (slot ss x) any-word
         free x = le-leb (slot vs x) any-word (small′ x) ∙ sym (le-leb (slot ss x) any-word (small x))
 
         cases : (n : ℕ) → n < 9 → (eqb n 4 ≡ true) ⊎ (eqb n 4 ≡ false) → (eqb n 6 ≡ true) ⊎ (eqb n 6 ≡ false) →
-            leb (slot vs (9 * j + 2 + n)) (getD state-limits n 0) ≡
-            leb (slot ss (9 * j + 2 + n)) (getD state-limits n 0)
-        cases n few (inl e) other = rw (eqb-true n 4 e) (free (9 * j + 2 + 4))
-        cases n few (inr e) (inl f) = rw (eqb-true n 6 f) (free (9 * j + 2 + 6))
+            leb (slot vs (state-words j + n)) (getD state-limits n 0) ≡
+            leb (slot ss (state-words j + n)) (getD state-limits n 0)
+        cases n few (inl e) other = rw (eqb-true n 4 e) (free (state-words j + 4))
+        cases n few (inr e) (inl f) = rw (eqb-true n 6 f) (free (state-words j + 6))
         cases n few (inr e) (inr f) =
             let held = eqb-false n 4 e in
             let output = eqb-false n 6 f in
             ap (λ (w : ℕ). leb w (getD state-limits n 0))
-            (plain j (9 * j + 2 + n) low (omega arith) (omega arith) (λ g. model-in (omega arith))
+            (plain j (state-words j + n) low (omega arith) (omega arith) (λ g. held (omega arith))
             (λ g. output (omega arith)))
 
     -- so the words are

@@ -1,5 +1,6 @@
 -- What words mean, whether they spell a model, which of them are free, and what writing a part's state into them
 -- changes.
+pub mod Layout
 pub mod ModelIn
 pub mod Form
 pub mod Clean

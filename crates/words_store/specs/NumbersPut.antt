@@ -1,8 +1,8 @@
--- What writing the local count, the held number and the speed of a part changes of the words: its other words and those of the other parts are kept.
--- Assumes nothing.
+-- What writing the local count, the held number and the speed of a part changes of the words: its other words and
+-- those of the other parts are kept. Assumes nothing.
 use Prim.Native.Nat.{ℕ, zero, suc, _+_, _*_, _≤_, _<_}
 use native.Mathlib.Omega.{arith}
-use mathlib.Core.Path.{_≡_, refl, ap, _∙_}
+use mathlib.Core.Path.{_≡_, refl, sym, subst, ap, _∙_}
 use mathlib.Core.Bool.{true}
 use mathlib.Core.Logic.{inl, inr}
 use mathlib.Core.List.{List, [], _∷_}
@@ -10,6 +10,9 @@ use lib.ListN.{length, getD}
 use lib.IntN.{ℤ}
 use Rattle.machine.specs.declared.part.State.{State}
 use Rattle.words_codec.specs.Words.{decode-signed}
+use Rattle.words_store.specs.Layout.{header, state-record, in-state, local-field, signal-field}
+use Rattle.words_store.specs.Layout.{signal-value-field, output-field, output-value-field, side-field}
+use Rattle.words_store.specs.Layout.{mark-field}
 use Rattle.words_store.specs.ModelIn.{slot, state-words, stored-state, stored-point}
 use Rattle.words_store.specs.Form.{any-word, state-limits}
 use Rattle.words_store.specs.WordsWritten.{Outside, written, length-written, written-at, written-outside}
@@ -30,13 +33,13 @@ state-numbered s local held speed =
       mark = s .mark;
     }
 
--- the words b are the words a with the three numbers of part i written anew: they are read back with the rest of the state as before, from words that are
--- within their limits where they were so, and every word but their three is kept
+-- the words b are the words a with the three numbers of part i written anew: they are read back with the rest of the
+-- state as before, from words that are within their limits where they were so, and every word but their three is kept
 pub record NumbersPut (i local : ℕ) (held speed : ℤ) (a b : List ℕ) : Type 0 where
   pub size : length b ≡ length a
   pub is : stored-state b i ≡ state-numbered (stored-state a i) local held speed
   pub form : state-spelled a i ≡ true → state-spelled b i ≡ true
-  pub others : (x : ℕ) → Outside (9 * i + 2) (9 * i + 5) x → slot b x ≡ slot a x
+  pub others : (x : ℕ) → Outside (in-state i local-field) (in-state i signal-field) x → slot b x ≡ slot a x
 
 -- three words that are read back as the numbers, written at the front of a record
 module _
@@ -50,58 +53,65 @@ module _
 
   -- the words with them
   abbrev after : List ℕ
-  after = written a (9 * i) 2 three
+  after = written a (state-record * i) header three
 
   -- they stand at their places, and every other word is kept
-  place : (n : ℕ) → n < 3 → slot after (9 * i + (2 + n)) ≡ getD three n 0
-  place n low = written-at a (9 * i) 2 n three low (omega arith)
+  place : (n : ℕ) → n < 3 → slot after (in-state i (header + n)) ≡ getD three n 0
+  place n low = written-at a (state-record * i) header n three low (omega arith)
 
-  other : (x : ℕ) → Outside (9 * i + 2) (9 * i + 5) x → slot after x ≡ slot a x
-  other x (inl low) = written-outside a (9 * i) 2 x three (inl low)
-  other x (inr high) = written-outside a (9 * i) 2 x three (inr (omega arith))
+  other : (x : ℕ) → Outside (in-state i local-field) (in-state i signal-field) x → slot after x ≡ slot a x
+  other x (inl low) = written-outside a (state-record * i) header x three (inl low)
+  other x (inr high) = written-outside a (state-record * i) header x three (inr (omega arith))
 
   -- they are within their limits, and the others of the record are so where they were before
   limits :
       local ≤ any-word → held-word ≤ any-word → speed-word ≤ any-word → state-spelled a i ≡ true →
-      (n : ℕ) → n < 9 → slot after (9 * i + 2 + n) ≤ getD state-limits n 0
+      (n : ℕ) → n < 9 → slot after (state-words i + n) ≤ getD state-limits n 0
   limits fits0 fits1 fits2 form zero low =
-      let same : 9 * i + 2 + 0 ≡ 9 * i + (2 + 0) = omega arith in
+      let same : state-words i + 0 ≡ in-state i (header + 0) = omega arith in
       rw (ap (slot after) same ∙ place 0 (omega arith)) fits0
   limits fits0 fits1 fits2 form (suc zero) low =
-      let same : 9 * i + 2 + 1 ≡ 9 * i + (2 + 1) = omega arith in
+      let same : state-words i + 1 ≡ in-state i (header + 1) = omega arith in
       rw (ap (slot after) same ∙ place 1 (omega arith)) fits1
   limits fits0 fits1 fits2 form (suc (suc zero)) low =
-      let same : 9 * i + 2 + 2 ≡ 9 * i + (2 + 2) = omega arith in
+      let same : state-words i + 2 ≡ in-state i (header + 2) = omega arith in
       rw (ap (slot after) same ∙ place 2 (omega arith)) fits2
   limits fits0 fits1 fits2 form (suc (suc (suc n))) low =
-      rw (other (9 * i + 2 + suc (suc (suc n))) (inr (omega arith))) (within-one a (9 * i + 2) state-limits form (suc (suc (suc n))) low)
+      rw (other (state-words i + suc (suc (suc n))) (inr (omega arith)))
+      (within-one a (state-words i) state-limits form (suc (suc (suc n))) low)
 
   -- so the numbers are written anew
-  pub three-put :
-      decode-signed held-word ≡ held → decode-signed speed-word ≡ speed → local ≤ any-word → held-word ≤ any-word → speed-word ≤ any-word →
-      NumbersPut i local held speed a after
+  three-written :
+      decode-signed held-word ≡ held → decode-signed speed-word ≡ speed → local ≤ any-word → held-word ≤ any-word →
+      speed-word ≤ any-word → NumbersPut i local held speed a after
   unfolding stored-state
-  three-put e1 e2 fits0 fits1 fits2 =
+  three-written e1 e2 fits0 fits1 fits2 =
       record {
-        size = length-written a (9 * i) 2 three;
+        size = length-written a (state-record * i) header three;
         is =
             rw (
               place 0 (omega arith),
               place 1 (omega arith),
               place 2 (omega arith),
-              other (9 * i + 5) (inr (omega arith)),
-              other (9 * i + 6) (inr (omega arith)),
-              other (9 * i + 7) (inr (omega arith)),
-              other (9 * i + 8) (inr (omega arith)),
-              other (9 * i + 9) (inr (omega arith)),
-              other (9 * i + 10) (inr (omega arith)),
+              other (in-state i signal-field) (inr (omega arith)),
+              other (in-state i signal-value-field) (inr (omega arith)),
+              other (in-state i output-field) (inr (omega arith)),
+              other (in-state i output-value-field) (inr (omega arith)),
+              other (in-state i side-field) (inr (omega arith)),
+              other (in-state i mark-field) (inr (omega arith)),
               e1,
               e2,
             )
             refl;
-        form = λ spelled. within-all after (9 * i + 2) state-limits (limits fits0 fits1 fits2 spelled);
+        form = λ spelled. within-all after (state-words i) state-limits (limits fits0 fits1 fits2 spelled);
         others = other;
       }
+
+  pub three-put : {b : List ℕ} → b ≡ after →
+      decode-signed held-word ≡ held → decode-signed speed-word ≡ speed → local ≤ any-word → held-word ≤ any-word →
+      speed-word ≤ any-word → NumbersPut i local held speed a b
+  three-put is e1 e2 fits0 fits1 fits2 =
+      subst (NumbersPut i local held speed a) (sym is) (three-written e1 e2 fits0 fits1 fits2)
 
 -- the words outside the record are kept: the states of the other parts, the point, and the words behind the model's
 module _ (i local : ℕ) (held speed : ℤ) (a b : List ℕ) (put : NumbersPut i local held speed a b) where

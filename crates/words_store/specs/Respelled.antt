@@ -1,4 +1,5 @@
--- Words that spell a model give states within their limits, and such a state of the same table, in as many words, spells one too. Assumes nothing.
+-- Words that spell a model give states within their limits, and such a state of the same table, in as many words,
+-- spells one too. Assumes nothing.
 use Prim.Native.Nat.{ℕ, zero, suc, _≤_, _<_}
 use native.Mathlib.Omega.{arith}
 use mathlib.Core.Path.{_≡_, refl, sym, _∙_}
@@ -19,7 +20,8 @@ parts-at : (ts ss : List ℕ) (n j : ℕ) → parts-spelled ts ss n ≡ true →
     (component-spelled ts j ≡ true) × (state-spelled ss j ≡ true)
 unfolding parts-spelled part-spelled
 parts-at ts ss zero j all low = absurd (omega arith)
-parts-at ts ss (suc n) j all low = cases (either (ltb j n)) (simp and-eq-true-iff at all) (λ rest below. parts-at ts ss n j rest below)
+parts-at ts ss (suc n) j all low =
+    cases (either (ltb j n)) (simp and-eq-true-iff at all) (λ rest below. parts-at ts ss n j rest below)
   where
     cases :
         (ltb j n ≡ true) ⊎ (ltb j n ≡ false) →
@@ -52,6 +54,7 @@ pub respelled : (ts os ss : List ℕ) → spelled ts os ≡ true → state-words
     ((j : ℕ) → j < part-count ts → state-spelled ss j ≡ true) → spelled ts ss ≡ true
 respelled ts os ss h deep each =
     let had = spelled-facts ts os h in
-    let kept : SpellingFacts ts ss = record { two = had .two; magnitude = had .magnitude; few = had .few; table = had .table; state = deep } in
+    let kept : SpellingFacts ts ss =
+    record { two = had .two; magnitude = had .magnitude; few = had .few; table = had .table; state = deep } in
     spelled-parts ts ss kept ∙
     parts-all ts ss (part-count ts) (λ j low. (parts-at ts os (part-count ts) j (all-parts ts os h) low .0, each j low))

@@ -1,7 +1,7 @@
--- The frame: a write of one part's state, or of the point, changes that of the model that the words mean, and nothing else; and the places of that model.
--- The idea: a record's words lie apart from every other record's, so that each state but the one written is read from words that were kept.
--- Assumes nothing.
-use Prim.Native.Nat.{ℕ, _+_, _*_, _≤_, _<_}
+-- The frame: a write of one part's state, or of the point, changes that of the model that the words mean, and nothing
+-- else; and the places of that model. The idea: a record's words lie apart from every other record's, so that each
+-- state but the one written is read from words that were kept. Assumes nothing.
+use Prim.Native.Nat.{ℕ, _+_, _≤_, _<_}
 use native.Mathlib.Omega.{arith}
 use mathlib.Core.Path.{_≡_, refl, sym, ap, ap₂, _∙_}
 use mathlib.Core.Bool.{true, false}
@@ -18,7 +18,11 @@ use Rattle.machine.specs.Model.{blank-part, part-at, with-state, with-parts, sp
 use Rattle.laws.specs.Bools.{either}
 use Rattle.words_codec.specs.Words.{tabulate}
 use Rattle.words_codec.specs.Tables.{length-table, table-at, table-same}
-use Rattle.words_store.specs.ModelIn.{slot, part-count, state-words, ordered-part, stored-state, stored-part, stored-point, model-in}
+use Rattle.words_store.specs.Layout.{in-state, local-field, held-field, speed-field, signal-field}
+use Rattle.words_store.specs.Layout.{signal-value-field, output-field, output-value-field, side-field}
+use Rattle.words_store.specs.Layout.{mark-field}
+use Rattle.words_store.specs.ModelIn.{slot, part-count, state-words, ordered-part, stored-state, stored-part}
+use Rattle.words_store.specs.ModelIn.{stored-point, model-in}
 use Rattle.words_store.specs.Form.{state-limits}
 use Rattle.words_store.specs.WordsWritten.{Outside}
 use Rattle.words_store.specs.Updated.{state-spelled, StatePut, PointPut, Copied, SameBehind, within-same}
@@ -31,14 +35,17 @@ table-set f g n i v low others here =
     (length-table g n ∙ sym (length-set (tabulate f n) i v ∙ length-table f n))
     (λ j inside. at j (rw (length-table g n) at inside) (either (eqb j i)))
   where
-    at : (j : ℕ) → j < n → (eqb j i ≡ true) ⊎ (eqb j i ≡ false) → getD (tabulate g n) j v ≡ getD (set (tabulate f n) i v) j v
+    at : (j : ℕ) → j < n → (eqb j i ≡ true) ⊎ (eqb j i ≡ false) →
+        getD (tabulate g n) j v ≡ getD (set (tabulate f n) i v) j v
     at j within (inl e) =
         let same : j ≡ i = eqb-true j i e in
         let inside : i < length (tabulate f n) = rw (length-table f n) low in
-        table-at g n j v within ∙ ap g same ∙ here ∙ sym (ap (λ (k : ℕ). getD (set (tabulate f n) i v) k v) same ∙ getD-set-same (tabulate f n) i v v inside)
+        table-at g n j v within ∙ ap g same ∙ here ∙
+        sym (ap (λ (k : ℕ). getD (set (tabulate f n) i v) k v) same ∙ getD-set-same (tabulate f n) i v v inside)
     at j within (inr e) =
         let other = eqb-false j i e in
-        table-at g n j v within ∙ others j other ∙ sym (getD-set-other (tabulate f n) i j v v other ∙ table-at f n j v within)
+        table-at g n j v within ∙ others j other ∙
+        sym (getD-set-other (tabulate f n) i j v v other ∙ table-at f n j v within)
 
 -- the places of the model that words mean
 module _ (ts ss : List ℕ) where
@@ -59,20 +66,21 @@ module _ (ts ss : List ℕ) where
   held-number i low = table-at (ordered-part ts) (part-count ts) i 0 low
 
 -- the same words of a record give the same state
-pub same-state : (a b : List ℕ) (i : ℕ) → ((x : ℕ) → state-words i ≤ x → x < state-words (i + 1) → slot b x ≡ slot a x) →
+pub same-state : (a b : List ℕ) (i : ℕ) →
+    ((x : ℕ) → state-words i ≤ x → x < state-words (i + 1) → slot b x ≡ slot a x) →
     stored-state b i ≡ stored-state a i
 unfolding stored-state
 same-state a b i same =
     rw (
-      same (9 * i + 2) (omega arith) (omega arith),
-      same (9 * i + 3) (omega arith) (omega arith),
-      same (9 * i + 4) (omega arith) (omega arith),
-      same (9 * i + 5) (omega arith) (omega arith),
-      same (9 * i + 6) (omega arith) (omega arith),
-      same (9 * i + 7) (omega arith) (omega arith),
-      same (9 * i + 8) (omega arith) (omega arith),
-      same (9 * i + 9) (omega arith) (omega arith),
-      same (9 * i + 10) (omega arith) (omega arith),
+      same (in-state i local-field) (omega arith) (omega arith),
+      same (in-state i held-field) (omega arith) (omega arith),
+      same (in-state i speed-field) (omega arith) (omega arith),
+      same (in-state i signal-field) (omega arith) (omega arith),
+      same (in-state i signal-value-field) (omega arith) (omega arith),
+      same (in-state i output-field) (omega arith) (omega arith),
+      same (in-state i output-value-field) (omega arith) (omega arith),
+      same (in-state i side-field) (omega arith) (omega arith),
+      same (in-state i mark-field) (omega arith) (omega arith),
     )
     refl
 
@@ -101,16 +109,22 @@ module _ (a b : List ℕ) (i : ℕ) (kept : KeptOutside i a b) where
 
   spelled-outside : (j : ℕ) → (j ≡ i → ⊥) → state-spelled b j ≡ state-spelled a j
   spelled-outside j other =
-      within-same a b (state-words j) state-limits (λ x from to. kept x (apart i j x other from (omega arith) (either (ltb j i))))
+      within-same a b (state-words j) state-limits
+      (λ x from to. kept x (apart i j x other from (omega arith) (either (ltb j i))))
 
   pub point-outside : stored-point b ≡ stored-point a
   unfolding stored-point
   point-outside = rw (kept 0 (inl (omega arith)), kept 1 (inl (omega arith))) refl
 
   -- and the words behind the model's, where the words of part i's state are within their limits still
-  pub behind-outside : (n : ℕ) → length b ≡ length a → (state-spelled a i ≡ true → state-spelled b i ≡ true) → i < n → SameBehind n a b
+  pub behind-outside : (n : ℕ) → length b ≡ length a → (state-spelled a i ≡ true → state-spelled b i ≡ true) → i < n →
+      SameBehind n a b
   behind-outside n size form low =
-      record { size = size; behind = λ x far. kept x (inr (omega arith)); form = λ j before. form-at j before (either (eqb j i)) }
+      record {
+        size = size;
+        behind = λ x far. kept x (inr (omega arith));
+        form = λ j before. form-at j before (either (eqb j i));
+      }
     where
       form-at : (j : ℕ) → state-spelled a j ≡ true → (eqb j i ≡ true) ⊎ (eqb j i ≡ false) → state-spelled b j ≡ true
       form-at j before (inl e) =
@@ -120,7 +134,8 @@ module _ (a b : List ℕ) (i : ℕ) (kept : KeptOutside i a b) where
 
   -- and the model is the one before with part i's state set to the one that stands there
   pub held-outside : (ts : List ℕ) (s : State) → stored-state b i ≡ s → i < part-count ts →
-      model-in ts b ≡ with-parts (model-in ts a) (model-in ts a .point) (set (model-in ts a .parts) i (with-state (stored-part ts a i) s))
+      model-in ts b ≡ with-parts (model-in ts a) (model-in ts a .point)
+      (set (model-in ts a .parts) i (with-state (stored-part ts a i) s))
   unfolding model-in stored-part
   held-outside ts s is low =
       ap₂ (λ (now : Point) (ps : List Part). with-parts (model-in ts a) now ps) point-outside
@@ -129,11 +144,13 @@ module _ (a b : List ℕ) (i : ℕ) (kept : KeptOutside i a b) where
       (ap (with-state (stored-part ts a i)) is))
 
 -- so a write of part i's state keeps the others'
-pub state-kept : (a b : List ℕ) (i j : ℕ) (s : State) → StatePut i s a b → (j ≡ i → ⊥) → stored-state b j ≡ stored-state a j
+pub state-kept : (a b : List ℕ) (i j : ℕ) (s : State) → StatePut i s a b → (j ≡ i → ⊥) →
+    stored-state b j ≡ stored-state a j
 state-kept a b i j s put other = state-outside a b i (put .others) j other
 
 -- and whether their words are within their limits
-pub spelled-kept : (a b : List ℕ) (i j : ℕ) (s : State) → StatePut i s a b → (j ≡ i → ⊥) → state-spelled b j ≡ state-spelled a j
+pub spelled-kept : (a b : List ℕ) (i j : ℕ) (s : State) → StatePut i s a b → (j ≡ i → ⊥) →
+    state-spelled b j ≡ state-spelled a j
 spelled-kept a b i j s put other = spelled-outside a b i (put .others) j other
 
 -- and the point
@@ -142,11 +159,13 @@ point-kept a b i s put = point-outside a b i (put .others)
 
 -- the model after a write of part i's state is the model before with that part's state set
 pub held-put : (ts a b : List ℕ) (i : ℕ) (s : State) → StatePut i s a b → i < part-count ts →
-    model-in ts b ≡ with-parts (model-in ts a) (model-in ts a .point) (set (model-in ts a .parts) i (with-state (stored-part ts a i) s))
+    model-in ts b ≡ with-parts (model-in ts a) (model-in ts a .point)
+    (set (model-in ts a .parts) i (with-state (stored-part ts a i) s))
 held-put ts a b i s put low = held-outside a b i (put .others) ts s (put .is) low
 
 -- and after a write of the point the model before at that point
-pub held-pointed : (ts a b : List ℕ) (now : Point) → PointPut now a b → model-in ts b ≡ with-parts (model-in ts a) now (model-in ts a .parts)
+pub held-pointed : (ts a b : List ℕ) (now : Point) → PointPut now a b →
+    model-in ts b ≡ with-parts (model-in ts a) now (model-in ts a .parts)
 unfolding model-in stored-part
 held-pointed ts a b now put =
     ap₂ (λ (p : Point) (ps : List Part). with-parts (model-in ts a) p ps) (put .is)
@@ -167,12 +186,14 @@ pub copied-whole : (n : ℕ) (l a b : List ℕ) → Copied n l a b → length l 
 copied-whole n l a b copy all same = ext-getD 0 b l (same ∙ sym all) (λ x inside. copy .front x (omega (arith, same)))
 
 -- states within their limits are so still once they are copied, and the words behind them are kept
-pub copied-spelled : (n : ℕ) (l a b : List ℕ) → Copied (state-words n) l a b → ((j : ℕ) → j < n → state-spelled l j ≡ true) →
+pub copied-spelled : (n : ℕ) (l a b : List ℕ) → Copied (state-words n) l a b →
+    ((j : ℕ) → j < n → state-spelled l j ≡ true) →
     (j : ℕ) → j < n → state-spelled b j ≡ true
 copied-spelled n l a b copy spells j low =
     within-same l b (state-words j) state-limits (λ x from to. copy .front x (omega arith)) ∙ spells j low
 
-pub behind-copied : (n : ℕ) (l a b : List ℕ) → Copied (state-words n) l a b → ((j : ℕ) → j < n → state-spelled l j ≡ true) → SameBehind n a b
+pub behind-copied : (n : ℕ) (l a b : List ℕ) → Copied (state-words n) l a b →
+    ((j : ℕ) → j < n → state-spelled l j ≡ true) → SameBehind n a b
 behind-copied n l a b copy spells =
     record { size = copy .size; behind = copy .behind; form = λ j before. form j before (either (ltb j n)) }
   where
@@ -191,7 +212,8 @@ behind-pointed n now a b put =
     record {
       size = put .size;
       behind = λ x far. put .others x (omega arith);
-      form = λ j before. within-same a b (state-words j) state-limits (λ x from to. put .others x (omega arith)) ∙ before;
+      form = λ j before. within-same a b (state-words j) state-limits (λ x from to. put .others x (omega arith)) ∙
+          before;
     }
 
 pub behind-none : (n : ℕ) (a : List ℕ) → SameBehind n a a
@@ -212,8 +234,10 @@ held-unused ts a b =
     record {
       orders = refl;
       parts =
-          drop-of-length-le (tabulate (stored-part ts b) (part-count ts)) {i = part-count ts} (rw (length-table (stored-part ts b) (part-count ts)) (omega arith)) ∙
-          sym (drop-of-length-le (tabulate (stored-part ts a) (part-count ts)) {i = part-count ts} (rw (length-table (stored-part ts a) (part-count ts)) (omega arith)));
+          drop-of-length-le (tabulate (stored-part ts b) (part-count ts)) {i = part-count ts}
+          (rw (length-table (stored-part ts b) (part-count ts)) (omega arith)) ∙
+          sym (drop-of-length-le (tabulate (stored-part ts a) (part-count ts)) {i = part-count ts}
+          (rw (length-table (stored-part ts a) (part-count ts)) (omega arith)));
       spans = λ i low. spans-of i low;
     }
   where

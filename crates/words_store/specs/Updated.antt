@@ -1,7 +1,8 @@
--- What writing the state of a part, and the point, changes of the words, and of the model that they mean: the frame laws. Assumes nothing.
+-- What writing the state of a part, and the point, changes of the words, and of the model that they mean: the frame
+-- laws. Assumes nothing.
 use Prim.Native.Nat.{ℕ, zero, suc, _+_, _*_, _≤_, _<_}
 use native.Mathlib.Omega.{arith}
-use mathlib.Core.Path.{_≡_, refl, sym, ap, ap₂, _∙_}
+use mathlib.Core.Path.{_≡_, refl, sym, subst, ap, ap₂, _∙_}
 use mathlib.Core.Bool.{Bool, true, false, _&&_}
 use mathlib.Core.Logic.{_⊎_, inl, inr}
 use mathlib.Core.List.{List, [], _∷_}
@@ -21,11 +22,17 @@ use Rattle.laws.specs.Bools.{either}
 use Rattle.words_codec.specs.Words.{decode-signed}
 use Rattle.words_codec.specs.Encoded.{encode-presence, encode-side, encode-mark}
 use Rattle.words_codec.specs.Decoded.{decode-side, decode-mark, decode-signal}
+use Rattle.words_store.specs.Layout.{header, state-record, in-table, in-state, span-count-field, spans-field}
+use Rattle.words_store.specs.Layout.{port0-field, local-field, held-field, speed-field, signal-field}
+use Rattle.words_store.specs.Layout.{signal-value-field, output-field, output-value-field, side-field}
+use Rattle.words_store.specs.Layout.{mark-field}
 use Rattle.words_store.specs.ModelIn.{slot, table-words, state-words, stored-state, stored-point}
-use Rattle.words_store.specs.Form.{any-word, any-32, state-limits, spans-used, span-limits, operand-limits, wire-limits}
+use Rattle.words_store.specs.Form.{any-word, any-32, state-limits, spans-used, span-limits, operand-limits}
+use Rattle.words_store.specs.Form.{wire-limits}
 use Rattle.words_store.specs.Form.{words-within, component-spelled}
 use Rattle.words_store.specs.Clean.{CleanHeld, CleanOutput}
-use Rattle.words_store.specs.WordsWritten.{Outside, written, length-written, written-at, written-outside}
+use Rattle.words_store.specs.WordsWritten.{FieldPut, PairPut, Outside, written, pair-after}
+use Rattle.words_store.specs.WordsWritten.{length-written, written-at, written-outside}
 
 -- the words of part i's state are within their limits
 abbrev pub state-spelled : List ℕ → ℕ → Bool
@@ -53,14 +60,16 @@ pub record Copied (n : ℕ) (l a b : List ℕ) : Type 0 where
   pub front : (x : ℕ) → x < n → slot b x ≡ slot l x
   pub behind : (x : ℕ) → n ≤ x → slot b x ≡ slot a x
 
--- the words behind a state of n parts, and how many there are, are the same; and states within their limits are so still
+-- the words behind a state of n parts, and how many there are, are the same; and states within their limits are so
+-- still
 pub record SameBehind (n : ℕ) (a b : List ℕ) : Type 0 where
   pub size : length b ≡ length a
   pub behind : (x : ℕ) → state-words n ≤ x → slot b x ≡ slot a x
   pub form : (j : ℕ) → state-spelled a j ≡ true → state-spelled b j ≡ true
 
 -- words that are at most their limits one by one are within them
-pub within-all : (ws : List ℕ) (k : ℕ) (ls : List ℕ) → ((n : ℕ) → n < length ls → slot ws (k + n) ≤ getD ls n 0) → words-within ws k ls ≡ true
+pub within-all : (ws : List ℕ) (k : ℕ) (ls : List ℕ) → ((n : ℕ) → n < length ls → slot ws (k + n) ≤ getD ls n 0) →
+    words-within ws k ls ≡ true
 unfolding words-within
 within-all ws k [] below = refl
 within-all ws k (l ∷ ls) below =
@@ -88,14 +97,15 @@ pub component-same : (a b : List ℕ) (j : ℕ) →
     component-spelled b j ≡ component-spelled a j
 unfolding component-spelled
 component-same a b j same =
-    let count : slot b (18 * j + 7) ≡ slot a (18 * j + 7) = same (18 * j + 7) (omega arith) (omega arith) in
-    let used = spans-used (slot a (18 * j + 7)) in
+    let count : slot b (in-table j span-count-field) ≡ slot a (in-table j span-count-field) =
+    same (in-table j span-count-field) (omega arith) (omega arith) in
+    let used = spans-used (slot a (in-table j span-count-field)) in
     ap₂ _&&_
-    (ap₂ _&&_ (within-same a b (18 * j + 2) operand-limits (λ x from to. same x (omega arith) (omega arith)))
-    (ap (λ (n : ℕ). words-within b (18 * j + 8) (span-limits n)) count ∙
-    within-same a b (18 * j + 8) (span-limits (slot a (18 * j + 7)))
+    (ap₂ _&&_ (within-same a b (table-words j) operand-limits (λ x from to. same x (omega arith) (omega arith)))
+    (ap (λ (n : ℕ). words-within b (in-table j spans-field) (span-limits n)) count ∙
+    within-same a b (in-table j spans-field) (span-limits (slot a (in-table j span-count-field)))
     (λ x from to. same x (omega arith) (omega (arith, length-replicate used any-32)))))
-    (within-same a b (18 * j + 16) wire-limits (λ x from to. same x (omega arith) (omega arith)))
+    (within-same a b (in-table j port0-field) wire-limits (λ x from to. same x (omega arith) (omega arith)))
 
 -- the codes of signals, sides and marks are within their limits, and those of sides and marks are read back
 pub signal-limit : (s : Signal) → encode-presence s ≤ 1
@@ -132,14 +142,15 @@ module _
     (local held-word speed-word signal-tag encode-value output-tag output-word side-word mark-word : ℕ)
     (room : state-words (i + 1) ≤ length a) where
   abbrev pub nine : List ℕ
-  nine = local ∷ held-word ∷ speed-word ∷ signal-tag ∷ encode-value ∷ output-tag ∷ output-word ∷ side-word ∷ mark-word ∷ []
+  nine =
+      local ∷ held-word ∷ speed-word ∷ signal-tag ∷ encode-value ∷ output-tag ∷ output-word ∷ side-word ∷ mark-word ∷ []
 
   -- the words of the record
   abbrev pub after : List ℕ
-  after = written a (9 * i) 2 nine
+  after = written a (state-record * i) header nine
 
-  place : (n : ℕ) → n < 9 → slot after (9 * i + (2 + n)) ≡ getD nine n 0
-  place n low = written-at a (9 * i) 2 n nine low (omega arith)
+  place : (n : ℕ) → n < 9 → slot after (in-state i (header + n)) ≡ getD nine n 0
+  place n low = written-at a (state-record * i) header n nine low (omega arith)
 
   -- they are within their limits
   pub record Limited : Type 0 where
@@ -167,20 +178,20 @@ module _
 
   within : Limited → state-spelled after i ≡ true
   within l =
-      within-all after (9 * i + 2) state-limits
+      within-all after (state-words i) state-limits
       (λ n low.
-      let same : 9 * i + 2 + n ≡ 9 * i + (2 + n) = omega arith in
+      let same : state-words i + n ≡ in-state i (header + n) = omega arith in
       rw (ap (slot after) same ∙ place n low) (limits l n low))
 
-  pub nine-put :
+  nine-written :
       local ≡ s .local .0 → decode-signed held-word ≡ s .held → decode-signed speed-word ≡ s .speed →
       decode-signal signal-tag encode-value ≡ s .signal → decode-signal output-tag output-word ≡ s .output →
       decode-side side-word ≡ s .side → decode-mark mark-word ≡ s .mark → Limited →
       ((signal-tag ≡ 1 → ⊥) → encode-value ≡ 0) → ((output-tag ≡ 1 → ⊥) → output-word ≡ 0) → StatePut i s a after
   unfolding stored-state
-  nine-put e0 e1 e2 e3 e4 e5 e6 limited signal-clean output-clean =
+  nine-written e0 e1 e2 e3 e4 e5 e6 limited signal-clean output-clean =
       record {
-        size = length-written a (9 * i) 2 nine;
+        size = length-written a (state-record * i) header nine;
         is =
             rw (
               place 0 (omega arith),
@@ -204,12 +215,28 @@ module _
         form = within limited;
         held-clean = λ absent. place 4 (omega arith) ∙ signal-clean (λ one. absent (place 3 (omega arith) ∙ one));
         output-clean = λ absent. place 6 (omega arith) ∙ output-clean (λ one. absent (place 5 (omega arith) ∙ one));
-        others = λ x out. written-outside a (9 * i) 2 x nine (moved-out x out);
+        others = λ x out. written-outside a (state-record * i) header x nine (moved-out x out);
       }
     where
-      moved-out : (x : ℕ) → Outside (state-words i) (state-words (i + 1)) x → Outside (9 * i + 2) (9 * i + 2 + 9) x
+      moved-out : (x : ℕ) → Outside (state-words i) (state-words (i + 1)) x →
+          Outside (in-state i local-field) (state-words i + 9) x
       moved-out x (inl low) = inl low
       moved-out x (inr high) = inr (omega arith)
+
+  -- and so they are where one field and four pairs are written one after the other
+  pub nine-put : {b c d e f : List ℕ} → FieldPut (in-state i local-field) local a b →
+      PairPut (in-state i held-field) held-word (in-state i speed-field) speed-word b c →
+      PairPut (in-state i signal-field) signal-tag (in-state i signal-value-field) encode-value c d →
+      PairPut (in-state i output-field) output-tag (in-state i output-value-field) output-word d e →
+      PairPut (in-state i side-field) side-word (in-state i mark-field) mark-word e f →
+      local ≡ s .local .0 → decode-signed held-word ≡ s .held → decode-signed speed-word ≡ s .speed →
+      decode-signal signal-tag encode-value ≡ s .signal → decode-signal output-tag output-word ≡ s .output →
+      decode-side side-word ≡ s .side → decode-mark mark-word ≡ s .mark → Limited →
+      ((signal-tag ≡ 1 → ⊥) → encode-value ≡ 0) → ((output-tag ≡ 1 → ⊥) → output-word ≡ 0) → StatePut i s a f
+  unfolding written
+  nine-put first second third fourth last e0 e1 e2 e3 e4 e5 e6 limited signal-clean output-clean =
+      let is = pair-after (pair-after (pair-after (pair-after (first .is) second) third) fourth) last in
+      subst (StatePut i s a) (sym is) (nine-written e0 e1 e2 e3 e4 e5 e6 limited signal-clean output-clean)
 
 -- the point, written
 pub point-put : (a : List ℕ) (now : Point) → 2 ≤ length a → PointPut now a (set (set a 0 (now .t .0)) 1 (now .n))
@@ -226,7 +253,8 @@ point-put a now room =
           )
           refl;
       others = λ x high.
-          getD-set-other (set a 0 (now .t .0)) 1 x (now .n) 0 (λ e. omega arith) ∙ getD-set-other a 0 x (now .t .0) 0 (λ e. omega arith);
+          getD-set-other (set a 0 (now .t .0)) 1 x (now .n) 0 (λ e. omega arith) ∙
+          getD-set-other a 0 x (now .t .0) 0 (λ e. omega arith);
     }
 
 -- nothing is copied at first, and then one word more
@@ -244,7 +272,8 @@ copied-more n l a b done inside =
     front : (x : ℕ) → x < n + 1 → (eqb x n ≡ true) ⊎ (eqb x n ≡ false) → slot (set b n (slot l n)) x ≡ slot l x
     front x low (inl e) =
         let same : x ≡ n = eqb-true x n e in
-        ap (λ (k : ℕ). slot (set b n (slot l n)) k) same ∙ getD-set-same b n (slot l n) 0 inside ∙ ap (slot l) (sym same)
+        ap (λ (k : ℕ). slot (set b n (slot l n)) k) same ∙ getD-set-same b n (slot l n) 0 inside ∙
+        ap (slot l) (sym same)
     front x low (inr e) =
         let other = eqb-false x n e in
         getD-set-other b n x (slot l n) 0 other ∙ done .front x (omega arith)

@@ -2,6 +2,10 @@
 // function that reads asks that the words of what it reads are there; what stands in them is free.
 //
 // The contracts cite `specs/ModelIn.antt`, and `specs/Form.antt` for the largest word.
+use crate::layout;
+use crate::layout::state_field;
+use crate::layout::table_field;
+use machine::model::PARTS;
 use machine::part::Component;
 use machine::part::Kind;
 use machine::part::Part;
@@ -19,22 +23,26 @@ use words_codec::fields::decode_signal;
 use words_codec::fields::decode_source;
 use words_codec::word::decode_signed;
 ghost use mathlib.Core.Path.{_≡_};
-ghost use Prim.Native.Nat.{_+_, _*_, _%_, _≤_};
+ghost use Prim.Native.Nat.{_+_, _*_, _%_, _≤_, _<_};
 ghost use lib.ListN.{length};
-ghost use Rattle.words_store.specs.ModelIn.{slot, part-count, state-words, stored-component, ordered-part, stored-part, stored-point, stored-spans, stored-state, table-words};
+ghost use Rattle.words_codec.specs.Decoded.{decode-signal};
+ghost use Rattle.words_store.specs.Layout.{in-state};
+ghost use Rattle.words_store.specs.ModelIn.{slot, part-count, table-words, state-words, ordered-part};
+ghost use Rattle.words_store.specs.ModelIn.{stored-component, stored-part, stored-point, stored-spans};
+ghost use Rattle.words_store.specs.ModelIn.{stored-state};
 ghost use Rattle.words_store.specs.Form.{any-word};
 
-// How many words the table of the most parts has, and a state of it: 18 and 9 for each part, and two.
-pub const TABLE_ROOM: usize = 578;
+// How many words the table of the most parts has, and a state of it.
+pub const TABLE_ROOM: usize = layout::TABLE_RECORD * PARTS + layout::HEADER;
 
-pub const STATE_ROOM: usize = 290;
+pub const STATE_ROOM: usize = layout::STATE_RECORD * PARTS + layout::HEADER;
 
 // How many words the table of that many parts has.
 pub fn table_words(parts: usize) -> usize
     requires { ⌜ table-words parts ≤ any-word ⌝ }
     ensures { λ r. ⌜ r ≡ table-words parts ⌝ }
 {
-    18 * parts + 2
+    layout::TABLE_RECORD * parts + layout::HEADER
 }
 
 // And how many a state of it has.
@@ -42,7 +50,7 @@ pub fn state_words(parts: usize) -> usize
     requires { ⌜ state-words parts ≤ any-word ⌝ }
     ensures { λ r. ⌜ r ≡ state-words parts ⌝ }
 {
-    9 * parts + 2
+    layout::STATE_RECORD * parts + layout::HEADER
 }
 
 // How many parts a table has.
@@ -77,8 +85,7 @@ pub fn ordered_part(table: &[u64], i: usize) -> usize
     requires { ⌜ table-words (i + 1) ≤ length (now table) ⌝ }
     ensures { λ r. ⌜ r ≡ ordered-part (now (table .entry)) i ⌝ }
 {
-    let k = 18 * i;
-    (table[k + 19] % 65536) as usize
+    (table_field(table, i, layout::ORDER) % 65536) as usize
 }
 
 // The eight places for spans of part `i`.
@@ -86,7 +93,7 @@ fn spans_at(table: &[u64], i: usize) -> [u32; SPANS]
     requires { ⌜ table-words (i + 1) ≤ length (now table) ⌝ }
     ensures { λ r. ⌜ r ≡ stored-spans (now (table .entry)) i ⌝ }
 {
-    let k = 18 * i + 8;
+    let k = layout::TABLE_RECORD * i + layout::FIRST_SPAN;
     let mut spans = [0u32; SPANS];
     let mut j: usize = 0;
     while j < SPANS {
@@ -101,20 +108,22 @@ pub fn component_at(table: &[u64], i: usize) -> Component
     requires { ⌜ table-words (i + 1) ≤ length (now table) ⌝ }
     ensures { λ r. ⌜ r ≡ stored-component (now (table .entry)) i ⌝ }
 {
-    let k = 18 * i;
-    let kind = decode_kind(table[k + 2]);
-    let a = decode_signed(table[k + 4]);
-    let b = decode_signed(table[k + 5]);
+    let kind = decode_kind(table_field(table, i, layout::KIND));
+    let preference = table_field(table, i, layout::PREFERENCE);
+    let a = decode_signed(table_field(table, i, layout::A));
+    let b = decode_signed(table_field(table, i, layout::B));
+    let p = table_field(table, i, layout::P);
+    let span_count = table_field(table, i, layout::SPAN_COUNT);
     let spans = spans_at(table, i);
-    let port0 = decode_source(table[k + 16]);
-    let port1 = decode_source(table[k + 17]);
+    let port0 = decode_source(table_field(table, i, layout::PORT0));
+    let port1 = decode_source(table_field(table, i, layout::PORT1));
     Component {
         kind: kind,
-        preference: (table[k + 3] % 256) as u8,
+        preference: (preference % 256) as u8,
         a: a,
         b: b,
-        p: (table[k + 6] % 4294967296) as u32,
-        span_count: table[k + 7] as usize,
+        p: (p % 4294967296) as u32,
+        span_count: span_count as usize,
         spans: spans,
         port0: port0,
         port1: port1,
@@ -126,8 +135,7 @@ pub fn span_count_at(table: &[u64], i: usize) -> usize
     requires { ⌜ table-words (i + 1) ≤ length (now table) ⌝ }
     ensures { λ r. ⌜ r ≡ stored-component (now (table .entry)) i .«span_count» ⌝ }
 {
-    let k = 18 * i;
-    table[k + 7] as usize
+    table_field(table, i, layout::SPAN_COUNT) as usize
 }
 
 // What port 0 of part `i` is wired to, alone.
@@ -135,8 +143,7 @@ pub fn port0_at(table: &[u64], i: usize) -> Source
     requires { ⌜ table-words (i + 1) ≤ length (now table) ⌝ }
     ensures { λ r. ⌜ r ≡ stored-component (now (table .entry)) i .port0 ⌝ }
 {
-    let k = 18 * i;
-    decode_source(table[k + 16])
+    decode_source(table_field(table, i, layout::PORT0))
 }
 
 // What its port 1 is, alone.
@@ -144,8 +151,7 @@ pub fn port1_at(table: &[u64], i: usize) -> Source
     requires { ⌜ table-words (i + 1) ≤ length (now table) ⌝ }
     ensures { λ r. ⌜ r ≡ stored-component (now (table .entry)) i .port1 ⌝ }
 {
-    let k = 18 * i;
-    decode_source(table[k + 17])
+    decode_source(table_field(table, i, layout::PORT1))
 }
 
 // The kind of part `i`, alone.
@@ -153,8 +159,18 @@ pub fn kind_at(table: &[u64], i: usize) -> Kind
     requires { ⌜ table-words (i + 1) ≤ length (now table) ⌝ }
     ensures { λ r. ⌜ r ≡ stored-component (now (table .entry)) i .kind ⌝ }
 {
-    let k = 18 * i;
-    decode_kind(table[k + 2])
+    decode_kind(table_field(table, i, layout::KIND))
+}
+
+// The signal of part `i` whose code is field `f`. Its value is the field after it.
+fn signal_at(state: &[u64], i: usize, f: usize) -> Signal
+    requires { ⌜ in-state i (f + 1) < length (now state) ⌝ }
+    ensures { λ r. ⌜ (
+        let words = now (state .entry) in
+        r ≡ decode-signal (slot words (in-state i f)) (slot words (in-state i (f + 1)))
+        ) ⌝ }
+{
+    decode_signal(state_field(state, i, f), state_field(state, i, f + 1))
 }
 
 // The state of part `i`.
@@ -162,14 +178,13 @@ pub fn state_at(state: &[u64], i: usize) -> State
     requires { ⌜ state-words (i + 1) ≤ length (now state) ⌝ }
     ensures { λ r. ⌜ r ≡ stored-state (now (state .entry)) i ⌝ }
 {
-    let k = 9 * i;
-    let local = LocalTicks(state[k + 2]);
-    let held = decode_signed(state[k + 3]);
-    let speed = decode_signed(state[k + 4]);
-    let signal = decode_signal(state[k + 5], state[k + 6]);
-    let output = decode_signal(state[k + 7], state[k + 8]);
-    let side = decode_side(state[k + 9]);
-    let mark = decode_mark(state[k + 10]);
+    let local = LocalTicks(state_field(state, i, layout::LOCAL));
+    let held = decode_signed(state_field(state, i, layout::HELD));
+    let speed = decode_signed(state_field(state, i, layout::SPEED));
+    let signal = signal_at(state, i, layout::SIGNAL);
+    let output = signal_at(state, i, layout::OUTPUT);
+    let side = decode_side(state_field(state, i, layout::SIDE));
+    let mark = decode_mark(state_field(state, i, layout::MARK));
     State {
         local: local,
         held: held,
@@ -186,8 +201,7 @@ pub fn output_at(state: &[u64], i: usize) -> Signal
     requires { ⌜ state-words (i + 1) ≤ length (now state) ⌝ }
     ensures { λ r. ⌜ r ≡ stored-state (now (state .entry)) i .output ⌝ }
 {
-    let k = 9 * i;
-    decode_signal(state[k + 7], state[k + 8])
+    signal_at(state, i, layout::OUTPUT)
 }
 
 // The part `i`.
@@ -198,10 +212,10 @@ pub fn part_at(table: &[u64], state: &[u64], i: usize) -> Part
 {
     let component = component_at(table, i);
     let s = state_at(state, i);
-    let k = 18 * i;
+    let ratio = table_field(table, i, layout::RATIO);
     Part {
         component: component,
-        ratio: table[k + 18],
+        ratio: ratio,
         state: s,
     }
 }

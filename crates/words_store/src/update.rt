@@ -2,6 +2,13 @@
 //
 // The contracts cite `specs/Updated.antt`, `specs/NumbersPut.antt` and `specs/Shown.antt`: what was written is read
 // back, a word that is free is 0 (`specs/Clean.antt`), and every other word is kept.
+use crate::layout::HELD;
+use crate::layout::LOCAL;
+use crate::layout::OUTPUT;
+use crate::layout::SIDE;
+use crate::layout::SIGNAL;
+use crate::layout::put_field;
+use crate::layout::put_pair;
 use crate::lookup::parts_of;
 use crate::lookup::state_words;
 use machine::part::State;
@@ -58,20 +65,15 @@ pub fn put_state(state: &mut [u64], i: usize, s: State)
     requires { ⌜ state-words (i + 1) ≤ length (now state) ⌝ }
     ensures { λ r. ⌜ StatePut i s (now (state .entry)) (now (state .exit)) ⌝ }
 {
-    let k = 9 * i;
-    let signal = s.signal;
-    let output = s.output;
+    let kept = s.signal;
+    let out = s.output;
     let side = s.side;
     let mark = s.mark;
-    state[k + 2] = s.local.0;
-    state[k + 3] = word_of(s.held);
-    state[k + 4] = word_of(s.speed);
-    state[k + 5] = encode_presence(signal);
-    state[k + 6] = encode_value(signal);
-    state[k + 7] = encode_presence(output);
-    state[k + 8] = encode_value(output);
-    state[k + 9] = encode_side(side);
-    state[k + 10] = encode_mark(mark);
+    put_field(state, i, LOCAL, s.local.0);
+    put_pair(state, i, HELD, word_of(s.held), word_of(s.speed));
+    put_pair(state, i, SIGNAL, encode_presence(kept), encode_value(kept));
+    put_pair(state, i, OUTPUT, encode_presence(out), encode_value(out));
+    put_pair(state, i, SIDE, encode_side(side), encode_mark(mark));
 }
 
 // The local count, the held number and the speed of part `i`, written anew.
@@ -79,10 +81,8 @@ pub fn put_numbers(state: &mut [u64], i: usize, local: LocalTicks, held: i64, sp
     requires { ⌜ state-words (i + 1) ≤ length (now state) ⌝ }
     ensures { λ r. ⌜ NumbersPut i (local .0) held speed (now (state .entry)) (now (state .exit)) ⌝ }
 {
-    let k = 9 * i;
-    state[k + 2] = local.0;
-    state[k + 3] = word_of(held);
-    state[k + 4] = word_of(speed);
+    put_field(state, i, LOCAL, local.0);
+    put_pair(state, i, HELD, word_of(held), word_of(speed));
 }
 
 // The stored output of part `i`, written anew.
@@ -90,9 +90,7 @@ pub fn put_output(state: &mut [u64], i: usize, out: Signal)
     requires { ⌜ state-words (i + 1) ≤ length (now state) ⌝ }
     ensures { λ r. ⌜ OutputPut i out (now (state .entry)) (now (state .exit)) ⌝ }
 {
-    let k = 9 * i;
-    state[k + 7] = encode_presence(out);
-    state[k + 8] = encode_value(out);
+    put_pair(state, i, OUTPUT, encode_presence(out), encode_value(out));
 }
 
 // The point, written anew.
@@ -122,7 +120,10 @@ pub fn copy_state(old: &[u64], parts: usize, new: &mut [u64])
 pub fn kept_in(table: &[u64], old: &[u64], new: &mut [u64])
     requires { ⌜ WordsThere (now table) (now old) ⌝ }
     requires { ⌜ WordsThere (now table) (now new) ⌝ }
-    ensures { λ r. ⌜ Copied (state-words (part-count (now (table .entry)))) (now (old .entry)) (now (new .entry)) (now (new .exit)) ⌝ }
+    ensures { λ r. ⌜ (
+        let words = state-words (part-count (now (table .entry))) in
+        Copied words (now (old .entry)) (now (new .entry)) (now (new .exit))
+        ) ⌝ }
 {
     let count = parts_of(table);
     copy_state(old, count, new);

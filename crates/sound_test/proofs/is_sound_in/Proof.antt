@@ -1,5 +1,6 @@
--- `is_sound_in` asks whether the words spell a model, and then makes the tests of that model one by one: behind the tests that hold,
--- the answer is the next one and those behind it, so that where one fails the answer is no whatever the others say.
+-- `is_sound_in` asks whether the words spell a model, and then makes the tests of that model one by one: behind the
+-- tests that hold, the answer is the next one and those behind it, so that where one fails the answer is no whatever
+-- the others say.
 use Prim.Native.Nat.{ℕ, _≤_}
 use native.Mathlib.Omega.{arith}
 use mathlib.Core.Path.{_≡_, _∙_, refl, sym}
@@ -9,7 +10,7 @@ use borrow.Author.Needs.{needs}
 use borrow.Author.Tests.{leb-true, not-true, not-false}
 use Rattle.machine.specs.Time.{magnitude-known, last-magnitude}
 use Rattle.machine.specs.declared.model.Model.{Model}
-use Rattle.machine.specs.Model.{trimmed}
+use Rattle.machine.specs.Model.{most-parts, trimmed}
 use Rattle.machine.specs.Table.{table-of, magnitude-of}
 use Rattle.machine.specs.Sound.{sound}
 use Rattle.words_store.specs.ModelIn.{WordsThere, model-in, part-count}
@@ -54,7 +55,7 @@ spells c = sym (c .before .spelled .ensures) ∙ not-false (c .before .spelled .
 room : (c : tie.Else1) → WordsThere (tables (c .before)) (states (c .before))
 room c = spelled-room (tables (c .before)) (states (c .before)) (spells c)
 
-few : (c : tie.Else1) → part-count (tables (c .before)) ≤ 32
+few : (c : tie.Else1) → part-count (tables (c .before)) ≤ most-parts
 few c = spelled-few (tables (c .before)) (states (c .before)) (spells c)
 
 by-form : (c : tie.Else1) → whole (c .before) ≡ sound (model (c .before))
@@ -63,18 +64,22 @@ by-form c = passed (whole (c .before)) _ (sound (model (c .before))) refl (spell
 -- the answer by that of each test and those behind it, where the tests before it hold
 by-time : (c : tie.After-in-time) →
     let words = form (counted c) .before in
-    whole words ≡ (c .in-time .result && magnitude-holds (part-count (tables words)) (magnitude-of (table-of (model words))) (model words))
+    whole words ≡ (c .in-time .result && magnitude-holds (part-count (tables words))
+    (magnitude-of (table-of (model words))) (model words))
 by-time c =
     let spelt = form (counted c) in
     let words = spelt .before in
-    let some : 1 ≤ part-count (tables words) = omega (arith, c .before .before .if2 .left, counted c .parts-of .ensures) in
+    let some : 1 ≤ part-count (tables words) =
+    omega (arith, c .before .before .if2 .left, counted c .parts-of .ensures) in
     by-form spelt ∙
-    by-point (tables words) (states words) (c .before .point-of .result) (c .in-time .result) some (few spelt) (c .before .point-of .ensures)
+    by-point (tables words) (states words) (c .before .point-of .result) (c .in-time .result) some (few spelt)
+    (c .before .point-of .ensures)
     (c .in-time .ensures)
 
 by-magnitude : (c : tie.After-magnitude-known) →
     let words = form (counted (timed c)) .before in
-    whole words ≡ (c .magnitude-known .result && parts-hold (part-count (tables words)) (c .before .surveyed-in .result .magnitude) (model words))
+    whole words ≡ (c .magnitude-known .result && parts-hold (part-count (tables words))
+    (c .before .surveyed-in .result .magnitude) (model words))
 by-magnitude c =
     let words = form (counted (timed c)) .before in
     let survey = c .before .surveyed-in in
@@ -88,8 +93,10 @@ by-parts : (c : tie.After-parts-fit-in) →
 by-parts c =
     let point = timed (known c) .before in
     let words = form (counted (timed (known c))) .before in
-    passed _ _ _ (by-magnitude (known c)) (not-false (known c .magnitude-known .result) (c .before .before .if4 .left)) ∙
-    by-each (tables words) (states words) (known c .before .surveyed-in .result .magnitude) (point .point-of .result) (c .parts-fit-in .result)
+    passed _ _ _ (by-magnitude (known c))
+    (not-false (known c .magnitude-known .result) (c .before .before .if4 .left)) ∙
+    by-each (tables words) (states words) (known c .before .surveyed-in .result .magnitude) (point .point-of .result)
+    (c .parts-fit-in .result)
     (point .point-of .ensures) (c .parts-fit-in .ensures)
 
 spelled-requires : tie.Need-spelled-requires
@@ -98,7 +105,8 @@ spelled-requires c κs = search needs
 returns : tie.Need-returns
 returns c =
     let words = c .before in
-    failed (whole words) _ (sound (model words)) refl (sym (words .spelled .ensures) ∙ not-true (words .spelled .result) (c .if1 .taken))
+    failed (whole words) _ (sound (model words)) refl
+    (sym (words .spelled .ensures) ∙ not-true (words .spelled .result) (c .if1 .taken))
 
 parts-of-requires : tie.Need-parts-of-requires
 parts-of-requires c κs = omega (arith, room c .table)
@@ -107,7 +115,8 @@ returns-2 : tie.Need-returns-2
 returns-2 c =
     let spelt = form (c .before) in
     let words = spelt .before in
-    sym (by-form spelt ∙ lent-none (tables words) (states words) (omega (arith, c .if2 .taken, c .before .parts-of .ensures)))
+    sym (by-form spelt ∙ lent-none (tables words) (states words)
+    (omega (arith, c .if2 .taken, c .before .parts-of .ensures)))
 
 point-of-requires : tie.Need-point-of-requires
 point-of-requires c κs = omega (arith, room (form (c .before)) .state)
@@ -135,7 +144,11 @@ parts-fit-in-requires c κs =
     let magnitude = c .before .before .magnitude-known in
     let spelt = form (counted (timed (c .before .before))) in (
       room spelt,
-      (few spelt, leb-true _ last-magnitude (sym (magnitude .ensures) ∙ not-false (magnitude .result) (c .before .if4 .left))),
+      (
+        few spelt,
+        leb-true _ last-magnitude (sym (magnitude .ensures) ∙
+            not-false (magnitude .result) (c .before .if4 .left)),
+      ),
     )
 
 returns-5 : tie.Need-returns-5
@@ -154,7 +167,8 @@ returns-6 c =
     let ts = tables words in
     let ss = states words in
     let survey = known parts .before .surveyed-in in
-    by-order ts ss (many .result) (survey .result .order) (c .follows .result) (many .ensures) (survey .ensures .order ss)
+    by-order ts ss (many .result) (survey .result .order) (c .follows .result) (many .ensures)
+    (survey .ensures .order ss)
     (c .follows .ensures (table-of (model words) .parts)
     (lent-directs ts ss (many .result) (survey .result .direct) (many .ensures) (survey .ensures .direct ss))) ∙
     sym (passed _ _ _ (by-parts parts) (not-false (parts .parts-fit-in .result) (c .before .before .before .if5 .left)))

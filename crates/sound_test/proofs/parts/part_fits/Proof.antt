@@ -1,4 +1,5 @@
--- `part_fits` makes the definition's four tests in its order; where one fails, the definition is false whatever the others say.
+-- `part_fits` makes the definition's four tests in its order; where one fails, the definition is false whatever the
+-- others say.
 use mathlib.Core.Path.{sym}
 use borrow.Author.Needs.{needs}
 use borrow.Author.Tests.{eq-eqb, ne-eqb, not-true, not-false}

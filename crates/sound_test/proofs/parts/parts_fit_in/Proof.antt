@@ -1,5 +1,5 @@
--- `parts_fit_in` asks every part of the model that the words mean. The loop's invariant: the test of all parts is the test of those from i on; the
--- measure is how many are left.
+-- `parts_fit_in` asks every part of the model that the words mean. The loop's invariant: the test of all parts is the
+-- test of those from i on; the measure is how many are left.
 use Prim.Native.Nat.{ℕ, _+_, _-_, _≤_, _<_}
 use native.Mathlib.Omega.{arith}
 use mathlib.Core.Path.{_≡_, _∙_, refl, sym, ap, ap₂}
@@ -42,7 +42,8 @@ turn : (c : tie.After-part-fits Inv-loop μ-loop) →
     let ts = start .args .table .now in
     let ss = start .args .state .now in
     let f = asked ts (start .args .magnitude) (start .args .t .0) in
-    every f (trimmed (model-in ts ss) .parts) ≡ (c .part-fits .result && every f (drop (test .before .loop .i + 1) (trimmed (model-in ts ss) .parts)))
+    every f (trimmed (model-in ts ss) .parts) ≡
+    (c .part-fits .result && every f (drop (test .before .loop .i + 1) (trimmed (model-in ts ss) .parts)))
 turn c =
     let test = c .before .before in
     let start = start-of test in
@@ -53,7 +54,8 @@ turn c =
     let t = start .args .t .0 in
     let answer =
     c .part-fits .ensures ∙
-    ap₂ (λ (n : ℕ) (p : Part). part-fits n g t (trimmed-part p)) (test .before .before .parts-of .ensures) (c .before .part-at .ensures) in
+    ap₂ (λ (n : ℕ) (p : Part). part-fits n g t (trimmed-part p)) (test .before .before .parts-of .ensures)
+    (c .before .part-at .ensures) in
     test .before .loop .inv ∙ held-on ts ss (asked ts g t) i (here test) ∙
     ap (λ (b : Bool). b && every (asked ts g t) (drop (i + 1) (trimmed (model-in ts ss) .parts))) (sym answer)
 
@@ -91,7 +93,8 @@ returns-2 c =
     let start = counted .before .before .before in
     let ts = start .args .table .now in
     let past : part-count ts ≤ c .before .loop .i = omega (arith, c .loop-test .left, counted .parts-of .ensures) in
-    sym (c .before .loop .inv ∙ held-end ts (start .args .state .now) (asked ts (start .args .magnitude) (start .args .t .0)) (c .before .loop .i) past)
+    sym (c .before .loop .inv ∙ held-end ts (start .args .state .now)
+    (asked ts (start .args .magnitude) (start .args .t .0)) (c .before .loop .i) past)
 
 pub parts-fit-in-spec : {M : Type 1} → statement M
 parts-fit-in-spec =

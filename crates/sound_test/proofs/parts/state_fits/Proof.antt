@@ -1,4 +1,5 @@
--- `state_fits` makes the definition's five tests in its order; where one fails, the definition is false whatever the others say.
+-- `state_fits` makes the definition's five tests in its order; where one fails, the definition is false whatever the
+-- others say.
 use native.Mathlib.Omega.{arith}
 use mathlib.Core.Path.{_≡_, sym}
 use mathlib.Core.Bool.{true, _&&_}
@@ -42,7 +43,8 @@ count-holds c = rw (← c .before .before .before .local2 .ensures) (eq-eqb _ _ 
 rest-left : (c : tie.Else2) →
     let args = start-of (counted-of (c .before)) .args in
     let s = args .state in
-    state-holds (args .t .0) (args .ratio) (args .kind) s ≡ (speed-fits (args .kind) (s .speed) && is-signal (s .signal) && is-signal (s .output))
+    state-holds (args .t .0) (args .ratio) (args .kind) s ≡
+    (speed-fits (args .kind) (s .speed) && is-signal (s .signal) && is-signal (s .output))
 unfolding state-holds
 rest-left c =
     let value = c .before in
@@ -60,7 +62,8 @@ speed c =
 -- where the speed is as it must be, the last two tests are left
 signals-left : (c : tie.Else3) →
     let args = start-of (counted-of (c .before .before .before .before)) .args in
-    state-holds (args .t .0) (args .ratio) (args .kind) (args .state) ≡ (is-signal (args .state .signal) && is-signal (args .state .output))
+    state-holds (args .t .0) (args .ratio) (args .kind) (args .state) ≡
+    (is-signal (args .state .signal) && is-signal (args .state .output))
 signals-left c =
     let fits = c .before in
     simp (rest-left (fits .before .before), speed fits, not-false (fits .speed-fits .result) (c .if3 .left))
@@ -95,7 +98,11 @@ is-signal-requires c κs = search needs
 returns-4 : tie.Need-returns-4
 returns-4 c =
     let signal = c .before in
-    simp (signals-left (signal .before), sym (signal .is-signal .ensures), not-true (signal .is-signal .result) (c .if4 .taken))
+    simp (
+      signals-left (signal .before),
+      sym (signal .is-signal .ensures),
+      not-true (signal .is-signal .result) (c .if4 .taken),
+    )
 
 is-signal-requires-2 : tie.Need-is-signal-requires-2
 is-signal-requires-2 c κs = search needs

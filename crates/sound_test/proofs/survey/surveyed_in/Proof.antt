@@ -1,8 +1,9 @@
--- `surveyed_in` reads one part after the other. The loop's invariant: the first i parts are surveyed, whatever state the table stands in; the measure is how
--- many are left.
+-- `surveyed_in` reads one part after the other. The loop's invariant: the first i parts are surveyed, whatever state
+-- the table stands in; the measure is how many are left.
 use Prim.Native.Nat.{_-_, _≤_, _<_}
 use native.Mathlib.Omega.{arith}
 use mathlib.Core.Path.{refl, ap, _∙_}
+use Rattle.machine.specs.Model.{most-parts}
 use Rattle.machine.specs.declared.part.Component.{Component}
 use Rattle.machine.specs.Time.{larger}
 use Rattle.order_place.specs.Direct.{direct-of}
@@ -25,7 +26,7 @@ here test =
     let counted = test .before .before .before in
     omega (arith, test .loop-test .taken, counted .parts-of .ensures)
 
-place : (test : tie.In-loop Inv-loop μ-loop) → test .before .loop .i < 32
+place : (test : tie.In-loop Inv-loop μ-loop) → test .before .loop .i < most-parts
 place test =
     let start = test .before .before .before .before .before in
     omega (arith, here test, start .pre .0)
@@ -87,14 +88,16 @@ loop-again c =
     let loop = test .before .loop in
     let start = test .before .before .before .before .before in
     let component = c .before .before .before .component-at .ensures in
-    surveying-more _ (loop .i) (loop .magnitude) _ (loop .direct) (loop .order) _ _ (loop .inv) (here test) (start .pre .0)
+    surveying-more _ (loop .i) (loop .magnitude) _ (loop .direct) (loop .order) _ _ (loop .inv) (here test)
+    (start .pre .0)
     (c .before .before .larger-of .ensures ∙ ap (λ (p : Component). larger (loop .magnitude) (p .preference)) component)
     (c .before .direct-sources .ensures ∙ ap direct-of component) (c .ordered-part .ensures)
 
 returns : tie.Need-returns Inv-loop μ-loop
 returns c =
     let counted = c .before .before .before in
-    let past : part-count (counted .before .before .args .table .now) ≤ c .before .loop .i = omega (arith, c .loop-test .left, counted .parts-of .ensures) in
+    let past : part-count (counted .before .before .args .table .now) ≤ c .before .loop .i =
+    omega (arith, c .loop-test .left, counted .parts-of .ensures) in
     surveying-end _ (c .before .loop .i) _ (c .before .loop .inv) past
 
 pub surveyed-in-spec : {M : Type 1} → statement M

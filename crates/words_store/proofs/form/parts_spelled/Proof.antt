@@ -1,4 +1,5 @@
--- `parts_spelled` asks one part after the other. The loop's invariant: the first i parts are spelled; the measure is how many are left.
+-- `parts_spelled` asks one part after the other. The loop's invariant: the first i parts are spelled; the measure is
+-- how many are left.
 use Prim.Native.Nat.{ℕ, _-_, _≤_}
 use native.Mathlib.Omega.{arith}
 use mathlib.Core.Path.{_≡_, refl, sym, ap, _∙_}
@@ -39,7 +40,8 @@ loop-again : tie.Need-loop-again Inv-loop μ-loop
 loop-again c =
     let turn = c .before .before .before in (
       omega arith,
-      parts-more _ _ (turn .loop .i) (turn .loop .inv .1) (sym (c .before .part-spelled .ensures) ∙ not-false _ (c .if1 .left)),
+      parts-more _ _ (turn .loop .i) (turn .loop .inv .1)
+          (sym (c .before .part-spelled .ensures) ∙ not-false _ (c .if1 .left)),
     )
 
 returns-2 : tie.Need-returns-2 Inv-loop μ-loop
@@ -47,7 +49,8 @@ returns-2 c =
     let turn = c .before in
     let start = turn .before .before .before in
     let done : turn .loop .i ≡ start .args .count = omega (arith, c .loop-test .left, turn .loop .inv .0) in
-    sym (ap (λ (n : ℕ). parts-spelled (start .args .table .now) (start .args .state .now) n) (sym done) ∙ turn .loop .inv .1)
+    sym (ap (λ (n : ℕ). parts-spelled (start .args .table .now) (start .args .state .now) n) (sym done) ∙
+    turn .loop .inv .1)
 
 pub parts-spelled-spec : {M : Type 1} → statement M
 parts-spelled-spec =

@@ -1,5 +1,6 @@
--- `spelled` makes the definition's tests one by one. Words that spell a model pass each of them, so that where one fails they spell none; where all but the
--- last hold, the answer is the last one's, which asks the words of the parts.
+-- `spelled` makes the definition's tests one by one. Words that spell a model pass each of them, so that where one
+-- fails they spell none; where all but the last hold, the answer is the last one's, which asks the words of the
+-- parts.
 use native.Mathlib.Omega.{arith}
 use mathlib.Core.Path.{_≡_, sym, ap, _∙_}
 use borrow.Author.Needs.{needs}
@@ -23,7 +24,12 @@ parts-of-requires : tie.Need-parts-of-requires
 parts-of-requires c κs = search needs
 
 returns-3 : tie.Need-returns-3
-returns-3 c = sym (refuted _ (λ h. omega (arith, spelled-facts _ _ h .few, c .if3 .taken, c .before .parts-of .ensures)))
+returns-3 c = sym (refuted _ (λ h. omega (
+  arith,
+  spelled-facts _ _ h .few,
+  c .if3 .taken,
+  c .before .parts-of .ensures,
+)))
 
 table-words-requires : tie.Need-table-words-requires
 table-words-requires c κs = search needs
@@ -31,7 +37,13 @@ table-words-requires c κs = search needs
 returns-4 : tie.Need-returns-4
 returns-4 c =
     let sized = c .before in
-    sym (refuted _ (λ h. omega (arith, spelled-facts _ _ h .table, c .if4 .taken, sized .table-words .ensures, sized .before .before .parts-of .ensures)))
+    sym (refuted _ (λ h. omega (
+      arith,
+      spelled-facts _ _ h .table,
+      c .if4 .taken,
+      sized .table-words .ensures,
+      sized .before .before .parts-of .ensures,
+    )))
 
 state-words-requires : tie.Need-state-words-requires
 state-words-requires c κs = search needs
@@ -40,7 +52,13 @@ returns-5 : tie.Need-returns-5
 returns-5 c =
     let sized = c .before in
     let counted = sized .before .before .before .before in
-    sym (refuted _ (λ h. omega (arith, spelled-facts _ _ h .state, c .if5 .taken, sized .state-words .ensures, counted .parts-of .ensures)))
+    sym (refuted _ (λ h. omega (
+      arith,
+      spelled-facts _ _ h .state,
+      c .if5 .taken,
+      sized .state-words .ensures,
+      counted .parts-of .ensures,
+    )))
 
 parts-spelled-requires : tie.Need-parts-spelled-requires
 parts-spelled-requires c κs = search needs

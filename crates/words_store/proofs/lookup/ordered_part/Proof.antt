@@ -1,25 +1,17 @@
 -- `ordered_part` reads the word of the place.
-use mathlib.Core.Path.{refl}
+use Prim.Native.Nat.{ℕ, _%_}
+use mathlib.Core.Path.{ap}
 use Rattle.words_store.specs.ModelIn.{ordered-part}
 use borrow.Author.Needs.{needs}
 use Rattle.words_store.proofs.lookup.ordered_part.Statement.{statement}
 use Rattle.words_store.proofs.lookup.ordered_part.Tie as tie
 
-mul-k : tie.Need-mul-k
-mul-k c = search needs
-
-add-result : tie.Need-add-result
-add-result c = search needs
-
-mul-result : tie.Need-mul-result
-mul-result c = search needs
-
-shared-slice-read-result : tie.Need-shared-slice-read-result
-shared-slice-read-result c = search needs
+table-field-requires : tie.Need-table-field-requires
+table-field-requires c κs = search needs
 
 returns : tie.Need-returns
 unfolding ordered-part
-returns c = refl
+returns c = ap (λ (w : ℕ). w % 65536) (c .table-field .ensures)
 
 pub ordered-part-spec : {M : Type 1} → statement M
-ordered-part-spec = tie.close (tie.spec mul-k add-result mul-result shared-slice-read-result returns)
+ordered-part-spec = tie.close (tie.spec table-field-requires returns)

@@ -1,35 +1,20 @@
 -- `port0_at` reads the word of port 0.
+use mathlib.Core.Path.{_∙_, ap}
+use Rattle.words_codec.specs.Decoded.{decode-source}
 use Rattle.words_store.specs.ModelIn.{stored-component}
 use borrow.Author.Needs.{needs}
 use Rattle.words_store.proofs.lookup.port0_at.Statement.{statement}
 use Rattle.words_store.proofs.lookup.port0_at.Tie as tie
 
-mul-k : tie.Need-mul-k
-mul-k c = search needs
-
-add-decode-source : tie.Need-add-decode-source
-add-decode-source c = search needs
-
-mul-decode-source : tie.Need-mul-decode-source
-mul-decode-source c = search needs
-
-shared-slice-read-decode-source : tie.Need-shared-slice-read-decode-source
-shared-slice-read-decode-source c = search needs
+table-field-requires : tie.Need-table-field-requires
+table-field-requires c κs = search needs
 
 decode-source-requires : tie.Need-decode-source-requires
 decode-source-requires c κs = search needs
 
 returns : tie.Need-returns
 unfolding stored-component
-returns c = c .decode-source .ensures
+returns c = c .decode-source .ensures ∙ ap decode-source (c .before .table-field .ensures)
 
 pub port0-at-spec : {M : Type 1} → statement M
-port0-at-spec =
-    tie.close
-    (tie.spec
-    mul-k
-    add-decode-source
-    mul-decode-source
-    shared-slice-read-decode-source
-    decode-source-requires
-    returns)
+port0-at-spec = tie.close (tie.spec table-field-requires decode-source-requires returns)

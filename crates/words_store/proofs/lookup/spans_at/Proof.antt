@@ -1,4 +1,5 @@
--- `spans_at` reads one place after the other. The loop's invariant: the first j places are the definition's; the measure is how many are left.
+-- `spans_at` reads one place after the other. The loop's invariant: the first j places are the definition's; the
+-- measure is how many are left.
 use Prim.Native.Nat.{ℕ, _+_, _-_, _*_, _%_}
 use native.Mathlib.Omega.{arith}
 use mathlib.Core.Path.{refl}

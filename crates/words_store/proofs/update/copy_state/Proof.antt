@@ -1,4 +1,5 @@
--- `copy_state` copies one word of the state after the other. The invariant: the first i words are copied, and nothing else is changed. The measure is how many are left.
+-- `copy_state` copies one word of the state after the other. The invariant: the first i words are copied, and nothing
+-- else is changed. The measure is how many are left.
 use Prim.Native.Nat.{ℕ, _-_, _≤_, _<_}
 use native.Mathlib.Omega.{arith}
 use mathlib.Core.Path.{_≡_, subst}
@@ -20,7 +21,13 @@ within : (turn : tie.In-loop Inv-loop μ-loop) → turn .before .loop .i < lengt
 within turn =
     let head = turn .before in
     let sized = head .before in
-    omega (arith, sized .before .before .before .pre .1, sized .state-words .ensures, head .loop .inv .1 .size, turn .loop-test .taken)
+    omega (
+      arith,
+      sized .before .before .before .pre .1,
+      sized .state-words .ensures,
+      head .loop .inv .1 .size,
+      turn .loop-test .taken,
+    )
 
 state-words-requires : tie.Need-state-words-requires Inv-loop μ-loop
 state-words-requires c κs = search needs
@@ -50,8 +57,11 @@ loop-less c = search needs
 
 loop-again : tie.Need-loop-again Inv-loop μ-loop
 loop-again c =
-    let head = c .before .before in
-    (omega (arith, c .before .loop-test .taken), copied-more (head .loop .i) _ _ (head .loop .new) (head .loop .inv .1) (within (c .before)))
+    let head = c .before .before in (
+      omega (arith, c .before .loop-test .taken),
+      copied-more (head .loop .i) _ _ (head .loop .new) (head .loop .inv .1)
+          (within (c .before)),
+    )
 
 same-length : tie.Need-same-length Inv-loop μ-loop
 same-length c = c .before .loop .inv .1 .size
@@ -61,7 +71,8 @@ returns c =
     let loop = c .before .loop in
     let sized = c .before .before in
     let s = sized .before .before .before in
-    let done : loop .i ≡ state-words (s .args .parts) = omega (arith, c .loop-test .left, loop .inv .0, sized .state-words .ensures) in
+    let done : loop .i ≡ state-words (s .args .parts) =
+    omega (arith, c .loop-test .left, loop .inv .0, sized .state-words .ensures) in
     subst (λ (n : ℕ). Copied n (s .args .old .now) (s .args .new .now) (loop .new)) done (loop .inv .1)
 
 pub copy-state-spec : {M : Type 1} → statement M

@@ -21,7 +21,8 @@ returns c =
     let copies = c .before .before in
     let counts = copies .before .before in
     let s = counts .before .before .before .before in
-    subst (λ (n : ℕ). Copied (state-words n) (s .args .old .now) (s .args .new .now) (copies .copy-state .last .1 .1 .0)) (counts .parts-of .ensures)
+    subst (λ (n : ℕ). Copied (state-words n) (s .args .old .now) (s .args .new .now)
+    (copies .copy-state .last .1 .1 .0)) (counts .parts-of .ensures)
     (copies .copy-state .ensures)
 
 pub kept-in-spec : {M : Type 1} → statement M
