@@ -2,7 +2,7 @@
 -- of it. The first commits a step of 4, the last one of 0, where the output changes; between them a wanted step of 0
 -- is refused with 20, and a call with too few words with 25. So what `AnyRoomChain` and `LentChain` ask can be met,
 -- and what demand 3 asks of the words loaded. Assumes nothing.
-use Prim.Native.Nat.{ℕ, zero, suc, _+_, _-_, _*_, _≤_, _<_}
+use Prim.Native.Nat.{ℕ, zero, suc, _+_, _-_, _≤_, _<_}
 use native.Mathlib.Omega.{arith}
 use mathlib.Core.Path.{_≡_, refl, sym, subst, _∙_}
 use mathlib.Core.Bool.{true}
@@ -12,9 +12,10 @@ use lib.ListN.{replicate}
 use lib.Seq.{getD-drop}
 use Rattle.machine.proofs.Computing.{computing}
 use Rattle.machine.specs.Load.{load}
-use Rattle.machine.specs.Advance.{searched, barred}
+use Rattle.machine.specs.Advance.{barred}
 use Rattle.words_codec.specs.Words.{tabulate, decode-signed}
 use Rattle.words_codec.specs.Decoded.{decode-source, decode-side, decode-mark, decode-signal}
+use Rattle.words_store.specs.Layout.{in-state, signal-field, signal-value-field}
 use Rattle.words_store.specs.ModelIn.{slot, stored-spans, stored-component, stored-ratio, ordered-part, stored-state}
 use Rattle.words_store.specs.ModelIn.{stored-part, stored-point, model-in}
 use Rattle.words_store.specs.Form.{words-within, component-spelled, part-spelled, parts-spelled, spelled}
@@ -22,7 +23,7 @@ use Rattle.words_store.specs.Clean.{CleanOutput, CleanOrKept, CleanAfter}
 use Rattle.words_store.specs.Updated.{state-spelled, Copied, SameBehind}
 use Rattle.words_store.specs.StoreFrame.{behind-copied}
 use Rattle.machine.specs.declared.model.Outcome.{Outcome}
-use Rattle.advance_call.specs.Into.{lent-model, SearchedInto, outcome-into, CalledInto}
+use Rattle.advance_call.specs.Into.{lent-model, SearchedInto, AdvancedInto}
 use Rattle.advance_call.specs.IntoLaws.{barred-call, short-call, searched-call, spelled-call}
 use Rattle.advance_call.specs.EveryLent.{LentCall, next-state, LentChain}
 use Rattle.advance_call.specs.AnyRoom.{Promised, AnyRoomChain, WholeLentList, with-room, room-alone, every-room-list}
@@ -154,7 +155,7 @@ turned-form (suc j) low = absurd (omega arith)
 
 -- their free words are 0: the held signal is absent with the value 0, and the output is there
 held-clean : (t n v : ℕ) (os : List ℕ) (j : ℕ) → j < 1 →
-    CleanOrKept os (state-with t n v (7 ∷ [])) (9 * j + 5) (9 * j + 6)
+    CleanOrKept os (state-with t n v (7 ∷ [])) (in-state j signal-field) (in-state j signal-value-field)
 held-clean t n v os zero low = inl (λ absent. refl)
 held-clean t n v os (suc j) low = absurd (omega arith)
 
@@ -165,9 +166,9 @@ output-clean t n v (suc j) low = absurd (omega arith)
 written-clean : (t n v : ℕ) (os : List ℕ) → CleanAfter 1 os (state-with t n v (7 ∷ []))
 written-clean t n v os = record { signals = held-clean t n v os; outputs = output-clean t n v }
 
--- what the search promises of a call on the table that wants 9 and left the words b
+-- what the search promises of a call on the table that wants 9, by the new words that it left
 abbrev FoundIn : List ℕ → List ℕ → Outcome → Type 0
-FoundIn os b v = SearchedInto (searched (lent-model square-words os) 9) square-words os any-words b v
+FoundIn os new v = SearchedInto square-words os 9 any-words new v
 
 stepped-search : FoundIn at-start at-the-edge (stepped-call .result)
 unfolding words-computing
@@ -210,11 +211,11 @@ unwanted-barred = refl
 
 -- each call keeps what a call on words promises; one that commits does, where the search does
 committed-kept :
-    (os b : List ℕ) (v : Outcome) → spelled square-words os ≡ true → barred (lent-model square-words os) 9 ≡ 0 →
-    FoundIn os b v → CalledInto (outcome-into square-words os 9 12) square-words os any-words b v
-committed-kept os b v spells free found =
-    spelled-call square-words os any-words b 9 v spells
-    (searched-call square-words os any-words b 9 v spells free (omega arith) found)
+    (os new : List ℕ) (v : Outcome) → spelled square-words os ≡ true → barred (lent-model square-words os) 9 ≡ 0 →
+    FoundIn os new v → AdvancedInto square-words os 9 any-words new v
+committed-kept os new v spells free found =
+    spelled-call square-words os any-words new 9 v spells
+    (searched-call square-words os any-words new 9 v spells free (omega arith) found)
 
 pub stepped-kept : Promised square-words stepped-call
 stepped-kept = committed-kept at-start at-the-edge _ start-spelled start-free stepped-search

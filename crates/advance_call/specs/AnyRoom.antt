@@ -21,15 +21,13 @@ use Rattle.machine.specs.WholeList.{WholeList}
 use Rattle.laws.specs.Bools.{either, cond-true, cond-false}
 use Rattle.words_store.specs.ModelIn.{part-count, state-words, model-in}
 use Rattle.words_store.specs.Form.{spelled}
-use Rattle.advance_call.specs.Into.{lent-model, outcome-into, CalledInto}
+use Rattle.advance_call.specs.Into.{lent-model, outcome-into, AdvancedInto}
 use Rattle.advance_call.specs.IntoLaws.{with-barred, with-short}
 use Rattle.advance_call.specs.EveryLent.{LentCall, next-state, LentChain, machine-calls-of, spells-on, every-lent-list}
 
 -- a call keeps what a call on the words of the table ts promises
 abbrev pub Promised : List ℕ → LentCall → Type 0
-Promised ts c =
-    let room = length (c .before) in
-    CalledInto (outcome-into ts (c .state) (c .wanted) room) ts (c .state) (c .before) (c .after) (c .result)
+Promised ts c = AdvancedInto ts (c .state) (c .wanted) (c .before) (c .after) (c .result)
 
 -- a chain of calls on the table ts from the state s, with however many words lent for each new state
 abbrev pub AnyRoomChain : List ℕ → List ℕ → List LentCall → Type 0

@@ -9,7 +9,7 @@ use lib.Dec.{eqb}
 use lib.ListN.{length}
 use borrow.Author.Tests.{ne-eqb}
 use Rattle.machine.specs.declared.model.Model.{Model}
-use Rattle.machine.specs.Model.{trimmed, trimmed-answer}
+use Rattle.machine.specs.Model.{most-parts, trimmed, trimmed-answer}
 use Rattle.machine.specs.Step.{step-made}
 use Rattle.machine.specs.Advance.{barred, outcome, answer-with, advance}
 use Rattle.machine.specs.declared.model.Outcome.{Outcome}
@@ -26,7 +26,8 @@ use Rattle.advance_call.specs.Into.{outcome-into, CalledInto}
 use Rattle.advance_call.specs.IntoLaws.{into-machine}
 
 -- a model that says it has more parts than there are places is barred with 24
-pub many-answer : (m : Model) (w : ℕ) → 32 < m .count → length (m .parts) ≡ 32 → Advanced m w (answer-of m 24 0 0 0 0)
+pub many-answer :
+    (m : Model) (w : ℕ) → most-parts < m .count → length (m .parts) ≡ most-parts → Advanced m w (answer-of m 24 0 0 0 0)
 unfolding barred
 many-answer m w many full = barred-answer m w 24 (rw (unsound-many m many full) refl) (λ z. omega arith)
 

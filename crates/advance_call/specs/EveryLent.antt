@@ -1,6 +1,7 @@
--- Demand 3 of the calls on lent words. `advance_into` (src/lib.rt) promises `CalledInto` of its words and outcome for every argument; a chain of such calls
--- is given at each call the state that the last committed one wrote, and enough words for the next. Told of the models that the states mean, it is a chain of
--- the machine's calls, so that `whole-list` (wholelist's specs/Demand3.antt) speaks of it. Where the words spell a model, what `advance_sound_into`
+-- Demand 3 of the calls on lent words. `advance_into` (src/lib.rt) promises `AdvancedInto` of its words and outcome for
+-- every argument; a chain of such calls is given at each call the state that the last committed one wrote, and enough
+-- words for the next. Told of the models that the states mean, it is a chain of the machine's calls, so that
+-- `whole-list` (wholelist's specs/Demand3.antt) speaks of it. Where the words spell a model, what `advance_sound_into`
 -- promises is the same (`spelled-call`). Assumes nothing.
 use Prim.Native.Nat.{ℕ, _≤_}
 use mathlib.Core.Path.{_≡_, refl, sym, ap, ap₂, _∙_}
@@ -24,7 +25,7 @@ use Rattle.advance_lists.specs.Demand3.{whole-list}
 use Rattle.words_store.specs.ModelIn.{part-count, state-words, model-in}
 use Rattle.words_store.specs.Form.{spelled}
 use Rattle.words_store.specs.StoreFrame.{held-unused}
-use Rattle.advance_call.specs.Into.{lent-model, outcome-into, CalledInto}
+use Rattle.advance_call.specs.Into.{lent-model, AdvancedInto}
 use Rattle.advance_call.specs.IntoLaws.{into-machine}
 
 -- a call: the state that it was given, the wanted step, the words lent for the new state before it and after it, and its outcome
@@ -44,7 +45,7 @@ abbrev pub LentChain : List ℕ → List ℕ → List LentCall → Type 0
 LentChain ts s [] = Unit {0}
 LentChain ts s (c ∷ cs) =
     (c .state ≡ s) × (state-words (part-count ts) ≤ length (c .before)) ×
-    CalledInto (outcome-into ts (c .state) (c .wanted) (length (c .before))) ts (c .state) (c .before) (c .after) (c .result) ×
+    AdvancedInto ts (c .state) (c .wanted) (c .before) (c .after) (c .result) ×
     LentChain ts (next-state c) cs
 
 -- the machine's call that it is, and the list of those calls
@@ -74,7 +75,7 @@ module _
     (c : LentCall)
     (spells : spelled ts (c .state) ≡ true)
     (enough : state-words (part-count ts) ≤ length (c .before))
-    (called : CalledInto (outcome-into ts (c .state) (c .wanted) (length (c .before))) ts (c .state) (c .before) (c .after) (c .result)) where
+    (called : AdvancedInto ts (c .state) (c .wanted) (c .before) (c .after) (c .result)) where
   abbrev m : Model
   m = lent-model ts (c .state)
 

@@ -1,6 +1,6 @@
--- From the machine's answer to what a call on lent words promises: an answer of the search, told of the model that words mean, is what the search in
--- words owes; a call that is barred writes nothing; and where nothing bars it the search's promise is the call's. What the words lent for the new state held
--- before does not count. Assumes nothing.
+-- From the machine's answer to what a call on lent words promises: an answer of the search, told of the model that the
+-- words mean, is what the search in words owes; a call that is barred writes nothing; and where nothing bars it the
+-- search's promise is the call's. What the words lent for the new state held before does not count. Assumes nothing.
 use Prim.Native.Nat.{ℕ, _≤_, _<_}
 use native.Mathlib.Omega.{arith}
 use mathlib.Core.Path.{_≡_, refl, sym, ap, subst, _∙_}
@@ -22,25 +22,28 @@ use Rattle.advance_laws.specs.Outcomes.{outcome-barred, outcome-searched}
 use Rattle.words_store.specs.ModelIn.{slot, part-count, state-words, stored-point, model-in}
 use Rattle.words_store.specs.Form.{any-word, spelled}
 use Rattle.words_store.specs.Clean.{CleanAfter, SameState}
-use Rattle.words_store.specs.Updated.{state-spelled, SameBehind}
+use Rattle.words_store.specs.Updated.{SameBehind}
+use Rattle.step_parts.specs.StepInto.{StatesSpelled}
 use Rattle.words_store.specs.StoreFrame.{behind-none}
 use Rattle.words_store.specs.Respelled.{respelled}
 use Rattle.words_store.specs.Free.{SameButFree, same-count, same-meant, same-spelled}
 use Rattle.advance_call.specs.Searching.{Searched}
 use Rattle.advance_call.specs.Barring.{barred-by, barred-trimmed}
-use Rattle.advance_call.specs.Into.{lent-model, SearchedInto, unless-short, outcome-with, outcome-into, CalledInto}
+use Rattle.advance_call.specs.Into.{lent-model, SearchedInto, CalledInto, AdvancedInto, AdvancedSound}
+use Rattle.advance_call.specs.Into.{unless-short, outcome-with, outcome-into}
 
 -- an answer without its model
 abbrev pub ended : Answer → Outcome
 ended r = record { number = r .number; step = r .step; rounds = r .rounds; revisions = r .revisions; ceiling = r .ceiling }
 
--- an answer of the search whose model is the one that the words b mean
-pub searched-words : (ts os a b : List ℕ) (w : ℕ) (r : Answer) → Searched (model-in ts os) w r → 0 < r .rounds → trimmed (r .model) ≡ lent-model ts b →
-    ((j : ℕ) → j < part-count ts → state-spelled b j ≡ true) → SameBehind (part-count ts) a b →
-    (r .number ≡ 0 → CleanAfter (part-count ts) os b) → ((r .number ≡ 0 → ⊥) → SameState (part-count ts) os b) →
-    SearchedInto (searched (lent-model ts os) w) ts os a b (ended r)
+-- an answer of the search whose model is the one that the new words mean
+pub searched-words :
+    (ts os new₀ new₁ : List ℕ) (w : ℕ) (r : Answer) → Searched (model-in ts os) w r → 0 < r .rounds →
+    trimmed (r .model) ≡ lent-model ts new₁ → StatesSpelled ts new₁ → SameBehind (part-count ts) new₀ new₁ →
+    (r .number ≡ 0 → CleanAfter (part-count ts) os new₁) → ((r .number ≡ 0 → ⊥) → SameState (part-count ts) os new₁) →
+    SearchedInto ts os w new₀ new₁ (ended r)
 unfolding answer-with trimmed-answer
-searched-words ts os a b w r found asked holds form behind clean same =
+searched-words ts os new₀ new₁ w r found asked holds form behind clean same =
     record {
       ends = ap ended (found .machine);
       asked = asked;
@@ -72,51 +75,56 @@ with-searched ts os w room none enough =
     rw (eq-eqb (barred (lent-model ts os) w) 0 none, le-leb (state-words (part-count ts)) room enough) (outcome-searched (lent-model ts os) w none)
 
 -- a call that is barred writes nothing
-called-barred : (o : Outcome) (ts os a : List ℕ) (k : ℕ) → o ≡ barred-outcome k → (k ≡ 0 → ⊥) → CalledInto o ts os a a ((barred-outcome k))
-called-barred o ts os a k e other =
+called-barred :
+    (o : Outcome) (ts os new₀ : List ℕ) (k : ℕ) → o ≡ barred-outcome k → (k ≡ 0 → ⊥) →
+    CalledInto o ts os new₀ new₀ (barred-outcome k)
+called-barred o ts os new₀ k e other =
     record {
       ends = (sym e);
       barred = λ none. refl;
       asked = λ zero-number. absurd (other zero-number);
       next = λ some. absurd (omega arith);
       form = λ some. absurd (omega arith);
-      behind = behind-none (part-count ts) a;
+      behind = behind-none (part-count ts) new₀;
       clean = λ zero-number. absurd (other zero-number);
       same = λ some. absurd (omega arith);
     }
 
-pub barred-call : (ts os a : List ℕ) (w k : ℕ) → k ≡ barred (lent-model ts os) w → (k ≡ 0 → ⊥) →
-    CalledInto (outcome-with ts os w (length a)) ts os a a ((barred-outcome k))
-barred-call ts os a w k e other =
-    called-barred (outcome-with ts os w (length a)) ts os a k (with-barred ts os w (length a) k e other) other
+pub barred-call : (ts os new₀ : List ℕ) (w k : ℕ) → k ≡ barred (lent-model ts os) w → (k ≡ 0 → ⊥) →
+    AdvancedSound ts os w new₀ new₀ (barred-outcome k)
+barred-call ts os new₀ w k e other =
+    called-barred (outcome-with ts os w (length new₀)) ts os new₀ k (with-barred ts os w (length new₀) k e other) other
 
-pub short-call : (ts os a : List ℕ) (w : ℕ) → barred (lent-model ts os) w ≡ 0 → length a < state-words (part-count ts) →
-    CalledInto (outcome-with ts os w (length a)) ts os a a ((barred-outcome 25))
-short-call ts os a w none short =
-    called-barred (outcome-with ts os w (length a)) ts os a 25 (with-short ts os w (length a) none short) (λ z. omega arith)
+pub short-call :
+    (ts os new₀ : List ℕ) (w : ℕ) → barred (lent-model ts os) w ≡ 0 → length new₀ < state-words (part-count ts) →
+    AdvancedSound ts os w new₀ new₀ (barred-outcome 25)
+short-call ts os new₀ w none short =
+    called-barred (outcome-with ts os w (length new₀)) ts os new₀ 25 (with-short ts os w (length new₀) none short)
+    (λ z. omega arith)
 
 -- a call that nothing bars is the search
-pub searched-call : (ts os a b : List ℕ) (w : ℕ) (r : Outcome) → spelled ts os ≡ true → barred (lent-model ts os) w ≡ 0 →
-    state-words (part-count ts) ≤ length a → SearchedInto (searched (lent-model ts os) w) ts os a b r →
-    CalledInto (outcome-with ts os w (length a)) ts os a b r
-searched-call ts os a b w r spells none enough found =
-    let same = with-searched ts os w (length a) none enough in
+pub searched-call :
+    (ts os new₀ new₁ : List ℕ) (w : ℕ) (r : Outcome) → spelled ts os ≡ true → barred (lent-model ts os) w ≡ 0 →
+    state-words (part-count ts) ≤ length new₀ → SearchedInto ts os w new₀ new₁ r → AdvancedSound ts os w new₀ new₁ r
+searched-call ts os new₀ new₁ w r spells none enough found =
+    let same = with-searched ts os w (length new₀) none enough in
     record {
       ends = found .ends ∙ (sym same);
       barred = λ no-round. absurd (omega (arith, found .asked));
       asked = λ zero-number. found .asked;
       next = λ some. found .next ∙ ap (λ (o : Outcome). answer-with (lent-model ts os) o .model) (sym same);
-      form = λ some. respelled ts os b spells (omega (arith, enough, found .behind .size)) (found .form);
+      form = λ some. respelled ts os new₁ spells (omega (arith, enough, found .behind .size)) (found .form);
       behind = found .behind;
       clean = found .clean;
       same = λ some. found .same;
     }
 
 -- a call whose words are found to spell a sound model, and one whose words are not
-pub spelled-call : (ts os a b : List ℕ) (w : ℕ) (r : Outcome) → spelled ts os ≡ true → CalledInto (outcome-with ts os w (length a)) ts os a b r →
-    CalledInto (outcome-into ts os w (length a)) ts os a b r
+pub spelled-call :
+    (ts os new₀ new₁ : List ℕ) (w : ℕ) (r : Outcome) → spelled ts os ≡ true → AdvancedSound ts os w new₀ new₁ r →
+    AdvancedInto ts os w new₀ new₁ r
 unfolding outcome-into
-spelled-call ts os a b w r spells called = rw spells called
+spelled-call ts os new₀ new₁ w r spells called = rw spells called
 
 unsound-outcome : (ts os : List ℕ) (w room : ℕ) → (spelled ts os ≡ false) ⊎ (sound (lent-model ts os) ≡ false) → (spelled ts os ≡ true) ⊎ (spelled ts os ≡ false) →
     outcome-into ts os w room ≡ barred-outcome 24
@@ -126,11 +134,12 @@ unsound-outcome ts os w room (inr unsound) (inl spells) =
     rw spells (with-barred ts os w room 24 (rw unsound refl) (λ z. omega arith))
 unsound-outcome ts os w room (inr unsound) (inr none) = rw none refl
 
-pub unsound-call : (ts os a : List ℕ) (w : ℕ) → spelled ts os && sound (lent-model ts os) ≡ false →
-    CalledInto (outcome-into ts os w (length a)) ts os a a ((barred-outcome 24))
-unsound-call ts os a w fails =
-    called-barred (outcome-into ts os w (length a)) ts os a 24
-    (unsound-outcome ts os w (length a) (and-false-cases (spelled ts os) (sound (lent-model ts os)) fails) (either (spelled ts os)))
+pub unsound-call : (ts os new₀ : List ℕ) (w : ℕ) → spelled ts os && sound (lent-model ts os) ≡ false →
+    AdvancedInto ts os w new₀ new₀ (barred-outcome 24)
+unsound-call ts os new₀ w fails =
+    called-barred (outcome-into ts os w (length new₀)) ts os new₀ 24
+    (unsound-outcome ts os w (length new₀) (and-false-cases (spelled ts os) (sound (lent-model ts os)) fails)
+    (either (spelled ts os)))
     (λ z. omega arith)
 
 -- the number that bars a call of a sound model, by the point that was read
@@ -151,12 +160,14 @@ unfolding outcome-into outcome-with unless-short
 into-machine ts os w room spells enough =
     rw (spells, le-leb (state-words (part-count ts)) room enough, and-not-true (eqb (barred (lent-model ts os) w) 0)) refl
 
--- request 6, "Each call keeps its answers, whatever outputs those records held before": two calls on the same words, with as many lent for the new state, end alike
--- whatever those held, and where a round was made the new states mean the same model
+-- request 6, "Each call keeps its answers, whatever outputs those records held before": two calls on the same words,
+-- with as many lent for the new state, end alike whatever those held, and where a round was made the new states mean
+-- the same model
 pub called-anyway :
-    (ts os : List ℕ) (w : ℕ) (a b a′ b′ : List ℕ) (r r′ : Outcome) → length a ≡ length a′ → CalledInto (outcome-into ts os w (length a)) ts os a b r →
-    CalledInto (outcome-into ts os w (length a′)) ts os a′ b′ r′ → (r ≡ r′) × (0 < r .rounds → lent-model ts b ≡ lent-model ts b′)
-called-anyway ts os w a b a′ b′ r r′ e one other =
+    (ts os : List ℕ) (w : ℕ) (new₀ new₁ new₀′ new₁′ : List ℕ) (r r′ : Outcome) → length new₀ ≡ length new₀′ →
+    AdvancedInto ts os w new₀ new₁ r → AdvancedInto ts os w new₀′ new₁′ r′ →
+    (r ≡ r′) × (0 < r .rounds → lent-model ts new₁ ≡ lent-model ts new₁′)
+called-anyway ts os w new₀ new₁ new₀′ new₁′ r r′ e one other =
     let o : ℕ → Outcome = outcome-into ts os w in
     let ends : r ≡ r′ = one .ends ∙ ap (λ (n : ℕ). (o n)) e ∙ sym (other .ends) in (
       ends,

@@ -5,6 +5,9 @@
 use crate::past::leads_past;
 use machine::time::Point;
 use machine::time::Ticks;
+use refusals::NOT_SOUND;
+use refusals::PAST_LAST_TICK;
+use refusals::WANTED_OUT_OF_RANGE;
 use refusals::first_of;
 use refusals::refusal;
 ghost use mathlib.Core.Path.{_≡_};
@@ -29,8 +32,8 @@ fn may_be_wanted(w: u64) -> bool
 pub(crate) fn barred_number(sound: bool, now: Point, w: u64) -> u64
     ensures { λ r. ⌜ r ≡ barred-by sound (tick now) w ⌝ }
 {
-    let unsound = refusal(!sound, 24);
-    let range = refusal(!may_be_wanted(w), 20);
-    let time = refusal(leads_past(now, Ticks(w)), 23);
+    let unsound = refusal(!sound, NOT_SOUND);
+    let range = refusal(!may_be_wanted(w), WANTED_OUT_OF_RANGE);
+    let time = refusal(leads_past(now, Ticks(w)), PAST_LAST_TICK);
     first_of(unsound, first_of(range, time))
 }

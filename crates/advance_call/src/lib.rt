@@ -7,6 +7,8 @@ use machine::model::Answer;
 use machine::model::Model;
 use machine::model::Outcome;
 use machine::model::PARTS;
+use refusals::NOT_SOUND;
+use refusals::TOO_SHORT;
 use sound_test::is_sound_in;
 use words_store::lookup::STATE_ROOM;
 use words_store::lookup::TABLE_ROOM;
@@ -17,12 +19,11 @@ use words_transfer::intake::put_fitting;
 use words_transfer::recall::recalled;
 ghost use mathlib.Core.Path.{_≡_};
 ghost use mathlib.Core.Bool.{true};
-ghost use lib.ListN.{length};
 ghost use Rattle.machine.specs.Sound.{sound};
 ghost use Rattle.machine.specs.Advance.{barred-outcome};
 ghost use Rattle.machine.specs.Calls.{Advanced};
 ghost use Rattle.words_store.specs.Form.{spelled};
-ghost use Rattle.advance_call.specs.Into.{CalledInto, lent-model, outcome-into, outcome-with};
+ghost use Rattle.advance_call.specs.Into.{AdvancedInto, AdvancedSound, lent-model};
 
 mod barring;
 mod past;
@@ -76,9 +77,9 @@ pub fn advance(m: Model, w: u64) -> Answer
     }
 }
 
-// The ended on a call that a number bars: counts of 0.
+// How a call ends that a number bars: counts of 0.
 fn barred_outcome(number: u64) -> Outcome
-    ensures { λ r. ⌜ r ≡ (barred-outcome number) ⌝ }
+    ensures { λ r. ⌜ r ≡ barred-outcome number ⌝ }
 {
     Outcome {
         number: number,
@@ -89,13 +90,13 @@ fn barred_outcome(number: u64) -> Outcome
     }
 }
 
-// One advance on lent words, of a state that the caller's proof knows to spell a sound model: the tests 20, 23 and 25 in that
-// order, then the search. The words of the table and of the old state are kept, as their types say; those of the new one
-// are kept where the call is barred, and hold the answer's state where it is not. No model is copied.
+// One advance on lent words, of a state that the caller's proof knows to spell a sound model: the tests 20, 23 and 25
+// in that order, then the search. The words of the table and of the old state are kept, as their types say; those of
+// the new one are kept where the call is barred, and hold the answer's state where it is not. No model is copied.
 pub fn advance_sound_into(table: &[u64], old: &[u64], w: u64, new: &mut [u64]) -> Outcome
     requires { ⌜ spelled (now table) (now old) ≡ true ⌝ }
     requires { ⌜ sound (lent-model (now table) (now old)) ≡ true ⌝ }
-    ensures { λ r. ⌜ CalledInto (outcome-with (now (table .entry)) (now (old .entry)) w (length (now (new .entry)))) (now (table .entry)) (now (old .entry)) (now (new .entry)) (now (new .exit)) r ⌝ }
+    ensures { λ r. ⌜ AdvancedSound (now (table .entry)) (now (old .entry)) w (now (new .entry)) (now (new .exit)) r ⌝ }
 {
     let now = point_of(old);
     let number = barred_number(true, now, w);
@@ -104,17 +105,17 @@ pub fn advance_sound_into(table: &[u64], old: &[u64], w: u64, new: &mut [u64]) -
     }
     let count = parts_of(table);
     if new.len() < state_words(count) {
-        return barred_outcome(25);
+        return barred_outcome(TOO_SHORT);
     }
     searched_into(table, old, w, new)
 }
 
 // One advance on lent words, whatever they are: 24 where they spell no sound model, then as `advance_sound_into`.
 pub fn advance_into(table: &[u64], old: &[u64], w: u64, new: &mut [u64]) -> Outcome
-    ensures { λ r. ⌜ CalledInto (outcome-into (now (table .entry)) (now (old .entry)) w (length (now (new .entry)))) (now (table .entry)) (now (old .entry)) (now (new .entry)) (now (new .exit)) r ⌝ }
+    ensures { λ r. ⌜ AdvancedInto (now (table .entry)) (now (old .entry)) w (now (new .entry)) (now (new .exit)) r ⌝ }
 {
     if !is_sound_in(table, old) {
-        return barred_outcome(24);
+        return barred_outcome(NOT_SOUND);
     }
     advance_sound_into(table, old, w, new)
 }

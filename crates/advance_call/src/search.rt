@@ -1,12 +1,15 @@
 // The search for the step of one advance on lent words, of a sound model.
 //
-// Its contracts cite this crate's `specs/Into.antt` and `specs/Searching.antt`, which go by `machine`'s `specs/Advance.antt`.
+// Its contracts cite this crate's `specs/Into.antt` and `specs/Searching.antt`, which go by `machine`'s
+// `specs/Advance.antt`, and `steps`'s `specs/StepInto.antt`.
 use crate::past::leads_past;
 use ask_parts::dues::any_due_in;
 use ask_parts::rounds::least_in;
 use ask_parts::trials::any_objects_in;
 use machine::model::Outcome;
 use machine::time::Ticks;
+use refusals::DUE_AT_LAST_MICROSTEP;
+use refusals::NO_STEP_ACCEPTED;
 use step_parts::settling::settled_into;
 use step_parts::step::trial_into;
 use words_store::lookup::point_of;
@@ -14,12 +17,9 @@ use words_store::update::kept_in;
 ghost use mathlib.Core.Path.{_≡_};
 ghost use mathlib.Core.Bool.{true};
 ghost use lib.Dec.{eqb};
-ghost use Prim.Native.Nat.{ℕ, _+_, _≤_, _<_};
-ghost use Rattle.machine.specs.Time.{last-tick, tick};
 ghost use Rattle.machine.specs.Sound.{sound};
-ghost use Rattle.machine.specs.Advance.{searched};
-ghost use Rattle.words_store.specs.ModelIn.{WordsThere, model-in, part-count};
-ghost use Rattle.words_store.specs.Updated.{state-spelled};
+ghost use Rattle.words_store.specs.ModelIn.{WordsThere};
+ghost use Rattle.step_parts.specs.StepInto.{Steppable};
 ghost use Rattle.advance_call.specs.Into.{SearchedInto, lent-model};
 ghost use Rattle.advance_call.specs.Searching.{refusal};
 
@@ -35,11 +35,11 @@ fn refusal_in(table: &[u64], state: &[u64], h: Ticks) -> u64
     if any_due_in(table, state) {
         let now = point_of(state);
         if leads_past(now, Ticks(0)) {
-            return 21;
+            return DUE_AT_LAST_MICROSTEP;
         }
         return 0;
     }
-    22
+    NO_STEP_ACCEPTED
 }
 
 // Whether a round at `h` that came to `least` changed nothing.
@@ -49,17 +49,13 @@ fn changed_nothing(least: Ticks, h: Ticks) -> bool
     least.0 == h.0
 }
 
-// How a call ends that nothing bars, its state left in `new`: rounds lower h under a ceiling until one changes nothing; the
-// step is then refused, or made on trial in `new`, and an objection to the trial halves the ceiling. A trial is settled where it is
-// taken up, and written over where it is dropped. Within the search, h and the ceiling are plain numbers; h counts ticks where parts are asked and a step is made.
+// How a call ends that nothing bars, its state left in `new`: rounds lower h under a ceiling until one changes nothing;
+// the step is then refused, or made on trial in `new`, and an objection to the trial halves the ceiling. A trial is
+// settled where it is taken up, and written over where it is dropped. Within the search, h and the ceiling are plain
+// numbers; h counts ticks where parts are asked and a step is made.
 pub(crate) fn searched_into(table: &[u64], old: &[u64], w: u64, new: &mut [u64]) -> Outcome
-    requires { ⌜ WordsThere (now table) (now old) ⌝ }
-    requires { ⌜ WordsThere (now table) (now new) ⌝ }
-    requires { ⌜ sound (lent-model (now table) (now old)) ≡ true ⌝ }
-    requires { ⌜ w ≤ 1_000_000_000 ⌝ }
-    requires { ⌜ tick (model-in (now table) (now old) .point) + w ≤ last-tick ⌝ }
-    requires { ⌜ ((j : ℕ) → j < part-count (now table) → state-spelled (now old) j ≡ true) ⌝ }
-    ensures { λ r. ⌜ SearchedInto (searched (lent-model (now (table .entry)) (now (old .entry))) w) (now (table .entry)) (now (old .entry)) (now (new .entry)) (now (new .exit)) r ⌝ }
+    requires { ⌜ Steppable (now table) (now old) (now new) w ⌝ }
+    ensures { λ r. ⌜ SearchedInto (now (table .entry)) (now (old .entry)) w (now (new .entry)) (now (new .exit)) r ⌝ }
 {
     let mut ceiling = w;
     let mut h = w;

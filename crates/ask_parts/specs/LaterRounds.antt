@@ -14,9 +14,9 @@ use Rattle.machine.specs.Model.{part-at, reading0, trimmed, trimmed-part}
 use Rattle.machine.specs.Accept.{Class, waiting, delaying, detecting, driving, free, class, class-of, longest-as}
 use Rattle.machine.specs.Advance.{least}
 use Rattle.ask_laws.specs.Agreed.{Agreed, least-agreed, longest-driven}
-use Rattle.words_store.specs.ModelIn.{part-count, stored-component, stored-part, stored-point, model-in}
+use Rattle.words_store.specs.ModelIn.{part-count, stored-component, stored-point, model-in}
 use Rattle.step_parts.specs.LentReading.{lent-many, lent-kind}
-use Rattle.ask_parts.specs.LentAsked.{parts-from, part-here}
+use Rattle.ask_parts.specs.LentAsked.{PartAsked, parts-from, part-here}
 
 -- the class of drives
 abbrev is-driving : Class → Bool
@@ -50,21 +50,23 @@ module _ (ts ss : List ℕ) (i : ℕ) (low : i < part-count ts) (kind : Kind) (o
   class-here = ap class (lent-kind ts ss i low ∙ sym of)
 
   -- a part that is no drive is passed over
-  pub later-passes : (h best : ℕ) → best ≤ h → drives kind ≡ false → Agreed m h → least m h best (drop i (m .parts)) ≡ least m h best (drop (i + 1) (m .parts))
+  pub later-passes :
+      (h best : ℕ) → best ≤ h → drives kind ≡ false → Agreed m h →
+      least m h best (drop i (m .parts)) ≡ least m h best (drop (i + 1) (m .parts))
   later-passes h best few none agreed =
       let accepts = agreed i (rw (lent-many ts ss) low) (λ e. undriven (class kind) none (sym class-here ∙ e)) in
       ap (least m h best) (parts-from ts ss i low) ∙ least-agreed m h best (part-at (m .parts) i) (drop (i + 1) (m .parts)) few accepts
 
   -- a drive's longest step is taken in
   pub later-drive :
-      (p : Part) (now : Point) (h best y : ℕ) → p ≡ stored-part ts ss i → now ≡ stored-point ss → drives kind ≡ true →
+      (p : Part) → PartAsked ts ss i p → (now : Point) (h best y : ℕ) → now ≡ stored-point ss → drives kind ≡ true →
       y ≡ longest-as driving (trimmed-part p) (tick now) h →
       least m h best (drop i (m .parts)) ≡ least m h (min best y) (drop (i + 1) (m .parts))
   unfolding least trimmed model-in
-  later-drive p now h best y is at some e =
+  later-drive p asked now h best y at some e =
       let q = part-at (m .parts) i in
       let longest-here =
       longest-driven q (m .point) (reading0 (m .parts) q) h (class-here ∙ driven (class kind) some) ∙
-      ap (λ (r : Part). longest-as driving r (tick (stored-point ss)) h) (part-here ts ss i low p is) ∙
+      ap (λ (r : Part). longest-as driving r (tick (stored-point ss)) h) (part-here asked) ∙
       ap (λ (n : Point). longest-as driving (trimmed-part p) (tick n) h) (sym at) ∙ sym e in
       ap (least m h best) (parts-from ts ss i low) ∙ ap (λ (z : ℕ). least m h (min best z) (drop (i + 1) (m .parts))) longest-here

@@ -2,9 +2,7 @@
 //
 // Its contract cites `machine`'s `specs/Advance.antt` and `store`'s `specs/ModelIn.antt`.
 use ask_part::due::due_of;
-use step_parts::heard::heard_of;
-use step_parts::heard::source_index;
-use words_store::lookup::output_at;
+use step_parts::heard::heard_at;
 use words_store::lookup::part_at;
 use words_store::lookup::parts_of;
 use words_store::lookup::point_of;
@@ -28,9 +26,7 @@ pub fn any_due_in(table: &[u64], state: &[u64]) -> bool
         let p = part_at(table, state, i);
         let c = p.component;
         let s = c.port0;
-        let k = source_index(s);
-        let out = output_at(state, k);
-        let x = heard_of(s, out);
+        let x = heard_at(state, s);
         if due_of(p, now, x) {
             return true;
         }

@@ -1,26 +1,23 @@
 // A round of all parts of a model in words: the least of their longest steps.
 //
-// Its contracts cite `machine`'s `specs/Advance.antt`, `acceptance`'s `specs/Agreed.antt` and `store`'s `specs/ModelIn.antt`.
+// Its contracts cite `machine`'s `specs/Advance.antt`, `acceptance`'s `specs/Agreed.antt`, `store`'s
+// `specs/ModelIn.antt` and this crate's `specs/Askable.antt`.
 use ask_part::longest::longest_of;
 use ask_part::longest::longest_of_drive;
 use machine::part::Kind;
 use machine::time::Ticks;
-use step_parts::heard::heard_of;
-use step_parts::heard::source_index;
+use step_parts::heard::heard_at;
 use words_store::lookup::kind_at;
-use words_store::lookup::output_at;
 use words_store::lookup::part_at;
 use words_store::lookup::parts_of;
 use words_store::lookup::point_of;
 ghost use mathlib.Core.Path.{_≡_};
-ghost use mathlib.Core.Bool.{true};
-ghost use Prim.Native.Nat.{_+_, _≤_, _<_, min};
-ghost use Rattle.machine.specs.Time.{last-tick, tick};
+ghost use Prim.Native.Nat.{_<_, min};
 ghost use Rattle.machine.specs.Model.{trimmed};
-ghost use Rattle.machine.specs.Sound.{sound};
 ghost use Rattle.machine.specs.Advance.{round};
 ghost use Rattle.ask_laws.specs.Agreed.{Agreed};
-ghost use Rattle.words_store.specs.ModelIn.{WordsThere, model-in};
+ghost use Rattle.words_store.specs.ModelIn.{model-in};
+ghost use Rattle.ask_parts.specs.Askable.{Askable};
 ghost use Rattle.ask_parts.specs.LaterRounds.{drives};
 
 // The smaller of two steps.
@@ -35,9 +32,7 @@ fn smaller(a: Ticks, b: Ticks) -> Ticks
 
 // A round at `h`: the least of the longest steps of at most `h` that the parts accept.
 fn round_in(table: &[u64], state: &[u64], h: Ticks) -> Ticks
-    requires { ⌜ WordsThere (now table) (now state) ⌝ }
-    requires { ⌜ sound (trimmed (model-in (now table) (now state))) ≡ true ⌝ }
-    requires { ⌜ tick (model-in (now table) (now state) .point) + h .0 ≤ last-tick ⌝ }
+    requires { ⌜ Askable (now table) (now state) (h .0) ⌝ }
     ensures { λ r. ⌜ r .0 ≡ round (trimmed (model-in (now (table .entry)) (now (state .entry)))) (h .0) ⌝ }
 {
     let count = parts_of(table);
@@ -48,9 +43,7 @@ fn round_in(table: &[u64], state: &[u64], h: Ticks) -> Ticks
         let p = part_at(table, state, i);
         let c = p.component;
         let s = c.port0;
-        let k = source_index(s);
-        let out = output_at(state, k);
-        let x = heard_of(s, out);
+        let x = heard_at(state, s);
         let accepted = longest_of(p, now, x, h);
         best = smaller(best, accepted);
         i += 1;
@@ -81,9 +74,7 @@ fn drives(k: Kind) -> bool
 
 // A round at `h`, where every part that is no drive accepts `h`: the drives alone are asked.
 fn drives_in(table: &[u64], state: &[u64], h: Ticks) -> Ticks
-    requires { ⌜ WordsThere (now table) (now state) ⌝ }
-    requires { ⌜ sound (trimmed (model-in (now table) (now state))) ≡ true ⌝ }
-    requires { ⌜ tick (model-in (now table) (now state) .point) + h .0 ≤ last-tick ⌝ }
+    requires { ⌜ Askable (now table) (now state) (h .0) ⌝ }
     requires { ⌜ Agreed (trimmed (model-in (now table) (now state))) (h .0) ⌝ }
     ensures { λ r. ⌜ r .0 ≡ round (trimmed (model-in (now (table .entry)) (now (state .entry)))) (h .0) ⌝ }
 {
@@ -106,12 +97,10 @@ fn drives_in(table: &[u64], state: &[u64], h: Ticks) -> Ticks
     best
 }
 
-// A round at `h`, with `rounds` of the same advance before it: the first asks every part, and each behind it the drives alone, since
-// the other parts accept every step up to the longest that they accepted.
+// A round at `h`, with `rounds` of the same advance before it: the first asks every part, and each after it the drives
+// alone, since the other parts accept every step up to the longest that they accepted.
 pub fn least_in(table: &[u64], state: &[u64], h: Ticks, rounds: u64) -> Ticks
-    requires { ⌜ WordsThere (now table) (now state) ⌝ }
-    requires { ⌜ sound (trimmed (model-in (now table) (now state))) ≡ true ⌝ }
-    requires { ⌜ tick (model-in (now table) (now state) .point) + h .0 ≤ last-tick ⌝ }
+    requires { ⌜ Askable (now table) (now state) (h .0) ⌝ }
     requires { ⌜ (0 < rounds → Agreed (trimmed (model-in (now table) (now state))) (h .0)) ⌝ }
     ensures { λ r. ⌜ r .0 ≡ round (trimmed (model-in (now (table .entry)) (now (state .entry)))) (h .0) ⌝ }
 {

@@ -5,10 +5,8 @@ use ask_part::objection::objects_of;
 use machine::part::Kind;
 use machine::time::Ticks;
 use step_part::change::settled_part;
-use step_parts::heard::heard_of;
-use step_parts::heard::source_index;
+use step_parts::heard::heard_at;
 use words_store::lookup::kind_at;
-use words_store::lookup::output_at;
 use words_store::lookup::part_at;
 use words_store::lookup::parts_of;
 ghost use mathlib.Core.Path.{_≡_};
@@ -56,9 +54,7 @@ pub fn any_objects_in(table: &[u64], h: Ticks, trial: &[u64]) -> bool
         let p = part_at(table, trial, i);
         let c = p.component;
         let s = c.port0;
-        let k = source_index(s);
-        let out = output_at(trial, k);
-        let x = heard_of(s, out);
+        let x = heard_at(trial, s);
         let settled = settled_part(p, x);
         if objects_of(settled, h) {
             return true;

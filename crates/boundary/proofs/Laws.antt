@@ -19,7 +19,7 @@ use Rattle.write_bytes.specs.Fitting.{nothing-written}
 use Rattle.words_transfer.specs.ModelPut.{KeptBehind}
 use Rattle.words_transfer.specs.PutInto.{put-number, PutInto}
 use Rattle.load_call.specs.LoadOwed.{accepted-is-a-table}
-use Rattle.advance_call.specs.Into.{outcome-into, CalledInto}
+use Rattle.advance_call.specs.Into.{outcome-into, AdvancedInto}
 use Rattle.preview_call.specs.PreviewedInto.{PreviewedInto}
 use Rattle.sheet_call.specs.SheetInto.{SheetInto}
 use Rattle.boundary.specs.PutFront.{put-front}
@@ -111,13 +111,13 @@ module _ (table old : List ℕ) (w : ℕ) (new₀ new₁ out₀ out₁ : List �
   abbrev due : Outcome
   due = outcome-into table old w (length new₀)
 
-  pub advanced-words : CalledInto due table old new₀ new₁ v → out₁ ≡ put-front (outcome-words v) out₀ →
+  pub advanced-words : AdvancedInto table old w new₀ new₁ v → out₁ ≡ put-front (outcome-words v) out₀ →
       AdvancedWords table old w new₀ new₁ out₀ out₁ (v .number)
   advanced-words found written =
       record {
         is = ap (λ (x : Outcome). x .number) (found .ends);
         answer = ended-words out₀ out₁ v due (found .ends) written;
-        called = subst (CalledInto due table old new₀ new₁) (found .ends) found;
+        called = subst (AdvancedInto table old w new₀ new₁) (found .ends) found;
       }
 
   pub previewed-words : PreviewedInto table old w new₀ new₁ v → out₁ ≡ put-front (outcome-words v) out₀ →

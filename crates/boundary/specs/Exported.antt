@@ -18,7 +18,7 @@ use Rattle.words_store.specs.ModelIn.{slot, table-words, state-words}
 use Rattle.words_store.specs.Form.{spelled}
 use Rattle.words_store.specs.Clean.{CleanWords}
 use Rattle.words_transfer.specs.ModelPut.{KeptBehind, ModelPut}
-use Rattle.advance_call.specs.Into.{lent-model, outcome-into, CalledInto}
+use Rattle.advance_call.specs.Into.{lent-model, outcome-into, AdvancedInto}
 use Rattle.preview_call.specs.PreviewedInto.{PreviewedInto}
 use Rattle.save_call.specs.SavedInto.{lent-refusal}
 use Rattle.sheet_call.specs.SheetInto.{outcome-answer, lent-sheet-refusal}
@@ -67,15 +67,13 @@ outcome-words o = o .number ∷ o .step ∷ o .rounds ∷ o .revisions ∷ o .ce
 pub record AdvancedWords (table old : List ℕ) (w : ℕ) (new₀ new₁ out₀ out₁ : List ℕ) (number : ℕ) : Type 0 where
   pub is : number ≡ outcome-into table old w (length new₀) .number
   pub answer : out₁ ≡ put-front (outcome-words (outcome-into table old w (length new₀))) out₀
-  pub called :
-      let ends = outcome-into table old w (length new₀) in
-      CalledInto ends table old new₀ new₁ (ends)
+  pub called : AdvancedInto table old w new₀ new₁ (outcome-into table old w (length new₀))
 
 -- The same of a preview by at most w, but for what it leaves in the words of the new state.
 pub record PreviewedWords (table old : List ℕ) (w : ℕ) (new₀ new₁ out₀ out₁ : List ℕ) (number : ℕ) : Type 0 where
   pub is : number ≡ outcome-into table old w (length new₀) .number
   pub answer : out₁ ≡ put-front (outcome-words (outcome-into table old w (length new₀))) out₀
-  pub previewed : PreviewedInto table old w new₀ new₁ ((outcome-into table old w (length new₀)))
+  pub previewed : PreviewedInto table old w new₀ new₁ (outcome-into table old w (length new₀))
 
 -- A call that writes bytes: a buffer, the words of the answer, and the call's number; `refusal` is what its own tests
 -- come to, and `bytes` what it has to write. The number and the length are those of every writing call, and are put in

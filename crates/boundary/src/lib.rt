@@ -11,6 +11,7 @@ use machine::model::Model;
 use machine::model::Outcome;
 use machine::model::Written;
 use preview_call::preview_into;
+use refusals::NOT_SOUND;
 use save_call::save;
 use sheet_call::sheet;
 use words_transfer::intake::put_model;
@@ -18,12 +19,10 @@ ghost use mathlib.Core.Path.{_≡_};
 ghost use mathlib.Core.List.{[], _∷_};
 ghost use Prim.Native.Nat.{_≤_};
 ghost use lib.ListN.{length, set};
+ghost use Rattle.machine.specs.Model.{most-parts};
 ghost use Rattle.boundary.specs.PutFront.{put-front};
 ghost use Rattle.boundary.specs.Exported.{AdvancedWords, LoadedWords, PreviewedWords, PrintedInto, PrintedWords};
 ghost use Rattle.boundary.specs.Exported.{SavedWords, TakenIn, outcome-lent};
-
-// The number of a call whose words spell nothing.
-const UNSPELLED: u64 = 24;
 
 // How many words spell how a call ended.
 const OUTCOME: usize = 5;
@@ -74,7 +73,7 @@ fn outcome_in(outcome: &[u64]) -> Outcome
 // A model that was loaded with a number, put into the words where it was accepted and they have room for it. The number
 // that the call then has.
 fn take_in(model: Model, number: u64, table: &mut [u64], state: &mut [u64]) -> u64
-    requires { ⌜ (number ≡ 0 → model .count ≤ 32) ⌝ }
+    requires { ⌜ (number ≡ 0 → model .count ≤ most-parts) ⌝ }
     ensures { λ n. ⌜ TakenIn model number
         (now (table .entry)) (now (table .exit))
         (now (state .entry)) (now (state .exit)) n ⌝ }
@@ -199,7 +198,7 @@ fn print_words(
 {
     if outcome.len() < OUTCOME {
         return Written {
-            number: UNSPELLED,
+            number: NOT_SOUND,
             length: 0,
         };
     }

@@ -15,7 +15,7 @@ use Rattle.machine.specs.WholeList.{WholeList}
 use Rattle.laws.specs.Bools.{either, and-intro}
 use Rattle.words_store.specs.ModelIn.{part-count, state-words, model-in}
 use Rattle.words_store.specs.Form.{spelled}
-use Rattle.advance_call.specs.Into.{lent-model, outcome-into, CalledInto}
+use Rattle.advance_call.specs.Into.{lent-model, AdvancedInto}
 use Rattle.advance_call.specs.EveryLent.{LentCall, next-state, LentChain, machine-calls-of, spells-on, every-lent-list}
 use Rattle.preview_call.specs.PreviewedInto.{shows, told, PreviewedInto}
 
@@ -29,7 +29,7 @@ abbrev pub LentMixed : List ℕ → List ℕ → List AnyLentCall → Type 0
 LentMixed ts s [] = Unit {0}
 LentMixed ts s (LentAdvance c ∷ cs) =
     (c .state ≡ s) × (state-words (part-count ts) ≤ length (c .before)) ×
-    CalledInto (outcome-into ts (c .state) (c .wanted) (length (c .before))) ts (c .state) (c .before) (c .after) (c .result) ×
+    AdvancedInto ts (c .state) (c .wanted) (c .before) (c .after) (c .result) ×
     LentMixed ts (next-state c) cs
 LentMixed ts s (LentPreview c ∷ cs) =
     (c .state ≡ s) × (state-words (part-count ts) ≤ length (c .before)) ×

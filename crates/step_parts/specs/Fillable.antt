@@ -73,7 +73,7 @@ changed-wired m qs r c kept wired = subst Wired (sym (c .is)) (kept-wired (trimm
 
 -- what a wired model, once trimmed, says of the places in use of the model itself
 module _ (m : Model) (wired : Wired (trimmed m)) where
-  -- each is one of at most 32
+  -- each is one of the places that a model has at most
   pub place-in-use : (i : ℕ) → i < m .count → i < most-parts
   unfolding trimmed
   place-in-use i h = omega (arith, wired .few)

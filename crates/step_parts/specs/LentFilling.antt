@@ -1,7 +1,7 @@
 -- What a turn of filling outputs in the words of a state asks, and what it comes to: the laws of showing the next part, over the models that the words mean.
 -- The idea: the parts, the numbers and the outputs that are read from the words are those of these models, and the output that is written changes one of
 -- their parts. Assumes nothing.
-use Prim.Native.Nat.{ℕ, _+_, _*_, _≤_, _<_}
+use Prim.Native.Nat.{ℕ, _+_, _≤_, _<_}
 use native.Mathlib.Omega.{arith}
 use mathlib.Core.Path.{_≡_, refl, sym, ap, subst, _∙_}
 use mathlib.Core.Bool.{true, false}
@@ -23,18 +23,19 @@ use Rattle.laws.specs.Bools.{either}
 use Rattle.laws.specs.ListLaws.{all-intro}
 use Rattle.order_laws.specs.Row.{components-length}
 use Rattle.step_part.specs.PartRanges as point
+use Rattle.words_store.specs.Layout.{in-state, signal-field, signal-value-field, output-field, output-value-field}
 use Rattle.words_store.specs.ModelIn.{WordsThere, table-words, state-words, part-count, ordered-part, stored-part, stored-point, stored-state, model-in}
 use Rattle.words_store.specs.Updated.{SameBehind}
 use Rattle.words_store.specs.StoreFrame.{held-number, held-part}
 use Rattle.words_store.specs.Clean.{CleanOutput, CleanOrKept, SignalsKept, CleanAfter, clean-kept, kept-through}
 use Rattle.words_store.specs.CleanKept.{kept-shown}
 use Rattle.words_store.specs.Shown.{OutputPut, held-shown}
-use Rattle.step_parts.specs.Reading.{WiredBelow, source-index, index-below, heard, heard0, heard1}
+use Rattle.step_parts.specs.Reading.{WiredBelow, source-index, index-below}
 use Rattle.step_parts.specs.Trimmed.{Changed}
 use Rattle.step_parts.specs.Fillable.{Fillable}
 use Rattle.step_parts.specs.Anyway.{FilledAnyway, filled-whatever}
 use Rattle.step_parts.specs.Showing.{partly, Showable, number-below, half-wired, showable, shown-next, all-filled, heard-shown}
-use Rattle.step_parts.specs.LentReading.{lent-heard, lent-wired}
+use Rattle.step_parts.specs.LentReading.{heard-in, lent-heard, lent-wired}
 
 -- the words of each part are there
 pub table-room : (ts ss : List ℕ) → WordsThere ts ss → (j : ℕ) → j < part-count ts → table-words (j + 1) ≤ length ts
@@ -55,16 +56,14 @@ pub record LentTurn (ts os ns₀ ns : List ℕ) (i k : ℕ) (p : Part) : Type 0 
   pub source0 : source-index (p .component .port0) < part-count ts
   pub source1 : source-index (p .component .port1) < part-count ts
   pub ranges : point.PartFits p
-  pub signal0 : direct0 (p .component .kind) ≡ true → (k0 : ℕ) (out0 x : Signal) → k0 ≡ source-index (p .component .port0) → out0 ≡ stored-state ns k0 .output →
-      x ≡ heard (p .component .port0) out0 → is-signal x ≡ true
-  pub signal1 : direct1 (p .component .kind) ≡ true → (k1 : ℕ) (out1 y : Signal) → k1 ≡ source-index (p .component .port1) → out1 ≡ stored-state ns k1 .output →
-      y ≡ heard (p .component .port1) out1 → is-signal y ≡ true
+  pub signal0 :
+      direct0 (p .component .kind) ≡ true → (x : Signal) → x ≡ heard-in ns (p .component .port0) → is-signal x ≡ true
+  pub signal1 :
+      direct1 (p .component .kind) ≡ true → (y : Signal) → y ≡ heard-in ns (p .component .port1) → is-signal y ≡ true
   -- what was heard, shown and written fills one output more
-  pub fills : (now : Point) (k0 k1 : ℕ) (out0 out1 earlier x y before out : Signal) (then : List ℕ) → now ≡ stored-point ns₀ →
-      k0 ≡ source-index (p .component .port0) → k1 ≡ source-index (p .component .port1) →
-      out0 ≡ stored-state ns k0 .output → out1 ≡ stored-state ns k1 .output → earlier ≡ stored-state os k0 .output →
-      x ≡ heard (p .component .port0) out0 → y ≡ heard (p .component .port1) out1 → before ≡ heard (p .component .port0) earlier →
-      out ≡ output p now x y before → OutputPut k out ns then →
+  pub fills : (now : Point) (x y before out : Signal) (then : List ℕ) → now ≡ stored-point ns₀ →
+      x ≡ heard-in ns (p .component .port0) → y ≡ heard-in ns (p .component .port1) →
+      before ≡ heard-in os (p .component .port0) → out ≡ output p now x y before → OutputPut k out ns then →
       Changed (model-in ts ns₀) (partly (model-in ts os) (model-in ts ns₀) (i + 1)) (model-in ts then)
 
 module _
@@ -119,7 +118,7 @@ module _
 
   -- so it is a turn
   next-turn : LentTurn ts os ns₀ ns i (ordered-part ts i) (stored-part ts ns (ordered-part ts i))
-  unfolding model-in
+  unfolding model-in reading0 reading1
   next-turn =
       let n = part-count ts in
       let k = ordered-part ts i in
@@ -138,16 +137,13 @@ module _
         source0 = below0;
         source1 = below1;
         ranges = subst point.PartFits next-part (next-showable .ranges);
-        signal0 = λ direct k0 out0 x e0 eo ex.
-            rw (heard0 qs p k0 x e0 (lent-heard ts ns (p .component .port0) k0 out0 x (rw e0 below0) eo ex)) (signals0 direct);
-        signal1 = λ direct k1 out1 y e1 eo ey.
-            rw (heard1 qs p k1 y e1 (lent-heard ts ns (p .component .port1) k1 out1 y (rw e1 below1) eo ey)) (signals1 direct);
-        fills = λ now k0 k1 out0 out1 earlier x y before out then en e0 e1 eo0 eo1 eoe ex ey eb eo put.
+        signal0 = λ direct x ex. rw (ex ∙ lent-heard ts ns (p .component .port0) below0) (signals0 direct);
+        signal1 = λ direct y ey. rw (ey ∙ lent-heard ts ns (p .component .port1) below1) (signals1 direct);
+        fills = λ now x y before out then en ex ey eb eo put.
             next-filled out then
-            (heard-shown (model-in ts os .parts) qs (model-in ts ns₀ .point) p k0 k1 x y before out e0 e1
-            (lent-heard ts ns (p .component .port0) k0 out0 x (rw e0 below0) eo0 ex)
-            (lent-heard ts ns (p .component .port1) k1 out1 y (rw e1 below1) eo1 ey)
-            (lent-heard ts os (p .component .port0) k0 earlier before (rw e0 below0) eoe eb)
+            (heard-shown (model-in ts os .parts) qs (model-in ts ns₀ .point) p x y before out
+            (ex ∙ lent-heard ts ns (p .component .port0) below0)
+            (ey ∙ lent-heard ts ns (p .component .port1) below1) (eb ∙ lent-heard ts os (p .component .port0) below0)
             (eo ∙ ap (λ (q : Point). output p q x y before) en))
             put;
       }
@@ -165,7 +161,7 @@ module _
 -- of the words b, which were a, the outputs of the first i numbers of the order are clean, and every held signal is
 -- clean or kept
 pub record FilledClean (ts a : List ℕ) (i : ℕ) (b : List ℕ) : Type 0 where
-  pub signals : (j : ℕ) → CleanOrKept a b (9 * j + 5) (9 * j + 6)
+  pub signals : (j : ℕ) → CleanOrKept a b (in-state j signal-field) (in-state j signal-value-field)
   pub outputs : (x : ℕ) → x < i → CleanOutput b (ordered-part ts x)
 
 -- none at first, and then one number more
@@ -178,7 +174,8 @@ pub clean-more : (ts a b c : List ℕ) (i k : ℕ) (out : Signal) → FilledClea
 clean-more ts a b c i k out so-far number put =
     let kept = kept-shown b c k out put in
     record {
-      signals = λ j. kept-through a b c (9 * j + 5) (9 * j + 6) (so-far .signals j) (kept j .0);
+      signals = λ j.
+          kept-through a b c (in-state j signal-field) (in-state j signal-value-field) (so-far .signals j) (kept j .0);
       outputs = λ x low. output x low kept (either (ltb x i));
     }
   where
@@ -186,7 +183,8 @@ clean-more ts a b c i k out so-far number put =
         CleanOutput c (ordered-part ts x)
     output x low kept (inl e) =
         let l = ordered-part ts x in
-        clean-kept b c (9 * l + 7) (9 * l + 8) (so-far .outputs x (ltb-true x i e)) (kept l .1)
+        clean-kept b c (in-state l output-field) (in-state l output-value-field)
+        (so-far .outputs x (ltb-true x i e)) (kept l .1)
     output x low kept (inr e) =
         let last : i ≡ x = omega (arith, ltb-false x i e) in
         subst (CleanOutput c) (number ∙ ap (ordered-part ts) last) (put .clean)

@@ -28,10 +28,9 @@ use Rattle.words_store.specs.StoreFrame.{held-part, same-state, held-put, held-
 use Rattle.words_store.specs.Clean.{SignalsKept, signals-through}
 use Rattle.words_store.specs.CleanKept.{kept-numbered, kept-put, kept-copied}
 use Rattle.words_store.specs.NumbersPut.{state-numbered, NumbersPut, state-unnumbered, point-unnumbered, behind-numbered}
-use Rattle.step_parts.specs.Reading.{source-index, heard}
 use Rattle.step_parts.specs.Trimmed.{Changed, none-changed}
 use Rattle.step_parts.specs.Fillable.{Wired}
-use Rattle.step_parts.specs.LentReading.{lent-many, lent-part, lent-kind, lent-reading}
+use Rattle.step_parts.specs.LentReading.{heard-in, lent-many, lent-part, lent-kind, lent-reading}
 use Rattle.step_parts.specs.InPlace.{by-reading, changed-to, LoopTurn, turn, all-changed}
 use Rattle.step_parts.specs.Moving.{Movable, moving, movable, movable-untrimmed}
 use Rattle.step_parts.specs.Settling.{settles, settling, settled-same}
@@ -81,13 +80,14 @@ module _
 
   -- or read, settled, and its state is written
   pub settled-more :
-      (p : Part) → p ≡ stored-part ts b i → (k : ℕ) (out x : Signal) (q : Part) (c : List ℕ) → k ≡ source-index (p .component .port0) → out ≡ stored-state b k .output →
-      x ≡ heard (p .component .port0) out → q ≡ settled x p → StatePut i (q .state) b c → LentSettled ts a (i + 1) c
+      (p : Part) → p ≡ stored-part ts b i → (x : Signal) (q : Part) (c : List ℕ) →
+      x ≡ heard-in b (p .component .port0) → q ≡ settled x p → StatePut i (q .state) b c → LentSettled ts a (i + 1) c
   unfolding settled
-  settled-more p is k out x q c index from hears settles put =
+  settled-more p is x q c hears settles put =
       let same : p ≡ part-at (model-in ts b .parts) i = is ∙ sym (held-part ts b i low) in
       let next = model-in ts b in
-      let reads = lent-reading ts b (at .wired) i low p k out x is index from hears ∙ ap (reading0 (trimmed next .parts)) same ∙ at .reads in
+      let reads =
+      lent-reading ts b (at .wired) i low p x is hears ∙ ap (reading0 (trimmed next .parts)) same ∙ at .reads in
       let v = with-state (stored-part ts b i) (q .state) in
       let becomes : v ≡ settled x (part-at (next .parts) i) =
       ap (λ (r : Part). with-state (stored-part ts b i) (r .state)) (settles ∙ ap (settled x) is) ∙ ap (settled x) (sym (held-part ts b i low)) in

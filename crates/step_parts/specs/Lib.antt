@@ -13,6 +13,7 @@ pub mod LentReading
 pub mod LentFilling
 pub mod StepMade
 pub mod StepShown
+pub mod StepInto
 pub mod LentMoving
 pub mod LentStep
 pub mod Start

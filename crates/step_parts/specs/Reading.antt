@@ -1,7 +1,7 @@
 -- What a port reads, of the part that it is wired to alone, so that no function is handed a model for it; and that it is the same once the places
 -- in no use are cut away. Assumes nothing.
 use Prim.Native.Nat.{ℕ, _≤_, _<_}
-use mathlib.Core.Path.{_≡_, refl, ap, _∙_}
+use mathlib.Core.Path.{_≡_, refl, ap}
 use mathlib.Core.List.{List, map}
 use lib.ListN.{length, take}
 use Rattle.machine.specs.declared.signal.Signal.{Signal}
@@ -10,7 +10,7 @@ use Rattle.machine.specs.declared.part.Source.{Source}
 use Rattle.machine.specs.declared.part.Source.the-variants.{Unwired, From}
 use Rattle.machine.specs.declared.part.Component.{Component}
 use Rattle.machine.specs.declared.part.Part.{Part}
-use Rattle.machine.specs.Model.{blank-part, part-at, reading, reading0, reading1, trimmed-part}
+use Rattle.machine.specs.Model.{blank-part, part-at, reading, trimmed-part}
 use Rattle.laws.specs.Partway.{mapped-at}
 
 -- the number of the part that a port is wired to, 0 for an unwired port
@@ -24,7 +24,7 @@ heard Unwired out = Absent
 heard (From k) out = out
 
 -- together they are a port's reading
-heard-reading : (ps : List Part) (s : Source) → heard s (part-at ps (source-index s) .state .output) ≡ reading ps s
+pub heard-reading : (ps : List Part) (s : Source) → heard s (part-at ps (source-index s) .state .output) ≡ reading ps s
 unfolding source-index heard reading
 heard-reading ps Unwired = refl
 heard-reading ps (From k) = refl
@@ -54,21 +54,3 @@ pub reading-trimmed : (n : ℕ) (ps : List Part) (s : Source) → SourceBelow n 
 unfolding reading SourceBelow trimmed-part
 reading-trimmed n ps Unwired below l = refl
 reading-trimmed n ps (From k) below l = ap (λ (p : Part). p .state .output) (part-trimmed n ps k below l)
-
--- what is heard from the place that a port is wired to is its reading
-heard-at :
-    (ps : List Part) (s : Source) (k : ℕ) (x : Signal) → k ≡ source-index s → x ≡ heard s (part-at ps k .state .output) → x ≡ reading ps s
-heard-at ps s k x e f = f ∙ ap (λ j. heard s (part-at ps j .state .output)) e ∙ heard-reading ps s
-
--- so it is for ports 0 and 1 of a part
-pub heard0 :
-    (ps : List Part) (p : Part) (k : ℕ) (x : Signal) → k ≡ source-index (p .component .port0) →
-    x ≡ heard (p .component .port0) (part-at ps k .state .output) → x ≡ reading0 ps p
-unfolding reading0
-heard0 ps p = heard-at ps (p .component .port0)
-
-pub heard1 :
-    (ps : List Part) (p : Part) (k : ℕ) (x : Signal) → k ≡ source-index (p .component .port1) →
-    x ≡ heard (p .component .port1) (part-at ps k .state .output) → x ≡ reading1 ps p
-unfolding reading1
-heard1 ps p = heard-at ps (p .component .port1)

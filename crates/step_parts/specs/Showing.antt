@@ -26,7 +26,7 @@ use Rattle.sound_laws.specs.RangesKept.{InRange}
 use Rattle.sound_laws.specs.CoreKept.{filled-kept}
 use Rattle.order_laws.specs.Row.{unshown, Feeds}
 use Rattle.step_part.specs.PartRanges as point
-use Rattle.step_parts.specs.Reading.{SourceBelow, source-index, heard, heard0, heard1}
+use Rattle.step_parts.specs.Reading.{SourceBelow}
 use Rattle.step_parts.specs.Trimmed.{Changed, changed-count, changed-more}
 use Rattle.step_parts.specs.Fillable.{Wired, Fillable, InRangeUnshown, fillable-numbers, changed-wired, place-in-use, part-in-use, wired-at, reading-in-use}
 use Rattle.step_parts.specs.Anyway.{direct-signal}
@@ -163,14 +163,9 @@ all-filled old new fit r i half past =
     let done : length (trimmed new .order) ≤ i = omega (arith, fit .places, counts) in
     rw (take-all i (trimmed new .order) done) at half
 
--- what is heard from the places that the ports of a part are wired to gives the part shown
+-- what its ports read gives the part shown
 pub heard-shown :
-    (old qs : List Part) (now : Point) (p : Part) (k0 k1 : ℕ) (x y before out : Signal) →
-    k0 ≡ source-index (p .component .port0) → k1 ≡ source-index (p .component .port1) →
-    x ≡ heard (p .component .port0) (part-at qs k0 .state .output) →
-    y ≡ heard (p .component .port1) (part-at qs k1 .state .output) →
-    before ≡ heard (p .component .port0) (part-at old k0 .state .output) →
-    out ≡ output p now x y before → with-output p out ≡ shown old now qs p
+    (old qs : List Part) (now : Point) (p : Part) (x y before out : Signal) → x ≡ reading0 qs p → y ≡ reading1 qs p →
+    before ≡ reading0 old p → out ≡ output p now x y before → with-output p out ≡ shown old now qs p
 unfolding shown
-heard-shown old qs now p k0 k1 x y before out e0 e1 ex ey eb eo =
-    rw (eo, heard0 qs p k0 x e0 ex, heard1 qs p k1 y e1 ey, heard0 old p k0 before e0 eb) refl
+heard-shown old qs now p x y before out ex ey eb eo = rw (eo, ex, ey, eb) refl

@@ -6,12 +6,13 @@ use mathlib.Core.Path.{_≡_}
 use mathlib.Core.List.{List}
 use lib.ListN.{length, length-map}
 use borrow.Author.Needs.{needs}
+use Rattle.machine.specs.Model.{most-parts}
 use Rattle.advance_call.specs.ByValue.{committed-by-value, many-answer, refused-by-value}
 use Rattle.advance_call.proofs.advance.Statement.{statement}
 use Rattle.advance_call.proofs.advance.Tie as tie
 
--- a model has 32 places for parts
-full : (c : tie.Start) → length (c .args .m .parts) ≡ 32
+-- a model has a place for each part that it may have
+full : (c : tie.Start) → length (c .args .m .parts) ≡ most-parts
 full c = omega (arith, simp length-map at (c .good .0))
 
 -- the model put into words, seen from the call on them, and the start

@@ -6,7 +6,7 @@ use borrow.Author.Tests.{not-true, not-false}
 use Rattle.machine.specs.Sound.{sound}
 use Rattle.laws.specs.Bools.{and-left, and-right}
 use Rattle.words_store.specs.Form.{spelled}
-use Rattle.advance_call.specs.Into.{lent-model, outcome-into, CalledInto}
+use Rattle.advance_call.specs.Into.{lent-model, AdvancedInto}
 use Rattle.advance_call.specs.IntoLaws.{spelled-call, unsound-call}
 use Rattle.advance_call.proofs.advance_into.Statement.{statement}
 use Rattle.advance_call.proofs.advance_into.Tie as tie
@@ -21,14 +21,17 @@ returns : tie.Need-returns
 returns c =
     let sounds = c .before .before in
     let s = sounds .before .before .before .before in
-    subst (CalledInto (outcome-into (s .args .table .now) (s .args .old .now) (s .args .w) _) (s .args .table .now) (s .args .old .now) (s .args .new .now) _)
-    (sym (c .barred-outcome .ensures))
-    (unsound-call (s .args .table .now) (s .args .old .now) (s .args .new .now) (s .args .w)
+    let ts = s .args .table .now in
+    let os = s .args .old .now in
+    let new = s .args .new .now in
+    subst (AdvancedInto ts os (s .args .w) new new) (sym (c .barred-outcome .ensures))
+    (unsound-call ts os new (s .args .w)
     (sym (sounds .is-sound-in .ensures) ∙ not-true (sounds .is-sound-in .result) (c .before .if1 .taken)))
 
 -- the words spell a sound model
 passed : (c : tie.Else1) →
-    let s = c .before .before .before .before .before in
+    let sounds = c .before in
+    let s = sounds .before .before .before .before in
     (spelled (s .args .table .now) (s .args .old .now) ≡ true) × (sound (lent-model (s .args .table .now) (s .args .old .now)) ≡ true)
 passed c =
     let sounds = c .before in

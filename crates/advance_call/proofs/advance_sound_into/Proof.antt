@@ -5,13 +5,13 @@ use native.Mathlib.Omega.{arith}
 use mathlib.Core.Path.{_≡_, sym, subst, _∙_}
 use lib.ListN.{length}
 use borrow.Author.Needs.{needs}
-use Rattle.machine.specs.Model.{trimmed}
+use Rattle.machine.specs.Model.{most-parts, trimmed}
 use Rattle.machine.specs.Advance.{barred}
 use Rattle.advance_laws.specs.Outcomes.{not-barred}
 use Rattle.words_store.specs.ModelIn.{part-count, state-words, WordsThere}
 use Rattle.words_store.specs.Spelling.{spelled-room, spelled-few}
 use Rattle.words_store.specs.Respelled.{states-spelled}
-use Rattle.advance_call.specs.Into.{lent-model, outcome-with, CalledInto}
+use Rattle.advance_call.specs.Into.{lent-model, AdvancedSound}
 use Rattle.advance_call.specs.IntoLaws.{bars-lent, barred-call, short-call, searched-call}
 use Rattle.advance_call.proofs.advance_sound_into.Statement.{statement}
 use Rattle.advance_call.proofs.advance_sound_into.Tie as tie
@@ -42,7 +42,9 @@ free :
 free c = sym (bars-by (c .before)) ∙ c .if1 .left
 
 point-of-requires : tie.Need-point-of-requires
-point-of-requires c κs = omega (arith, room (c .before .before .before) .state)
+point-of-requires c κs =
+    let start = c .before .before .before in
+    omega (arith, room start .state)
 
 barred-number-requires : tie.Need-barred-number-requires
 barred-number-requires c κs = search needs
@@ -54,15 +56,18 @@ returns : tie.Need-returns
 returns c =
     let bars = c .before .before in
     let s = start-of bars in
-    subst (CalledInto (outcome-with (s .args .table .now) (s .args .old .now) (s .args .w) _) (s .args .table .now) (s .args .old .now) (s .args .new .now) _)
-    (sym (c .barred-outcome .ensures))
-    (barred-call (s .args .table .now) (s .args .old .now) (s .args .new .now) (s .args .w) (bars .barred-number .result) (bars-by bars) (c .before .if1 .taken))
+    let ts = s .args .table .now in
+    let os = s .args .old .now in
+    let new = s .args .new .now in
+    let w = s .args .w in
+    subst (AdvancedSound ts os w new new) (sym (c .barred-outcome .ensures))
+    (barred-call ts os new w (bars .barred-number .result) (bars-by bars) (c .before .if1 .taken))
 
 parts-of-requires : tie.Need-parts-of-requires
 parts-of-requires c κs = omega (arith, room (start-of (c .before)) .table)
 
--- at most 32 parts
-most : (counts : tie.After-parts-of) → counts .parts-of .result ≤ 32
+-- as many parts as a model may have at most
+most : (counts : tie.After-parts-of) → counts .parts-of .result ≤ most-parts
 most counts =
     let s = start-of (counts .before .before) in
     omega (arith, spelled-few (s .args .table .now) (s .args .old .now) (s .pre .0), counts .parts-of .ensures)
@@ -85,9 +90,12 @@ returns-2 : tie.Need-returns-2
 returns-2 c =
     let sized = c .before .before in
     let s = start-of (bars-of sized) in
-    subst (CalledInto (outcome-with (s .args .table .now) (s .args .old .now) (s .args .w) _) (s .args .table .now) (s .args .old .now) (s .args .new .now) _)
-    (sym (c .barred-outcome2 .ensures))
-    (short-call (s .args .table .now) (s .args .old .now) (s .args .new .now) (s .args .w) (free (sized .before .before))
+    let ts = s .args .table .now in
+    let os = s .args .old .now in
+    let new = s .args .new .now in
+    let w = s .args .w in
+    subst (AdvancedSound ts os w new new) (sym (c .barred-outcome2 .ensures))
+    (short-call ts os new w (free (sized .before .before))
     (omega (arith, counted sized, c .before .if2 .taken)))
 
 -- the words lent are enough
@@ -103,10 +111,17 @@ searched-into-requires c κs =
     let s = start-of (bars-of (test .before)) in
     let ts = s .args .table .now in
     let os = s .args .old .now in
-    let met = not-barred (lent-model ts os) (s .args .w) (free (test .before .before .before)) in
+    let bars = test .before .before .before in
+    let met = not-barred (lent-model ts os) (s .args .w) (free bars) in
     let had = room s in
-    let spare : WordsThere ts (s .args .new .now) = record { table = had .table; state = enough test } in
-    (had, (spare, (s .pre .1, (met .at-most, (met .in-time, states-spelled ts os (s .pre .0))))))
+    record {
+      old-there = had;
+      new-there = record { table = had .table; state = enough test };
+      sounds = s .pre .1;
+      short = met .at-most;
+      in-time = met .in-time;
+      spelled = states-spelled ts os (s .pre .0);
+    }
 
 same-length : tie.Need-same-length
 same-length c = search needs
@@ -115,9 +130,11 @@ returns-3 : tie.Need-returns-3
 returns-3 c =
     let searches = c .before .before in
     let test = searches .before .before in
+    let barred = test .before .before .before in
     let s = start-of (bars-of (test .before)) in
-    searched-call (s .args .table .now) (s .args .old .now) (s .args .new .now) (searches .searched-into .last .1 .1 .1 .0) (s .args .w)
-    (searches .searched-into .result) (s .pre .0) (free (test .before .before .before)) (enough test) (searches .searched-into .ensures)
+    let new₁ = searches .searched-into .last .1 .1 .1 .0 in
+    searched-call (s .args .table .now) (s .args .old .now) (s .args .new .now) new₁ (s .args .w)
+    (searches .searched-into .result) (s .pre .0) (free barred) (enough test) (searches .searched-into .ensures)
 
 pub advance-sound-into-spec : {M : Type 1} → statement M
 advance-sound-into-spec =

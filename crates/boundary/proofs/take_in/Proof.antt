@@ -16,13 +16,14 @@ same-length c = search needs
 same-length-2 : tie.Need-same-length-2
 same-length-2 c = search needs
 
--- an accepted model has at most 32 parts
+-- an accepted model has no more parts than a model may have
 returns-2 : tie.Need-returns-2
 returns-2 c =
     let puts = c .before .before .before .before in
     let test = puts .before .before .before in
+    let start = test .before .before .before in
     taken-put _ _ _ (puts .put-model .last .1 .0) _ (puts .put-model .last .1 .1 .0) _ (test .if1 .left)
-    (test .before .before .before .pre (test .if1 .left)) (puts .put-model .ensures)
+    (start .pre (test .if1 .left)) (puts .put-model .ensures)
 
 pub take-in-spec : {M : Type 1} → statement M
 take-in-spec = tie.close (tie.spec returns put-model-requires same-length same-length-2 returns-2)

@@ -32,7 +32,8 @@ first-of-requires-2 c κs = search needs
 
 returns : tie.Need-returns
 returns c =
-    let range = c .before .before .before .before in
+    let past = c .before .before .before in
+    let range = past .before in
     let unsound = range .before .before in
     let args = unsound .before .args in
     let wanted = leb 1 (args .w) && leb (args .w) longest-wanted in
@@ -41,7 +42,7 @@ returns c =
       c .first-of2 .ensures,
       c .before .first-of .ensures,
       c .before .before .refusal3 .ensures,
-      c .before .before .before .leads-past .ensures,
+      past .leads-past .ensures,
       range .refusal2 .ensures,
       range .before .may-be-wanted .ensures,
       unsound .refusal .ensures,

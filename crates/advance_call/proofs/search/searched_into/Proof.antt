@@ -1,11 +1,13 @@
--- `searched_into` is the search on words. Both loops keep that the search from here comes to the outcome of the whole, that neither the rounds nor the
--- revisions, with h, are above w, that the words behind the new state's are kept, and that behind a round the parts that are no drives accept h; the inner one
--- also that h is at most what it began with. The measure of both is h.
-use Prim.Native.Nat.{ℕ, _+_}
+-- `searched_into` is the search on words. Both loops keep that the search from here comes to the outcome of the whole,
+-- that neither the rounds nor the revisions, with h, are above w, that the words behind the new state's are kept, and
+-- that after a round the parts that are no drives accept h. The inner one also keeps that h is at most what it began
+-- with. The measure of both is h.
+use Prim.Native.Nat.{ℕ, _+_, _≤_}
 use native.Mathlib.Omega.{arith}
 use mathlib.Core.Path.{_≡_, refl, sym, ap, subst, _∙_}
 use Rattle.machine.specs.Model.{trimmed}
-use Rattle.machine.specs.Advance.{any-objects}
+use Rattle.machine.specs.Time.{last-tick, tick}
+use Rattle.machine.specs.Advance.{longest-wanted, any-objects}
 use Rattle.ask_laws.specs.Agreed.{Agreed, round-agreed, agreed-below}
 use Rattle.step_parts.specs.StepShown.{settled-made}
 use Rattle.words_store.specs.ModelIn.{part-count, model-in}
@@ -17,7 +19,13 @@ use Rattle.advance_call.specs.Into.{lent-model}
 use Rattle.advance_call.specs.IntoLaws.{searched-words}
 use Rattle.advance_call.proofs.search.searched_into.Statement.{statement}
 use Rattle.advance_call.proofs.search.searched_into.Tie as tie
-use Rattle.advance_call.proofs.search.searched_into.Proof.Places.{Inv-ceilings, Inv-loop, behind-at, behind-trial, changed, far, halves, is-sound-at, kept, loop-of, loop-of-trial, lowers, model-of, not-refused, objected, objects-tried, refusal-of-trial, room-at, room-of-trial, settleable, small, start-of, trial-of, words-of, μ-ceilings, μ-loop}
+use Rattle.advance_call.proofs.search.searched_into.Proof.Places.{Inv-ceilings, Inv-loop, μ-ceilings, μ-loop}
+use Rattle.advance_call.proofs.search.searched_into.Proof.Places.{start-of, loop-of, loop-of-trial, trial-of}
+use Rattle.advance_call.proofs.search.searched_into.Proof.Places.{refusal-of-trial, model-of, words-of}
+use Rattle.advance_call.proofs.search.searched_into.Proof.Places.{behind-at, behind-trial, room-at}
+use Rattle.advance_call.proofs.search.searched_into.Proof.Places.{changed, far, halves, is-sound-at, kept}
+use Rattle.advance_call.proofs.search.searched_into.Proof.Places.{lowers, not-refused, objected, objects-tried}
+use Rattle.advance_call.proofs.search.searched_into.Proof.Places.{room-of-trial, settleable, small}
 mod Places
 
 ceilings-holds : tie.Need-ceilings-holds Inv-loop μ-loop Inv-ceilings μ-ceilings
@@ -33,7 +41,9 @@ loop-holds c =
 least-in-requires : tie.Need-least-in-requires Inv-loop μ-loop Inv-ceilings μ-ceilings
 least-in-requires c κs =
     let s = start-of c in
-    (s .pre .0, (is-sound-at s, (omega (arith, far s, c .loop .inv .1), c .loop .inv .5)))
+    let step : tick (model-in (s .args .table .now) (s .args .old .now) .point) + c .loop .h ≤ last-tick =
+    omega (arith, far s, c .loop .inv .1) in
+    (record { there = s .pre .old-there; sounds = is-sound-at s; in-time = step }, c .loop .inv .5)
 
 add-rounds : tie.Need-add-rounds Inv-loop μ-loop Inv-ceilings μ-ceilings
 add-rounds c =
@@ -45,21 +55,34 @@ changed-nothing-requires c κs = tt
 
 refusal-in-requires : tie.Need-refusal-in-requires Inv-loop μ-loop Inv-ceilings μ-ceilings
 refusal-in-requires c κs =
-    let s = start-of (c .before .before .before) in
-    (s .pre .0, is-sound-at s)
+    let at = c .before .before .before in
+    let s = start-of at in
+    (s .pre .old-there, is-sound-at s)
 
 kept-in-requires : tie.Need-kept-in-requires Inv-loop μ-loop Inv-ceilings μ-ceilings
 kept-in-requires c κs =
     let at = loop-of (c .before .before) in
-    (start-of at .pre .0, room-at at)
+    (start-of at .pre .old-there, room-at at)
 
 trial-into-requires : tie.Need-trial-into-requires Inv-loop μ-loop Inv-ceilings μ-ceilings
 trial-into-requires c κs =
     let at = loop-of (c .before .before) in
     let s = start-of at in
     let within = at .loop .inv .1 in
-    let step = may-step (model-in (s .args .table .now) (s .args .old .now)) (is-sound-at s) (at .loop .h) (not-refused (c .before)) in
-    (s .pre .0, (room-at at, (is-sound-at s, (omega (arith, small s, within), (omega (arith, far s, within), (step, s .pre .1 .1 .1 .1 .1))))))
+    let m = model-in (s .args .table .now) (s .args .old .now) in
+    let h = at .loop .h in
+    let short : h ≤ longest-wanted = omega (arith, small s, within) in
+    let in-time : tick (m .point) + h ≤ last-tick = omega (arith, far s, within) in (
+      record {
+        old-there = s .pre .old-there;
+        new-there = room-at at;
+        sounds = is-sound-at s;
+        short = short;
+        in-time = in-time;
+        spelled = s .pre .spelled;
+      },
+      may-step m (is-sound-at s) h (not-refused (c .before)),
+    )
 
 any-objects-in-requires : tie.Need-any-objects-in-requires Inv-loop μ-loop Inv-ceilings μ-ceilings
 any-objects-in-requires c κs =
@@ -118,14 +141,17 @@ ceilings-again c =
 -- what a refusal leaves: the old state, copied
 behind-kept :
     (keeps : tie.After-kept-in Inv-loop μ-loop Inv-ceilings μ-ceilings) →
-    let s = start-of (loop-of (keeps .before .before .before)) in
+    let refuses = keeps .before .before .before in
+    let s = start-of (loop-of refuses) in
     SameBehind (part-count (s .args .table .now)) (s .args .new .now) (keeps .kept-in .last .1 .1 .0)
 behind-kept keeps =
-    let at = loop-of (keeps .before .before .before) in
+    let refuses = keeps .before .before .before in
+    let at = loop-of refuses in
     let s = start-of at in
     let n = part-count (s .args .table .now) in
-    behind-through n (s .args .new .now) (at .loop .new) (keeps .kept-in .last .1 .1 .0) (behind-at at)
-    (behind-copied n (s .args .old .now) (at .loop .new) (keeps .kept-in .last .1 .1 .0) (keeps .kept-in .ensures) (s .pre .1 .1 .1 .1 .1))
+    let new₁ = keeps .kept-in .last .1 .1 .0 in
+    behind-through n (s .args .new .now) (at .loop .new) new₁ (behind-at at)
+    (behind-copied n (s .args .old .now) (at .loop .new) new₁ (keeps .kept-in .ensures) (s .pre .spelled))
 
 same-length : tie.Need-same-length Inv-loop μ-loop Inv-ceilings μ-ceilings
 same-length c = behind-kept (c .before .before) .size
@@ -145,8 +171,9 @@ returns c =
     (refused-answer (model-in ts os) (is-sound-at s) (s .args .w) (ceilings .ceiling) (at .loop .h) (at .loop .rounds) (ceilings .revisions)
     (refuses .refusal-in .result) (at .loop .inv .0) (kept refuses) (refuses .refusal-in .ensures) (keeps .before .before .if2 .taken))
     (omega arith) (sym same)
-    (λ j low. copied-spelled (part-count ts) os (at .loop .new) b (keeps .kept-in .ensures) (s .pre .1 .1 .1 .1 .1) j low) (behind-kept keeps)
-    (λ none. absurd (keeps .before .before .if2 .taken none)) (λ other. keeps .kept-in .ensures .front)
+    (copied-spelled (part-count ts) os (at .loop .new) b (keeps .kept-in .ensures) (s .pre .spelled))
+    (behind-kept keeps) (λ none. absurd (keeps .before .before .if2 .taken none))
+    (λ other. keeps .kept-in .ensures .front)
 
 settled-into-requires : tie.Need-settled-into-requires Inv-loop μ-loop Inv-ceilings μ-ceilings
 settled-into-requires c κs =
@@ -156,13 +183,15 @@ settled-into-requires c κs =
 -- the words behind the model's, once the trial is settled
 behind-settled :
     (settles : tie.After-settled-into Inv-loop μ-loop Inv-ceilings μ-ceilings) →
-    let s = start-of (loop-of-trial (trial-of (settles .before .before .before))) in
+    let asked = settles .before .before .before in
+    let s = start-of (loop-of-trial (trial-of asked)) in
     SameBehind (part-count (s .args .table .now)) (s .args .new .now) (settles .settled-into .last .1 .0)
 behind-settled settles =
-    let tries = trial-of (settles .before .before .before) in
+    let asked = settles .before .before .before in
+    let tries = trial-of asked in
     let s = start-of (loop-of-trial tries) in
     behind-through (part-count (s .args .table .now)) (s .args .new .now) (words-of tries) (settles .settled-into .last .1 .0) (behind-trial tries)
-    (settles .settled-into .ensures .1 .0)
+    (settles .settled-into .ensures .behind)
 
 same-length-2 : tie.Need-same-length-2 Inv-loop μ-loop Inv-ceilings μ-ceilings
 same-length-2 c = behind-settled (c .before .before) .size
@@ -180,16 +209,17 @@ returns-2 c =
     let ts = s .args .table .now in
     let os = s .args .old .now in
     let b = settles .settled-into .last .1 .0 in
-    let made = settled-made (lent-model ts os) (model-in ts (words-of tries)) (model-in ts b) h (tries .trial-into .ensures .0) (settles .settled-into .ensures .0) in
+    let by-trial = tries .trial-into .ensures in
+    let by-settling = settles .settled-into .ensures in
+    let made =
+    settled-made (lent-model ts os) (model-in ts (words-of tries)) (model-in ts b) h (by-trial .shown)
+    (by-settling .settled) in
     searched-words ts os (s .args .new .now) b (s .args .w) _
     (committed-answer (model-in ts os) (is-sound-at s) (model-in ts b) (s .args .w) (ceilings .ceiling) h (at .loop .rounds) (ceilings .revisions)
     (at .loop .inv .0) (kept (refusal-of-trial tries)) (not-refused (tries .before .before)) (ap (any-objects h) made ∙ objects-tried asked ∙ free .if3 .left)
     made)
-    (omega arith) refl (λ j low. settles .settled-into .ensures .1 .0 .form j
-    (tries .trial-into .ensures .1 .0 j low)) (behind-settled settles)
-    (λ none.
-    kept-after (part-count ts) os (words-of tries) b (tries .trial-into .ensures .1 .1 .1)
-    (λ j low. settles .settled-into .ensures .1 .1 j))
+    (omega arith) refl (λ j low. by-settling .behind .form j (by-trial .form j low)) (behind-settled settles)
+    (λ none. kept-after (part-count ts) os (words-of tries) b (by-trial .clean) (λ j low. by-settling .signals j))
     (λ other. absurd (other refl))
 
 pub searched-into-spec : {M : Type 1} → statement M

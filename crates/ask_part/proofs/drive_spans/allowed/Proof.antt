@@ -62,7 +62,8 @@ returns-2 : tie.Need-returns-2 Inv-loop μ-loop
 returns-2 c =
     let turn = c .before .before in
     let i = turn .before .loop .i in
-    let args = turn .before .before .before .before .args in
+    let start = turn .before .before .before .before in
+    let args = start .args in
     let inside : i < length (args .t1) = omega arith in
     found (args .d .0) (args .count) i (args .t1) (turn .loop-test .taken) inside (sym (c .before .is-span .ensures) ∙ c .if2 .taken)
 
@@ -77,7 +78,8 @@ unfolding member
 loop-again c =
     let turn = c .before .before in
     let loop = turn .before .loop in
-    let args = turn .before .before .before .before .args in
+    let start = turn .before .before .before .before in
+    let args = start .args in
     let inside : loop .i < length (args .t1) = omega arith in (
       omega arith,
       any-further (eqb (args .d .0)) (args .t1) (loop .i) 0 inside (loop .inv .1) (sym (c .before .is-span .ensures) ∙ c .if2 .left),
@@ -86,7 +88,8 @@ loop-again c =
 returns-3 : tie.Need-returns-3 Inv-loop μ-loop
 returns-3 c =
     let loop = c .before .loop in
-    let args = c .before .before .before .before .args in
+    let start = c .before .before .before .before in
+    let args = start .args in
     none-is (args .d .0) (args .count) (loop .i) (args .t1) (loop .inv .0) (c .loop-test .left) (c .before .before .if1 .left) (loop .inv .1)
 
 pub allowed-spec : {M : Type 1} → statement M

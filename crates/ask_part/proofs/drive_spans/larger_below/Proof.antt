@@ -9,12 +9,14 @@ returns c = rw (le-ltb (c .before .before .args .span) (c .before .before .args 
 
 returns-2 : tie.Need-returns-2
 returns-2 c =
-    let args = c .before .before .before .args in
+    let start = c .before .before .before in
+    let args = start .args in
     rw (lt-ltb (args .span) (args .d .0) (c .before .if1 .left)) (omega arith)
 
 returns-3 : tie.Need-returns-3
 returns-3 c =
-    let args = c .before .before .before .args in
+    let start = c .before .before .before in
+    let args = start .args in
     rw (lt-ltb (args .span) (args .d .0) (c .before .if1 .left)) (omega arith)
 
 pub larger-below-spec : {M : Type 1} → statement M

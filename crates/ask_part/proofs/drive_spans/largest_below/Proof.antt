@@ -51,7 +51,8 @@ loop-less c = omega arith
 loop-again : tie.Need-loop-again Inv-loop μ-loop
 loop-again c =
     let loop = c .before .before .loop in
-    let args = c .before .before .before .args in
+    let start = c .before .before .before in
+    let args = start .args in
     let inside : loop .i < length (args .t1) = omega arith in
     (omega arith, further (args .t1) (args .d .0) (loop .i) (loop .largest) _ inside (loop .inv .1) (c .larger-below .ensures))
 

@@ -56,12 +56,14 @@ marked-of-requires c κs = search needs
 returns : tie.Need-returns
 unfolding due due-as
 returns c =
-    rw (c .before .enum-told .given .1, c .at-multiple-of .ensures, c .before .before .before .period-of .ensures)
+    let period = c .before .before .before in
+    rw (c .before .enum-told .given .1, c .at-multiple-of .ensures, period .period-of .ensures)
 
 returns-2 : tie.Need-returns-2
 unfolding due due-as
 returns-2 c =
-    rw (c .before .enum-told2 .given .1, c .at-multiple-of2 .ensures, c .before .before .before .period-of .ensures)
+    let period = c .before .before .before in
+    rw (c .before .enum-told2 .given .1, c .at-multiple-of2 .ensures, period .period-of .ensures)
 
 returns-3 : tie.Need-returns-3
 unfolding due due-as
@@ -74,7 +76,8 @@ returns-4 c = rw (c .before .enum-told4 .given .1, c .marked-of .ensures)
 returns-5 : tie.Need-returns-5
 unfolding due
 returns-5 c =
-    let args = c .before .before .before .before .args in
+    let start = c .before .before .before .before in
+    let args = start .args in
     never (args .p .component .kind) (args .p) (args .now) (args .x) (c .match .keys5)
 
 pub due-of-spec : {M : Type 1} → statement M

@@ -74,7 +74,8 @@ period-of-requires c κs = search needs
 
 up-to-multiple-requires : tie.Need-up-to-multiple-requires
 up-to-multiple-requires c κs =
-    rw (c .period-of .ensures) (start (c .before .before .before) .pre .waits (ap class (c .before .enum-told .given .1)))
+    let kind-asked = c .before .before .before in
+    rw (c .period-of .ensures) (start kind-asked .pre .waits (ap class (c .before .enum-told .given .1)))
 
 enum-told-2 : tie.Need-enum-told-2
 enum-told-2 c = search needs
@@ -84,7 +85,8 @@ period-of-requires-2 c κs = search needs
 
 up-to-multiple-requires-2 : tie.Need-up-to-multiple-requires-2
 up-to-multiple-requires-2 c κs =
-    rw (c .period-of2 .ensures) (start (c .before .before .before) .pre .waits (ap class (c .before .enum-told2 .given .1)))
+    let kind-asked = c .before .before .before in
+    rw (c .period-of2 .ensures) (start kind-asked .pre .waits (ap class (c .before .enum-told2 .given .1)))
 
 enum-told-3 : tie.Need-enum-told-3
 enum-told-3 c = search needs

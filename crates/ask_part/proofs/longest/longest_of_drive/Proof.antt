@@ -80,7 +80,9 @@ local-requires : tie.Need-local-requires
 local-requires c κs = search needs
 
 gain-of-requires : tie.Need-gain-of-requires
-gain-of-requires c κs = rw (c .local .ensures) (c .before .before .before .pre .step .local)
+gain-of-requires c κs =
+    let start = c .before .before .before in
+    rw (c .local .ensures) (start .pre .step .local)
 
 allowed-requires : tie.Need-allowed-requires
 allowed-requires c κs = start-of (c .before .before) .pre .places
@@ -94,7 +96,9 @@ returns c =
     (allowed-by (args .p) (args .t .0) (args .h .0) d (sym (c .before .allowed .ensures) ∙ c .if1 .taken))
 
 largest-below-requires : tie.Need-largest-below-requires
-largest-below-requires c κs = start-of (c .before .before .before .before) .pre .places
+largest-below-requires c κs =
+    let gain = c .before .before .before .before in
+    start-of gain .pre .places
 
 -- d is not allowed
 over : (c : tie.Else1) → let gain = c .before .before .before .before in allowed (spans-of (start-of gain .args .p)) (gain .gain-of .result .0) ≡ false

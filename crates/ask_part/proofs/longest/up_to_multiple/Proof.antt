@@ -17,7 +17,9 @@ rem-left : tie.Need-rem-left
 rem-left c = search needs
 
 sub-left : tie.Need-sub-left
-sub-left c = omega (arith, mod-lt (c .before .before .before .args .t .0) (c .before .before .before .pre))
+sub-left c =
+    let start = c .before .before .before in
+    omega (arith, mod-lt (start .args .t .0) (start .pre))
 
 returns : tie.Need-returns
 returns c =

@@ -8,7 +8,9 @@ marked-of-requires : tie.Need-marked-of-requires
 marked-of-requires c κs = search needs
 
 returns : tie.Need-returns
-returns c = simp (sym (c .before .before .before .marked-of .ensures) ∙ c .before .before .if1 .taken)
+returns c =
+    let test = c .before .before in
+    simp (sym (test .before .marked-of .ensures) ∙ test .if1 .taken)
 
 returns-2 : tie.Need-returns-2
 returns-2 c = search needs

@@ -37,12 +37,14 @@ detector-objects-requires c κs = search needs
 returns : tie.Need-returns
 unfolding objects objects-as
 returns c =
-    rw (c .before .enum-told .given .1, c .detector-objects .ensures, c .before .before .before .period-of .ensures)
+    let period = c .before .before .before in
+    rw (c .before .enum-told .given .1, c .detector-objects .ensures, period .period-of .ensures)
 
 returns-2 : tie.Need-returns-2
 unfolding objects
 returns-2 c =
-    let args = c .before .before .before .before .args in
+    let start = c .before .before .before .before in
+    let args = start .args in
     never (args .p .component .kind) (args .h .0) (args .p) (c .match .keys2)
 
 pub objects-of-spec : {M : Type 1} → statement M

@@ -1,4 +1,4 @@
--- `least_in` is `round`, by every part in the first round and by the drives alone behind it.
+-- `least_in` is `round`, by every part in the first round and by the drives alone after it.
 use native.Mathlib.Omega.{arith}
 use borrow.Author.Needs.{needs}
 use Rattle.ask_parts.proofs.rounds.least_in.Statement.{statement}
@@ -12,8 +12,8 @@ returns c = search needs
 
 drives-in-requires : tie.Need-drives-in-requires
 drives-in-requires c κs =
-    let asks = c .before .before .before .pre in
-    (asks .0, (asks .1 .0, (asks .1 .1 .0, asks .1 .1 .1 (omega (arith, c .if1 .left)))))
+    let start = c .before .before .before in
+    (start .pre .0, start .pre .1 (omega (arith, c .if1 .left)))
 
 returns-2 : tie.Need-returns-2
 returns-2 c = search needs

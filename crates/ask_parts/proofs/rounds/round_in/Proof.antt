@@ -1,5 +1,5 @@
--- `round_in` is `round` of the model that the words mean. The invariant: the least from here, of what is best so far, is the round. The measure is what is
--- left of the count.
+-- `round_in` is `round` of the model that the words mean. The invariant: the least from here, of what is best so far,
+-- is the round. The measure is what is left of the count.
 use Prim.Native.Nat.{ℕ, _+_, _-_, _≤_, _<_}
 use native.Mathlib.Omega.{arith}
 use mathlib.Core.Path.{_≡_, refl, sym, ap, _∙_}
@@ -7,15 +7,14 @@ use lib.ListN.{drop}
 use Rattle.machine.specs.Model.{trimmed}
 use Rattle.machine.specs.Advance.{least, round}
 use Rattle.words_store.specs.ModelIn.{part-count, model-in}
-use Rattle.step_parts.specs.WiredParts.{sound-wired}
-use Rattle.step_parts.specs.LentReading.{lent-source, lent-reading}
-use Rattle.ask_parts.specs.LentAsked.{least-end, askable, least-from}
+use Rattle.ask_parts.specs.LentAsked.{PartAsked, sound-asked, least-end, askable, least-from}
 use Rattle.ask_parts.proofs.rounds.round_in.Statement.{statement}
 use Rattle.ask_parts.proofs.rounds.round_in.Tie as tie
 
 abbrev Inv-loop : tie.InvT-loop
 Inv-loop table state h count now best₀ i₀ best i =
-    (i ≤ count) × (least (trimmed (model-in table state)) (h .0) (best .0) (drop i (trimmed (model-in table state) .parts)) ≡ round (trimmed (model-in table state)) (h .0))
+    let m = trimmed (model-in table state) in
+    (i ≤ count) × (least m (h .0) (best .0) (drop i (m .parts)) ≡ round m (h .0))
 
 abbrev μ-loop : tie.MeasureT-loop
 μ-loop table state h count now best₀ i₀ best i = count - i
@@ -27,24 +26,36 @@ counted test = test .before .before .before
 abbrev start-of : tie.In-loop Inv-loop μ-loop → tie.Start Inv-loop μ-loop
 start-of test = counted test .before .before .before
 
-abbrev read-of : tie.After-source-index Inv-loop μ-loop → tie.After-part-at Inv-loop μ-loop
-read-of source = source .before .before
+abbrev read-of : tie.After-heard-at Inv-loop μ-loop → tie.After-part-at Inv-loop μ-loop
+read-of hears = hears .before .before
 
-abbrev source-of : tie.After-heard-of Inv-loop μ-loop → tie.After-source-index Inv-loop μ-loop
-source-of hears = hears .before .before
-
-abbrev test-of : tie.After-heard-of Inv-loop μ-loop → tie.In-loop Inv-loop μ-loop
-test-of hears = read-of (source-of hears) .before
+abbrev test-of : tie.After-heard-at Inv-loop μ-loop → tie.In-loop Inv-loop μ-loop
+test-of hears = read-of hears .before
 
 -- the part asked is one of the table's
 low : (test : tie.In-loop Inv-loop μ-loop) → test .before .loop .i < part-count (start-of test .args .table .now)
 low test = omega (arith, test .loop-test .taken, counted test .parts-of .ensures)
 
+asked-of :
+    (read : tie.After-part-at Inv-loop μ-loop) →
+    let test = read .before in
+    let args = start-of test .args in
+    PartAsked (args .table .now) (args .state .now) (test .before .loop .i) (read .part-at .result)
+asked-of read =
+    let test = read .before in
+    let s = start-of test in
+    sound-asked (s .args .table .now) (s .args .state .now) (s .pre .there) (s .pre .sounds) (test .before .loop .i)
+    (low test) (read .part-at .result) (read .part-at .ensures)
+
 parts-of-requires : tie.Need-parts-of-requires Inv-loop μ-loop
-parts-of-requires c κs = omega (arith, c .before .before .pre .0 .table)
+parts-of-requires c κs =
+    let start = c .before .before in
+    omega (arith, start .pre .there .table)
 
 point-of-requires : tie.Need-point-of-requires Inv-loop μ-loop
-point-of-requires c κs = omega (arith, c .before .before .before .pre .0 .state)
+point-of-requires c κs =
+    let start = c .before .before .before in
+    omega (arith, start .pre .there .state)
 
 loop-holds : tie.Need-loop-holds Inv-loop μ-loop
 unfolding round
@@ -52,36 +63,19 @@ loop-holds c = (omega arith, refl)
 
 part-at-requires : tie.Need-part-at-requires Inv-loop μ-loop
 part-at-requires c κs =
-    let room = start-of c .pre .0 in
+    let room = start-of c .pre .there in
     let below = low c in
     (omega (arith, below, room .table), omega (arith, below, room .state))
 
-source-index-requires : tie.Need-source-index-requires Inv-loop μ-loop
-source-index-requires c κs = tt
-
-output-at-requires : tie.Need-output-at-requires Inv-loop μ-loop
-output-at-requires c κs =
-    let read = read-of c in
-    let test = read .before in
-    let s = start-of test in
-    let ts = s .args .table .now in
-    let ss = s .args .state .now in
-    let there =
-    lent-source ts ss (sound-wired (trimmed (model-in ts ss)) (s .pre .1 .0)) (test .before .loop .i) (low test) ss _ _ (read .part-at .ensures)
-    (c .source-index .ensures) in
-    omega (arith, there, s .pre .0 .state)
-
-heard-of-requires : tie.Need-heard-of-requires Inv-loop μ-loop
-heard-of-requires c κs = tt
+heard-at-requires : tie.Need-heard-at-requires Inv-loop μ-loop
+heard-at-requires c κs = asked-of (c .before) .source
 
 longest-of-requires : tie.Need-longest-of-requires Inv-loop μ-loop
 longest-of-requires c κs =
-    let read = read-of (source-of c) in
-    let test = read .before in
+    let test = test-of c in
     let s = start-of test in
     let point = test .before .before in
-    askable (s .args .table .now) (s .args .state .now) (test .before .loop .i) (low test) (read .part-at .result) (read .part-at .ensures)
-    (point .point-of .result) (s .args .h .0) (s .pre .1 .0) (point .point-of .ensures) (s .pre .1 .1)
+    askable (asked-of (read-of c)) (point .point-of .result) (s .args .h .0) (s .pre) (point .point-of .ensures)
 
 smaller-requires : tie.Need-smaller-requires Inv-loop μ-loop
 smaller-requires c κs = tt
@@ -89,32 +83,27 @@ smaller-requires c κs = tt
 add-i : tie.Need-add-i Inv-loop μ-loop
 add-i c =
     let test = test-of (c .before .before) in
-    omega (arith, low test, start-of test .pre .0 .table)
+    omega (arith, low test, start-of test .pre .there .table)
 
 loop-less : tie.Need-loop-less Inv-loop μ-loop
 loop-less c = omega (arith, test-of (c .before .before) .loop-test .taken)
 
 loop-again : tie.Need-loop-again Inv-loop μ-loop
 loop-again c =
-    let asked = c .before in
-    let hears = asked .before in
-    let source = source-of hears in
-    let read = read-of source in
+    let accepts = c .before in
+    let hears = accepts .before in
     let test = test-of hears in
     let s = start-of test in
     let loop = test .before .loop in
     let point = test .before .before in
-    let ts = s .args .table .now in
-    let ss = s .args .state .now in
+    let m = trimmed (model-in (s .args .table .now) (s .args .state .now)) in
     let h = s .args .h .0 in
-    let reads =
-    lent-reading ts ss (sound-wired (trimmed (model-in ts ss)) (s .pre .1 .0)) (loop .i) (low test) _ _ _ _ (read .part-at .ensures)
-    (source .source-index .ensures) (hears .before .output-at .ensures) (hears .heard-of .ensures) in (
+    let longest = accepts .longest-of .result .0 in (
       omega (arith, test .loop-test .taken),
-      ap (λ (z : ℕ). least (trimmed (model-in ts ss)) h z (drop (loop .i + 1) (trimmed (model-in ts ss) .parts))) (c .smaller .ensures) ∙
-          sym (least-from ts ss (loop .i) (low test) (read .part-at .result) (read .part-at .ensures) (point .point-of .result) (hears .heard-of .result)
-          (point .point-of .ensures) reads h (loop .best .0) (asked .longest-of .result .0) (asked .longest-of .ensures)) ∙
-          loop .inv .1,
+      ap (λ (z : ℕ). least m h z (drop (loop .i + 1) (m .parts))) (c .smaller .ensures) ∙
+          sym (least-from (asked-of (read-of hears)) (point .point-of .result) (hears .heard-at .result)
+          (point .point-of .ensures) (hears .heard-at .ensures) h (loop .best .0) longest
+          (accepts .longest-of .ensures)) ∙ loop .inv .1,
     )
 
 returns : tie.Need-returns Inv-loop μ-loop
@@ -136,9 +125,7 @@ round-in-spec =
     point-of-requires
     loop-holds
     part-at-requires
-    source-index-requires
-    output-at-requires
-    heard-of-requires
+    heard-at-requires
     longest-of-requires
     smaller-requires
     add-i

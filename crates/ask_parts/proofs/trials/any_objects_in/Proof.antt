@@ -1,5 +1,5 @@
--- `any_objects_in` is `any-objects-settled` of the trial that the words mean. The invariant: that a part objects, from here on, is that some part does. The
--- measure is what is left of the count.
+-- `any_objects_in` is `any-objects-settled` of the trial that the words mean. The invariant: that a part objects, from
+-- here on, is that some part does. The measure is what is left of the count.
 use Prim.Native.Nat.{_-_, _≤_, _<_}
 use native.Mathlib.Omega.{arith}
 use mathlib.Core.Path.{_≡_, refl, sym, ap, _∙_}
@@ -9,8 +9,8 @@ use borrow.Author.Tests.{not-true}
 use Rattle.machine.specs.Lists.{any}
 use Rattle.machine.specs.Model.{part-at, trimmed}
 use Rattle.words_store.specs.ModelIn.{part-count, model-in}
-use Rattle.step_parts.specs.LentReading.{lent-kind, lent-source, lent-reading}
-use Rattle.ask_parts.specs.LentAsked.{any-hit, any-miss, any-end}
+use Rattle.step_parts.specs.LentReading.{lent-kind}
+use Rattle.ask_parts.specs.LentAsked.{PartAsked, wired-asked, any-hit, any-miss, any-end}
 use Rattle.ask_parts.specs.Trials.{objects-settled, any-objects-settled, detects, passes-trial}
 use Rattle.ask_parts.specs.LentTrial.{trial-period, trial-objects}
 use Rattle.ask_parts.proofs.trials.any_objects_in.Statement.{statement}
@@ -18,9 +18,8 @@ use Rattle.ask_parts.proofs.trials.any_objects_in.Tie as tie
 
 abbrev Inv-loop : tie.InvT-loop
 Inv-loop table h trial count i₀ i =
-    (i ≤ count) ×
-    (any (objects-settled (h .0) (trimmed (model-in table trial) .parts)) (drop i (trimmed (model-in table trial) .parts)) ≡
-    any-objects-settled (h .0) (trimmed (model-in table trial)))
+    let m = trimmed (model-in table trial) in
+    (i ≤ count) × (any (objects-settled (h .0) (m .parts)) (drop i (m .parts)) ≡ any-objects-settled (h .0) m)
 
 abbrev μ-loop : tie.MeasureT-loop
 μ-loop table h trial count i₀ i = count - i
@@ -35,24 +34,34 @@ start-of test = counted test .before .before .before
 abbrev test-of-kind : tie.After-detects Inv-loop μ-loop → tie.In-loop Inv-loop μ-loop
 test-of-kind kinds = kinds .before .before
 
-abbrev read-of : tie.After-source-index Inv-loop μ-loop → tie.After-part-at Inv-loop μ-loop
-read-of source = source .before .before
-
-abbrev source-of : tie.After-heard-of Inv-loop μ-loop → tie.After-source-index Inv-loop μ-loop
-source-of hears = hears .before .before
-
 abbrev test-of : tie.After-part-at Inv-loop μ-loop → tie.In-loop Inv-loop μ-loop
 test-of read = test-of-kind (read .before .before)
 
-abbrev test-of-heard : tie.After-heard-of Inv-loop μ-loop → tie.In-loop Inv-loop μ-loop
-test-of-heard hears = test-of (read-of (source-of hears))
+abbrev read-of : tie.After-heard-at Inv-loop μ-loop → tie.After-part-at Inv-loop μ-loop
+read-of hears = hears .before .before
+
+abbrev test-of-heard : tie.After-heard-at Inv-loop μ-loop → tie.In-loop Inv-loop μ-loop
+test-of-heard hears = test-of (read-of hears)
 
 -- the part asked is one of the table's
 low : (test : tie.In-loop Inv-loop μ-loop) → test .before .loop .i < part-count (start-of test .args .table .now)
 low test = omega (arith, test .loop-test .taken, counted test .parts-of .ensures)
 
+asked-of :
+    (read : tie.After-part-at Inv-loop μ-loop) →
+    let test = test-of read in
+    let args = start-of test .args in
+    PartAsked (args .table .now) (args .trial .now) (test .before .loop .i) (read .part-at .result)
+asked-of read =
+    let test = test-of read in
+    let s = start-of test in
+    wired-asked (s .args .table .now) (s .args .trial .now) (s .pre .0) (s .pre .1 .wired) (test .before .loop .i)
+    (low test) (read .part-at .result) (read .part-at .ensures)
+
 parts-of-requires : tie.Need-parts-of-requires Inv-loop μ-loop
-parts-of-requires c κs = omega (arith, c .before .before .pre .0 .table)
+parts-of-requires c κs =
+    let start = c .before .before in
+    omega (arith, start .pre .0 .table)
 
 loop-holds : tie.Need-loop-holds Inv-loop μ-loop
 unfolding any-objects-settled
@@ -98,21 +107,8 @@ part-at-requires c κs =
     let below = low test in
     (omega (arith, below, room .table), omega (arith, below, room .state))
 
-source-index-requires : tie.Need-source-index-requires Inv-loop μ-loop
-source-index-requires c κs = tt
-
-output-at-requires : tie.Need-output-at-requires Inv-loop μ-loop
-output-at-requires c κs =
-    let read = read-of c in
-    let test = test-of read in
-    let s = start-of test in
-    let there =
-    lent-source (s .args .table .now) (s .args .trial .now) (s .pre .1 .wired) (test .before .loop .i) (low test) (s .args .trial .now) _ _
-    (read .part-at .ensures) (c .source-index .ensures) in
-    omega (arith, there, s .pre .0 .state)
-
-heard-of-requires : tie.Need-heard-of-requires Inv-loop μ-loop
-heard-of-requires c κs = tt
+heard-at-requires : tie.Need-heard-at-requires Inv-loop μ-loop
+heard-at-requires c κs = asked-of (c .before) .source
 
 settled-part-requires : tie.Need-settled-part-requires Inv-loop μ-loop
 settled-part-requires c κs = tt
@@ -120,11 +116,9 @@ settled-part-requires c κs = tt
 objects-of-requires : tie.Need-objects-of-requires Inv-loop μ-loop
 objects-of-requires c κs =
     let hears = c .before in
-    let read = read-of (source-of hears) in
-    let test = test-of read in
-    let s = start-of test in
-    trial-period (s .args .table .now) (s .args .trial .now) (test .before .loop .i) (low test) (read .part-at .result) (read .part-at .ensures)
-    (hears .heard-of .result) (c .settled-part .result) (c .settled-part .ensures) (s .pre .1)
+    let s = start-of (test-of-heard hears) in
+    trial-period (asked-of (read-of hears)) (hears .heard-at .result) (c .settled-part .result)
+    (c .settled-part .ensures) (s .pre .1)
 
 -- what the settled part answers is the definition's test of it
 answers :
@@ -136,18 +130,9 @@ answers :
 answers asked =
     let settles = asked .before in
     let hears = settles .before in
-    let source = source-of hears in
-    let read = read-of source in
-    let test = test-of-heard hears in
-    let s = start-of test in
-    let ts = s .args .table .now in
-    let ss = s .args .trial .now in
-    let i = test .before .loop .i in
-    let reads =
-    lent-reading ts ss (s .pre .1 .wired) i (low test) _ _ _ _ (read .part-at .ensures) (source .source-index .ensures)
-    (hears .before .output-at .ensures) (hears .heard-of .ensures) in
-    trial-objects ts ss i (low test) (read .part-at .result) (read .part-at .ensures) (hears .heard-of .result) (settles .settled-part .result)
-    (settles .settled-part .ensures) (s .args .h .0) reads ∙ sym (asked .objects-of .ensures)
+    let h = start-of (test-of-heard hears) .args .h .0 in
+    trial-objects (asked-of (read-of hears)) (hears .heard-at .result) (settles .settled-part .result)
+    (settles .settled-part .ensures) h (hears .heard-at .ensures) ∙ sym (asked .objects-of .ensures)
 
 returns : tie.Need-returns Inv-loop μ-loop
 returns c =
@@ -162,11 +147,14 @@ returns c =
 
 add-i-2 : tie.Need-add-i-2 Inv-loop μ-loop
 add-i-2 c =
-    let test = test-of-heard (c .before .before .before) in
+    let hears = c .before .before .before in
+    let test = test-of-heard hears in
     omega (arith, low test, start-of test .pre .0 .table)
 
 loop-less-2 : tie.Need-loop-less-2 Inv-loop μ-loop
-loop-less-2 c = omega (arith, test-of-heard (c .before .before .before) .loop-test .taken)
+loop-less-2 c =
+    let hears = c .before .before .before in
+    omega (arith, test-of-heard hears .loop-test .taken)
 
 loop-again-2 : tie.Need-loop-again-2 Inv-loop μ-loop
 loop-again-2 c =
@@ -206,9 +194,7 @@ any-objects-in-spec =
     loop-less
     loop-again
     part-at-requires
-    source-index-requires
-    output-at-requires
-    heard-of-requires
+    heard-at-requires
     settled-part-requires
     objects-of-requires
     returns

@@ -62,11 +62,12 @@ returns-2 : tie.Need-returns-2
 unfolding total
 returns-2 c =
     let w = c .before .before .y .given in
+    let absent = c .before .before .before .before in
     rw (
       toZ-ofZ w64 (c .clamped .result) (record { sfits = c .clamped .ok }),
       c .clamped .ensures,
       toZ-ofZ w64 (w .0 .0) (record { sfits = c .before .known-told .given .0 .1 }),
-      c .before .before .before .before .enum-told .given .1,
+      absent .enum-told .given .1,
       w .1,
     )
 

@@ -94,10 +94,11 @@ helds : (c : tie.After-number-after2) →
     c .number-after2 .result ≡ moved-held (args .p) (args .x) (gain .gain-of .result .0)
 helds c =
     let speed = speed-before c in
+    let holds = c .before .before .before in
     let start = start-of (gain-before speed) in
     let back = toZ-ofZ w64 (speed .number-after .result) (record { sfits = speed .number-after .ok }) in
     held-of (start .args .p) (start .args .x) (gain-before speed .gain-of .result .0) (speed .before .before .has-mass .ensures)
-    (c .before .before .before .holds-number .ensures)
+    (holds .holds-number .ensures)
     (back ∙ speeds speed)
     (c .before .before .rate-of .ensures)
     (value-back (start .args .p .state .held) (start .pre .0 .held))
@@ -110,7 +111,9 @@ local-requires : tie.Need-local-requires
 local-requires c κs = search needs
 
 gain-of-requires : tie.Need-gain-of-requires
-gain-of-requires c κs = rw (c .local .ensures) (c .before .before .before .pre .1 .0 .local)
+gain-of-requires c κs =
+    let start = c .before .before .before in
+    rw (c .local .ensures) (start .pre .1 .0 .local)
 
 has-mass-requires : tie.Need-has-mass-requires
 has-mass-requires c κs = search needs

@@ -67,11 +67,14 @@ returns c =
 returns-2 : tie.Need-returns-2
 unfolding settled-as mark-after
 returns-2 c =
+    let marks = c .before in
+    let sides = marks .before in
+    let kind = sides .before in
     rw (
-      c .before .before .before .enum-told2 .given .1,
+      kind .enum-told2 .given .1,
       c .with-mark .ensures,
-      c .before .mark-between .ensures,
-      c .before .before .side-after .ensures,
+      marks .mark-between .ensures,
+      sides .side-after .ensures,
     )
 
 returns-3 : tie.Need-returns-3

@@ -105,7 +105,9 @@ returns c = rw (c .enum-told .given .1, a-back (c .before .before))
 
 returns-2 : tie.Need-returns-2
 unfolding output output-as
-returns-2 c = rw (c .before .enum-told2 .given .1, c .product-of .ensures, a-back (c .before .before .before))
+returns-2 c =
+    let period = c .before .before .before in
+    rw (c .before .enum-told2 .given .1, c .product-of .ensures, a-back period)
 
 returns-3 : tie.Need-returns-3
 unfolding output output-as
@@ -140,7 +142,9 @@ returns-7 c = rw (c .enum-told7 .given .1, held-back (c .before .before))
 
 returns-8 : tie.Need-returns-8
 unfolding output output-as
-returns-8 c = rw (c .before .enum-told8 .given .1, c .first-present-of .ensures, held-back (c .before .before .before))
+returns-8 c =
+    let period = c .before .before .before in
+    rw (c .before .enum-told8 .given .1, c .first-present-of .ensures, held-back period)
 
 returns-9 : tie.Need-returns-9
 unfolding output output-as

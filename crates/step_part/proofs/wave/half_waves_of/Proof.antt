@@ -46,19 +46,24 @@ div-result c = search needs
 sub-result : tie.Need-sub-result
 sub-result c =
     let asked = c .before .before in
-    let args = asked .before .before .before .before .args in
+    let start = asked .before .before .before .before in
+    let args = start .args in
     one-passed-at (args .period .0) (args .now) (sym (asked .before .at-multiple-of .ensures) ∙ asked .if2 .taken)
 
 returns-2 : tie.Need-returns-2
 unfolding half-waves
-returns-2 c = simp (sym (c .before .before .before .at-multiple-of .ensures) ∙ c .before .before .if2 .taken)
+returns-2 c =
+    let test = c .before .before in
+    simp (sym (test .before .at-multiple-of .ensures) ∙ test .if2 .taken)
 
 div-result-2 : tie.Need-div-result-2
 div-result-2 c = search needs
 
 returns-3 : tie.Need-returns-3
 unfolding half-waves
-returns-3 c = simp (sym (c .before .before .before .at-multiple-of .ensures) ∙ c .before .before .if2 .left)
+returns-3 c =
+    let test = c .before .before in
+    simp (sym (test .before .at-multiple-of .ensures) ∙ test .if2 .left)
 
 pub half-waves-of-spec : {M : Type 1} → statement M
 half-waves-of-spec =

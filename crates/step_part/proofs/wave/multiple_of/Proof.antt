@@ -24,7 +24,8 @@ rem-result c = search needs
 returns-3 : tie.Need-returns-3
 unfolding positive-multiple
 returns-3 c =
-    let t = c .before .before .before .before .before .before .args .t .0 in
+    let start = c .before .before .before .before .before .before in
+    let t = start .args .t .0 in
     simp (lt-ltb 0 t (omega arith))
 
 pub multiple-of-spec : {M : Type 1} → statement M

@@ -1,7 +1,7 @@
--- `filled_into` is `filled`, over the models that the words mean. The invariant: the outputs of the first i numbers of the part order are filled, nothing else of
--- the model is changed, the words behind it are kept, and what was written is clean. The measure is what is left of the
--- count. A turn reads a part and the outputs that its ports are wired to, and writes the part's output; one law of
--- `specs/LentFilling.antt` says what it asks and what it comes to.
+-- `filled_into` is `filled`, over the models that the words mean. The invariant: the outputs of the first i numbers of
+-- the part order are filled, nothing else of the model is changed, the words behind it are kept, and what was written
+-- is clean. The measure is what is left of the count. A turn reads a part and what its ports read, and writes the
+-- part's output; one law of `specs/LentFilling.antt` says what it asks and what it comes to.
 use Prim.Native.Nat.{ℕ, _-_, _≤_, _<_}
 use native.Mathlib.Omega.{arith}
 use mathlib.Core.List.{List}
@@ -27,24 +27,24 @@ Inv-loop table old new₀ count now i₀ new i =
 abbrev μ-loop : tie.MeasureT-loop
 μ-loop table old new₀ count now i₀ new i = part-count table - i
 
--- the loop's test, and the calls that read the part and find its sources, seen from later ones
+-- the start, the loop's test, and the calls that read the part and hear its sources, seen from later ones
+abbrev start-of : tie.In-loop Inv-loop μ-loop → tie.Start Inv-loop μ-loop
+start-of test = test .before .before .before .before .before .before .before .before
+
 abbrev test-of : tie.After-part-at Inv-loop μ-loop → tie.In-loop Inv-loop μ-loop
 test-of reads = reads .before .before .before
 
-abbrev reads-of : tie.After-source-index Inv-loop μ-loop → tie.After-part-at Inv-loop μ-loop
-reads-of first = first .before .before
+abbrev reads-of : tie.After-heard-at Inv-loop μ-loop → tie.After-part-at Inv-loop μ-loop
+reads-of first = first .before .before .before
 
-abbrev second-of : tie.After-output-at3 Inv-loop μ-loop → tie.After-source-index2 Inv-loop μ-loop
-second-of outs = outs .before .before .before .before .before
+abbrev first-of : tie.After-heard-at3 Inv-loop μ-loop → tie.After-heard-at Inv-loop μ-loop
+first-of third = third .before .before .before
 
-abbrev outs-of : tie.After-output-of Inv-loop μ-loop → tie.After-output-at3 Inv-loop μ-loop
-outs-of c = c .before .before .before .before
+abbrev third-of : tie.After-put-output Inv-loop μ-loop → tie.After-heard-at3 Inv-loop μ-loop
+third-of put = put .before .before .before
 
 abbrev reads-of-put : tie.After-put-output Inv-loop μ-loop → tie.After-part-at Inv-loop μ-loop
-reads-of-put put = reads-of (second-of (outs-of (put .before .before)) .before)
-
-abbrev start-of : tie.In-loop Inv-loop μ-loop → tie.Start Inv-loop μ-loop
-start-of test = test .before .before .before .before .before .before .before .before
+reads-of-put put = reads-of (first-of (third-of put))
 
 -- the words of the table, of the old state, of the new one before the first turn, and of the new one that the loop holds
 abbrev table-of : tie.In-loop Inv-loop μ-loop → List ℕ
@@ -53,44 +53,49 @@ table-of test = start-of test .args .table .now
 abbrev old-of : tie.In-loop Inv-loop μ-loop → List ℕ
 old-of test = start-of test .args .old .now
 
-abbrev first-of : tie.In-loop Inv-loop μ-loop → List ℕ
-first-of test = start-of test .args .new .now
+abbrev new₀-of : tie.In-loop Inv-loop μ-loop → List ℕ
+new₀-of test = start-of test .args .new .now
 
 abbrev new-of : tie.In-loop Inv-loop μ-loop → List ℕ
 new-of test = test .before .loop .new
 
 -- the place of the turn is below the count
 within : (test : tie.In-loop Inv-loop μ-loop) → test .before .loop .i < part-count (table-of test)
-within test = rw (test .before .before .before .before .parts-of .ensures) at (test .loop-test .taken)
+within test =
+    let counts = test .before .before .before .before in
+    rw (counts .parts-of .ensures) at (test .loop-test .taken)
 
 -- the words of the new state are all there
 room-of : (test : tie.In-loop Inv-loop μ-loop) → WordsThere (table-of test) (new-of test)
 room-of test =
-    let s = start-of test in
-    room-kept (table-of test) (first-of test) (new-of test) (part-count (table-of test)) (test .before .loop .inv .2) (s .pre .1 .0)
+    let ts = table-of test in
+    let there = start-of test .pre .1 .0 in
+    room-kept ts (new₀-of test) (new-of test) (part-count ts) (test .before .loop .inv .2) there
 
 -- what a turn asks, and what it comes to
 command-at :
     (reads : tie.After-part-at Inv-loop μ-loop) →
     let test = test-of reads in
-    LentTurn (table-of test) (old-of test) (first-of test) (new-of test) (test .before .loop .i) (reads .before .before .ordered-part .result)
-    (reads .part-at .result)
+    let k = reads .before .before .ordered-part .result in
+    let i = test .before .loop .i in
+    LentTurn (table-of test) (old-of test) (new₀-of test) (new-of test) i k (reads .part-at .result)
 command-at reads =
     let test = test-of reads in
-    let s = start-of test in
-    lent-turn (table-of test) (old-of test) (first-of test) (new-of test) (s .pre .1 .1) (test .before .loop .i) (test .before .loop .inv .1)
-    (within test) (reads .before .before .ordered-part .result) (reads .part-at .result) (reads .before .before .ordered-part .ensures)
-    (reads .part-at .ensures)
+    let fit = start-of test .pre .1 .1 in
+    let loop = test .before .loop in
+    let number = reads .before .before in
+    lent-turn (table-of test) (old-of test) (new₀-of test) (new-of test) fit (loop .i) (loop .inv .1) (within test)
+    (number .ordered-part .result) (reads .part-at .result) (number .ordered-part .ensures) (reads .part-at .ensures)
 
 parts-of-requires : tie.Need-parts-of-requires Inv-loop μ-loop
 parts-of-requires c κs =
-    let room = c .before .before .before .pre .0 in
-    omega (arith, room .table)
+    let start = c .before .before .before in
+    omega (arith, start .pre .0 .table)
 
 point-of-requires : tie.Need-point-of-requires Inv-loop μ-loop
 point-of-requires c κs =
-    let room = c .before .before .before .before .before .pre .1 .0 in
-    omega (arith, room .state)
+    let start = c .before .before .before .before .before in
+    omega (arith, start .pre .1 .0 .state)
 
 loop-holds : tie.Need-loop-holds Inv-loop μ-loop
 unfolding filled
@@ -109,71 +114,50 @@ part-at-requires : tie.Need-part-at-requires Inv-loop μ-loop
 part-at-requires c κs =
     let numbered = c .before in
     let test = numbered .before in
-    let s = start-of test in
+    let fit = start-of test .pre .1 .1 in
+    let loop = test .before .loop in
+    let ts = table-of test in
+    let new = new-of test in
     let k = numbered .ordered-part .result in
-    let below : k < part-count (table-of test) =
-    lent-number (table-of test) (old-of test) (first-of test) (new-of test) (s .pre .1 .1) (test .before .loop .i) (test .before .loop .inv .1) (within test) k
+    let below : k < part-count ts =
+    lent-number ts (old-of test) (new₀-of test) new fit (loop .i) (loop .inv .1) (within test) k
     (numbered .ordered-part .ensures) in
-    (table-room (table-of test) (new-of test) (room-of test) k below, state-room (table-of test) (new-of test) (room-of test) k below)
+    (table-room ts new (room-of test) k below, state-room ts new (room-of test) k below)
 
-source-index-requires : tie.Need-source-index-requires Inv-loop μ-loop
-source-index-requires c κs = tt
-
-source-index-requires-2 : tie.Need-source-index-requires-2 Inv-loop μ-loop
-source-index-requires-2 c κs = tt
-
-output-at-requires : tie.Need-output-at-requires Inv-loop μ-loop
-output-at-requires c κs =
-    let first = c .before .before in
-    let reads = reads-of first in
+heard-at-requires : tie.Need-heard-at-requires Inv-loop μ-loop
+heard-at-requires c κs =
+    let reads = c .before .before in
     let test = test-of reads in
-    rw (first .source-index .ensures) (state-room (table-of test) (new-of test) (room-of test) _ (command-at reads .source0))
+    state-room (table-of test) (new-of test) (room-of test) _ (command-at reads .source0)
 
-output-at-requires-2 : tie.Need-output-at-requires-2 Inv-loop μ-loop
-output-at-requires-2 c κs =
-    let second = c .before .before .before in
-    let reads = reads-of (second .before) in
+heard-at-requires-2 : tie.Need-heard-at-requires-2 Inv-loop μ-loop
+heard-at-requires-2 c κs =
+    let reads = reads-of (c .before) in
     let test = test-of reads in
-    rw (second .source-index2 .ensures) (state-room (table-of test) (new-of test) (room-of test) _ (command-at reads .source1))
+    state-room (table-of test) (new-of test) (room-of test) _ (command-at reads .source1)
 
-output-at-requires-3 : tie.Need-output-at-requires-3 Inv-loop μ-loop
-output-at-requires-3 c κs =
-    let first = c .before .before .before .before .before in
-    let reads = reads-of first in
+heard-at-requires-3 : tie.Need-heard-at-requires-3 Inv-loop μ-loop
+heard-at-requires-3 c κs =
+    let reads = reads-of (c .before .before) in
     let test = test-of reads in
-    let s = start-of test in
-    rw (first .source-index .ensures) (state-room (table-of test) (old-of test) (s .pre .0) _ (command-at reads .source0))
-
-heard-of-requires : tie.Need-heard-of-requires Inv-loop μ-loop
-heard-of-requires c κs = tt
-
-heard-of-requires-2 : tie.Need-heard-of-requires-2 Inv-loop μ-loop
-heard-of-requires-2 c κs = tt
-
-heard-of-requires-3 : tie.Need-heard-of-requires-3 Inv-loop μ-loop
-heard-of-requires-3 c κs = tt
+    state-room (table-of test) (old-of test) (start-of test .pre .0) _ (command-at reads .source0)
 
 output-of-requires : tie.Need-output-of-requires Inv-loop μ-loop
 output-of-requires c κs =
-    let outs = c .before .before .before in
-    let second = second-of outs in
-    let first = second .before in
-    let at = command-at (reads-of first) in
-    let out0 = outs .before .before .before in
-    let out1 = outs .before in (
+    let second = c .before in
+    let first = first-of c in
+    let at = command-at (reads-of first) in (
       at .ranges,
       (
-        λ direct. at .signal0 direct (first .source-index .result) (out0 .output-at .result) (c .before .before .heard-of .result) (first .source-index .ensures)
-            (out0 .output-at .ensures) (c .before .before .heard-of .ensures),
-        λ direct. at .signal1 direct (second .source-index2 .result) (out1 .output-at2 .result) (c .before .heard-of2 .result) (second .source-index2 .ensures)
-            (out1 .output-at2 .ensures) (c .before .heard-of2 .ensures),
+        λ direct. at .signal0 direct (first .heard-at .result) (first .heard-at .ensures),
+        λ direct. at .signal1 direct (second .heard-at2 .result) (second .heard-at2 .ensures),
       ),
     )
 
 put-output-requires : tie.Need-put-output-requires Inv-loop μ-loop
 put-output-requires c κs =
-    let outs = outs-of (c .before) in
-    let reads = reads-of (second-of outs .before) in
+    let third = c .before .before in
+    let reads = reads-of (first-of third) in
     let test = test-of reads in
     state-room (table-of test) (new-of test) (room-of test) _ (command-at reads .number)
 
@@ -191,30 +175,31 @@ loop-again : tie.Need-loop-again Inv-loop μ-loop
 loop-again c =
     let put = c .before .before in
     let outputs = put .before .before in
-    let heard = outputs .before in
-    let outs = outs-of outputs in
-    let second = second-of outs in
-    let first = second .before in
+    let out = outputs .output-of .result in
+    let third = third-of put in
+    let second = third .before in
+    let first = first-of third in
     let reads = reads-of first in
     let test = test-of reads in
     let loop = test .before .loop in
-    let k = reads .before .before .ordered-part .result in
+    let point = test .before .before in
+    let number = reads .before .before in
+    let k = number .ordered-part .result in
     let at = command-at reads in
     let below = within test in
+    let new₀ = new₀-of test in
+    let new = new-of test in
+    let n = part-count (table-of test) in
     let then = put .put-output .last .0 in (
       omega (arith, below),
-      at .fills (test .before .before .point-of .result) (first .source-index .result) (second .source-index2 .result)
-          (outs .before .before .before .output-at .result) (outs .before .output-at2 .result) (outs .output-at3 .result)
-          (heard .before .before .heard-of .result) (heard .before .heard-of2 .result) (heard .heard-of3 .result) (outputs .output-of .result)
-          then (test .before .before .point-of .ensures) (first .source-index .ensures) (second .source-index2 .ensures)
-          (outs .before .before .before .output-at .ensures) (outs .before .output-at2 .ensures) (outs .output-at3 .ensures)
-          (heard .before .before .heard-of .ensures) (heard .before .heard-of2 .ensures) (heard .heard-of3 .ensures) (outputs .output-of .ensures)
+      at .fills (point .point-of .result) (first .heard-at .result) (second .heard-at2 .result)
+          (third .heard-at3 .result) out then (point .point-of .ensures) (first .heard-at .ensures)
+          (second .heard-at2 .ensures) (third .heard-at3 .ensures) (outputs .output-of .ensures)
           (put .put-output .ensures),
-      behind-through (part-count (table-of test)) (first-of test) (new-of test) then (loop .inv .2)
-          (behind-shown (part-count (table-of test)) k (outputs .output-of .result) (new-of test) then (put .put-output .ensures) (at .number)),
-      clean-more (table-of test) (first-of test) (new-of test) then (loop .i) k (outputs .output-of .result)
-          (loop .inv .3)
-          (reads .before .before .ordered-part .ensures) (put .put-output .ensures),
+      behind-through n new₀ new then (loop .inv .2)
+          (behind-shown n k out new then (put .put-output .ensures) (at .number)),
+      clean-more (table-of test) new₀ new then (loop .i) k out (loop .inv .3) (number .ordered-part .ensures)
+          (put .put-output .ensures),
     )
 
 same-length : tie.Need-same-length Inv-loop μ-loop
@@ -222,16 +207,19 @@ same-length c = c .before .loop .inv .2 .size
 
 returns : tie.Need-returns Inv-loop μ-loop
 returns c =
-    let s = c .before .before .before .before .before .before .before .before in
+    let counts = c .before .before .before .before in
+    let s = counts .before .before .before .before in
     let loop = c .before .loop in
-    let past = rw (c .before .before .before .before .parts-of .ensures) at (c .loop-test .left) in (
-      lent-filled (s .args .table .now) (s .args .old .now) (s .args .new .now) (loop .new) (s .pre .1 .1) (loop .i) (loop .inv .1) past,
-      (
-        loop .inv .2,
-        clean-done (s .args .table .now) (s .args .old .now) (s .args .new .now) (loop .new) (s .pre .1 .1) (loop .i)
-            (loop .inv .3) past,
-      ),
-    )
+    let ts = s .args .table .now in
+    let old = s .args .old .now in
+    let new = s .args .new .now in
+    let fit = s .pre .1 .1 in
+    let past = rw (counts .parts-of .ensures) at (c .loop-test .left) in
+    record {
+      filled = lent-filled ts old new (loop .new) fit (loop .i) (loop .inv .1) past;
+      behind = loop .inv .2;
+      clean = clean-done ts old new (loop .new) fit (loop .i) (loop .inv .3) past;
+    }
 
 pub filled-into-spec : {M : Type 1} → statement M
 filled-into-spec =
@@ -244,14 +232,9 @@ filled-into-spec =
     loop-holds
     ordered-part-requires
     part-at-requires
-    source-index-requires
-    source-index-requires-2
-    output-at-requires
-    output-at-requires-2
-    output-at-requires-3
-    heard-of-requires
-    heard-of-requires-2
-    heard-of-requires-3
+    heard-at-requires
+    heard-at-requires-2
+    heard-at-requires-3
     output-of-requires
     put-output-requires
     add-i

@@ -5,7 +5,8 @@ use native.Mathlib.Omega.{arith}
 use borrow.Author.Tests.{not-true}
 use mathlib.Core.Path.{sym, _∙_}
 use Rattle.words_store.specs.ModelIn.{part-count}
-use Rattle.step_parts.specs.LentReading.{lent-source}
+use Rattle.step_parts.specs.LentReading.{source-room}
+use Rattle.step_parts.specs.LentFilling.{room-kept}
 use Rattle.step_parts.specs.LentMoving.{LentSettled, none-settled, settled-passes, settled-more, settled-done}
 use Rattle.step_parts.proofs.settling.settled_into.Statement.{statement}
 use Rattle.step_parts.proofs.settling.settled_into.Tie as tie
@@ -16,8 +17,8 @@ Inv-loop table new₀ count i₀ new i = LentSettled table new₀ i new
 abbrev μ-loop : tie.MeasureT-loop
 μ-loop table new₀ count i₀ new i = part-count table - i
 
--- the function's start, the loop's test, the kind read of a part that is passed over, the part read and the call that finds its source, each seen from a
--- later one
+-- the function's start, the loop's test, the kind read of a part that is passed over, the part read and the call that
+-- hears its source, each seen from a later one
 abbrev start-of : tie.In-loop Inv-loop μ-loop → tie.Start Inv-loop μ-loop
 start-of test = test .before .before .before .before .before
 
@@ -27,11 +28,11 @@ test-of part = part .before .before .before .before .before
 abbrev kind-of-passed : tie.Then1 Inv-loop μ-loop → tie.After-kind-at Inv-loop μ-loop
 kind-of-passed c = c .before .before
 
-abbrev part-of : tie.After-source-index Inv-loop μ-loop → tie.After-part-at Inv-loop μ-loop
-part-of source = source .before .before
+abbrev part-of : tie.After-heard-at Inv-loop μ-loop → tie.After-part-at Inv-loop μ-loop
+part-of hears = hears .before .before .before
 
-abbrev source-of : tie.After-put-state Inv-loop μ-loop → tie.After-source-index Inv-loop μ-loop
-source-of put = put .before .before .before .before .before .before .before
+abbrev hears-of : tie.After-put-state Inv-loop μ-loop → tie.After-heard-at Inv-loop μ-loop
+hears-of put = put .before .before .before .before
 
 -- the part's number is below the count of the table
 within : (test : tie.In-loop Inv-loop μ-loop) → test .before .loop .i < part-count (start-of test .args .table .now)
@@ -75,40 +76,34 @@ part-at-requires c κs =
     let low = within test in
     (omega (arith, room .table, low), omega (arith, room .state, low, test .before .loop .inv .behind .size))
 
-source-index-requires : tie.Need-source-index-requires Inv-loop μ-loop
-source-index-requires c κs = tt
-
-output-at-requires : tie.Need-output-at-requires Inv-loop μ-loop
-output-at-requires c κs =
-    let source = c .before in
-    let part = part-of source in
+heard-at-requires : tie.Need-heard-at-requires Inv-loop μ-loop
+heard-at-requires c κs =
+    let part = c .before .before in
     let test = test-of part in
     let s = start-of test in
+    let ts = s .args .table .now in
+    let new = s .args .new .now in
     let loop = test .before .loop in
-    let below =
-    lent-source (s .args .table .now) (s .args .new .now) (s .pre .1) (loop .i) (within test) (loop .new) _ _ (part .part-at .ensures)
-    (source .source-index .ensures) in
-    omega (arith, s .pre .0 .state, below, loop .inv .behind .size)
-
-heard-of-requires : tie.Need-heard-of-requires Inv-loop μ-loop
-heard-of-requires c κs = tt
+    source-room ts new (s .pre .1) (loop .i) (within test) (loop .new) (part .part-at .result) (part .part-at .ensures)
+    (room-kept ts new (loop .new) (part-count ts) (loop .inv .behind) (s .pre .0))
 
 settled-part-requires : tie.Need-settled-part-requires Inv-loop μ-loop
 settled-part-requires c κs = tt
 
 put-state-requires : tie.Need-put-state-requires Inv-loop μ-loop
 put-state-requires c κs =
-    let test = test-of (part-of (c .before .before .before .before .before .before)) in
+    let hears = c .before .before .before in
+    let test = test-of (part-of hears) in
     omega (arith, start-of test .pre .0 .state, within test, test .before .loop .inv .behind .size)
 
 add-i-2 : tie.Need-add-i-2 Inv-loop μ-loop
 add-i-2 c =
-    let test = test-of (part-of (source-of (c .before .before))) in
+    let test = test-of (part-of (hears-of (c .before .before))) in
     omega (arith, within test, test .before .before .parts-of .ok)
 
 loop-less-2 : tie.Need-loop-less-2 Inv-loop μ-loop
 loop-less-2 c =
-    let low = within (test-of (part-of (source-of (c .before .before)))) in
+    let low = within (test-of (part-of (hears-of (c .before .before)))) in
     omega (arith, low)
 
 loop-again-2 : tie.Need-loop-again-2 Inv-loop μ-loop
@@ -116,29 +111,29 @@ loop-again-2 c =
     let put = c .before .before in
     let settles = put .before .before .before in
     let hears = settles .before in
-    let reads = hears .before in
-    let source = source-of put in
-    let part = part-of source in
+    let part = part-of hears in
     let test = test-of part in
     let s = start-of test in
     let loop = test .before .loop in
-    settled-more (s .args .table .now) (s .args .new .now) (s .pre .1) (loop .i) (loop .new) (loop .inv) (within test) (part .part-at .result)
-    (part .part-at .ensures) (source .source-index .result) (reads .output-at .result) (hears .heard-of .result) (settles .settled-part .result)
-    (put .put-state .last .0) (source .source-index .ensures) (reads .output-at .ensures) (hears .heard-of .ensures) (settles .settled-part .ensures)
-    (put .put-state .ensures)
+    settled-more (s .args .table .now) (s .args .new .now) (s .pre .1) (loop .i) (loop .new) (loop .inv) (within test)
+    (part .part-at .result) (part .part-at .ensures) (hears .heard-at .result) (settles .settled-part .result)
+    (put .put-state .last .0) (hears .heard-at .ensures) (settles .settled-part .ensures) (put .put-state .ensures)
 
 same-length : tie.Need-same-length Inv-loop μ-loop
 same-length c = c .before .loop .inv .behind .size
 
 returns : tie.Need-returns Inv-loop μ-loop
 returns c =
-    let s = c .before .before .before .before .before in
+    let counts = c .before .before in
+    let s = counts .before .before .before in
+    let ts = s .args .table .now in
     let loop = c .before .loop in
-    let past : part-count (s .args .table .now) ≤ loop .i =
-    omega (arith, c .loop-test .left, c .before .before .parts-of .ensures) in (
-      settled-done (s .args .table .now) (s .args .new .now) (s .pre .1) (loop .i) (loop .new) (loop .inv) past,
-      (loop .inv .behind, loop .inv .signals),
-    )
+    let past : part-count ts ≤ loop .i = omega (arith, c .loop-test .left, counts .parts-of .ensures) in
+    record {
+      settled = settled-done ts (s .args .new .now) (s .pre .1) (loop .i) (loop .new) (loop .inv) past;
+      behind = loop .inv .behind;
+      signals = loop .inv .signals;
+    }
 
 pub settled-into-spec : {M : Type 1} → statement M
 settled-into-spec =
@@ -154,9 +149,7 @@ settled-into-spec =
     loop-less
     loop-again
     part-at-requires
-    source-index-requires
-    output-at-requires
-    heard-of-requires
+    heard-at-requires
     settled-part-requires
     put-state-requires
     add-i-2

@@ -1,5 +1,6 @@
--- `started` is `fresh`: the model put into words, its state copied, the outputs filled and the parts settled by the contracts of their functions, and the
--- state taken back. The words that are filled stand for those at the point before too, which no output reads at the start point.
+-- `started` is `fresh`: the model put into words, its state copied, the outputs filled and the parts settled by the
+-- contracts of their functions, and the state taken back. The words that are filled are those of the point before too,
+-- which no output reads at the start point.
 use Prim.Native.Nat.{ℕ}
 use native.Mathlib.Omega.{arith}
 use mathlib.Core.Path.{_≡_}
@@ -52,7 +53,9 @@ settled-size settles = search needs
 
 -- so the copy is the whole of them
 copied : (copies : tie.After-copy-state) → copy-of copies ≡ old-of (puts-of copies)
-copied copies = copied-whole 290 (old-of (puts-of copies)) _ (copy-of copies) (copies .copy-state .ensures) (old-size (puts-of copies)) (copy-size copies)
+copied copies =
+    let puts = puts-of copies in
+    copied-whole 290 (old-of puts) _ (copy-of copies) (copies .copy-state .ensures) (old-size puts) (copy-size copies)
 
 slice-aggregate-put-fitting : tie.Need-slice-aggregate-put-fitting
 slice-aggregate-put-fitting c = search needs
@@ -109,12 +112,15 @@ settled-into-requires c κs =
     let copies = copies-of fills in
     let puts = puts-of copies in
     let s = start-of puts in
-    let put = puts .put-fitting .ensures .0 in (
-      room-kept (table-of puts) (copy-of copies) (filled-of fills) (part-count (table-of puts))
-          (fills .filled-into .ensures .1 .0)
-          (start-room (s .args .m) (s .pre) (table-of puts) (old-of puts) (copy-of copies) put (copied copies)),
-      start-settleable (s .args .m) (s .pre) (table-of puts) (old-of puts) (copy-of copies) put (copied copies) (filled-of fills)
-          (fills .filled-into .ensures .0),
+    let ts = table-of puts in
+    let old = old-of puts in
+    let copy = copy-of copies in
+    let filled = filled-of fills in
+    let put = puts .put-fitting .ensures .0 in
+    let by-fill = fills .filled-into .ensures in
+    let there = start-room (s .args .m) (s .pre) ts old copy put (copied copies) in (
+      room-kept ts copy filled (part-count ts) (by-fill .behind) there,
+      start-settleable (s .args .m) (s .pre) ts old copy put (copied copies) filled (by-fill .filled),
     )
 
 slice-aggregate-recalled : tie.Need-slice-aggregate-recalled
@@ -134,8 +140,8 @@ returns c =
     let puts = puts-of copies in
     let s = start-of puts in
     start-is (s .args .m) (s .pre) (table-of puts) (old-of puts) (copy-of copies) (puts .put-fitting .ensures .0)
-    (copied copies) (filled-of fills)
-    (fills .filled-into .ensures .0) (settles .settled-into .last .1 .0) (c .recalled .result) (settles .settled-into .ensures .0) (c .recalled .ensures)
+    (copied copies) (filled-of fills) (fills .filled-into .ensures .filled) (settles .settled-into .last .1 .0)
+    (c .recalled .result) (settles .settled-into .ensures .settled) (c .recalled .ensures)
 
 pub started-spec : {M : Type 1} → statement M
 started-spec =

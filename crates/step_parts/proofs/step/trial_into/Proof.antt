@@ -26,8 +26,11 @@ points-of fills = fills .before .before .before .before
 abbrev start-of : tie.After-moved-into → tie.Start
 start-of moves = moves .before .before .before .before .before .before .before .before .before .before
 
+abbrev known-of : tie.After-moved-into → tie.After-to
+known-of moves = moves .before .before .before
+
 abbrev to-of : tie.After-moved-into → Point
-to-of moves = moves .before .before .before .to .given .0 .0
+to-of moves = known-of moves .to .given .0 .0
 
 -- the words of the table, of the old state and of the new one at the start, and those of the new one after each call
 abbrev table-of : tie.After-moved-into → List ℕ
@@ -53,15 +56,16 @@ behind-point : (points : tie.After-put-point) → let moves = moves-of points in
 behind-point points =
     let moves = moves-of points in
     let n = part-count (table-of moves) in
-    behind-through n (new-of moves) (moved-of moves) (pointed-of points) (moves .moved-into .ensures .1 .1 .0)
+    behind-through n (new-of moves) (moved-of moves) (pointed-of points) (moves .moved-into .ensures .behind)
     (behind-pointed n (to-of moves) (moved-of moves) (pointed-of points) (points .put-point .ensures))
 
 -- and the model's are all there
 room-point : (points : tie.After-put-point) → WordsThere (table-of (moves-of points)) (pointed-of points)
 room-point points =
     let moves = moves-of points in
-    let s = start-of moves in
-    room-kept (table-of moves) (new-of moves) (pointed-of points) (part-count (table-of moves)) (behind-point points) (s .pre .1 .0)
+    let ts = table-of moves in
+    let there = start-of moves .pre .0 .new-there in
+    room-kept ts (new-of moves) (pointed-of points) (part-count ts) (behind-point points) there
 
 point-of-requires : tie.Need-point-of-requires
 point-of-requires c κs = search needs
@@ -79,16 +83,15 @@ returns : tie.Need-returns
 returns c =
     let leads = c .before .before in
     let s = leads .before .before .before .before .before in
-    let asks = s .pre .1 .1 .1 .1 in
+    let point = leads .before in
     absurd
-    (lent-never-past (s .args .table .now) (s .args .old .now) (leads .before .point-of .result) (s .args .h .0) (leads .before .point-of .ensures) (asks .0)
-    (asks .1 .0) (sym (leads .step .ensures) ∙ c .enum-told .given .1))
+    (lent-never-past (s .args .table .now) (s .args .old .now) (point .point-of .result) (s .args .h .0)
+    (point .point-of .ensures) (s .pre .0 .in-time) (s .pre .1) (sym (leads .step .ensures) ∙ c .enum-told .given .1))
 
 moved-into-requires : tie.Need-moved-into-requires
 moved-into-requires c κs =
-    let s = c .before .before .before .before .before .before .before .before .before in
-    let asks = s .pre .1 .1 in
-    (s .pre .0, (s .pre .1 .0, (asks .0, (asks .1 .0, (asks .1 .1 .0, asks .1 .1 .1 .1)))))
+    let start = c .before .before .before .before .before .before .before .before .before in
+    start .pre .0
 
 put-point-requires : tie.Need-put-point-requires
 put-point-requires c κs = search needs
@@ -98,11 +101,11 @@ filled-into-requires c κs =
     let points = c .before .before .before in
     let moves = moves-of points in
     let s = start-of moves in (
-      s .pre .0,
+      s .pre .0 .old-there,
       (
         room-point points,
         lent-fillable (table-of moves) (old-of moves) (moved-of moves) (pointed-of points) (to-of moves) (s .args .h .0)
-            (moves .moved-into .ensures .0) (points .put-point .ensures) (s .pre .1 .1 .0),
+            (moves .moved-into .ensures .moved) (points .put-point .ensures) (s .pre .0 .sounds),
       ),
     )
 
@@ -115,31 +118,32 @@ returns-2 c =
     let points = points-of fills in
     let moves = moves-of points in
     let leads = moves .before .before .before .before .before in
-    let s = leads .before .before .before .before .before in
-    let asks = s .pre .1 .1 .1 .1 in
+    let point = leads .before in
+    let s = start-of moves in
+    let ts = table-of moves in
+    let old = old-of moves in
+    let new = new-of moves in
+    let moved = moved-of moves in
+    let pointed = pointed-of points in
+    let filled = filled-of fills in
+    let n = part-count ts in
+    let h = s .args .h .0 in
     let to = to-of moves in
+    let put = points .put-point .ensures in
+    let by-move = moves .moved-into .ensures in
+    let by-fill = fills .filled-into .ensures in
     let led =
-    lent-leads-to (table-of moves) (old-of moves) (leads .before .point-of .result) (s .args .h .0) (leads .before .point-of .ensures) (asks .0) (asks .1 .0) to
-    (sym (leads .step .ensures) ∙ moves .before .before .before .to .given .1) in (
-      lent-shown (table-of moves) (old-of moves) (moved-of moves) (pointed-of points) to (s .args .h .0) (moves .moved-into .ensures .0)
-          (points .put-point .ensures) (filled-of fills) (fills .filled-into .ensures .0) led,
-      (
-        (λ j low. fills .filled-into .ensures .1 .0 .form j
-            (behind-pointed (part-count (table-of moves)) to (moved-of moves) (pointed-of points) (points .put-point .ensures) .form j
-            (moves .moved-into .ensures .1 .0 j low))),
-        (
-          lent-behind (part-count (table-of moves)) (new-of moves) (moved-of moves) (pointed-of points)
-              (filled-of fills) to
-              (moves .moved-into .ensures .1 .1 .0) (points .put-point .ensures) (fills .filled-into .ensures .1 .0),
-          after-kept (part-count (table-of moves)) (old-of moves) (pointed-of points) (filled-of fills)
-              (λ j low.
-              signals-through (old-of moves) (moved-of moves) (pointed-of points) j
-              (moves .moved-into .ensures .1 .1 .1 j low)
-              (kept-pointed (moved-of moves) (pointed-of points) to (points .put-point .ensures) j))
-              (fills .filled-into .ensures .1 .1),
-        ),
-      ),
-    )
+    lent-leads-to ts old (point .point-of .result) h (point .point-of .ensures) (s .pre .0 .in-time) (s .pre .1) to
+    (sym (leads .step .ensures) ∙ known-of moves .to .given .1) in
+    record {
+      shown = lent-shown ts old moved pointed to h (by-move .moved) put filled (by-fill .filled) led;
+      form = λ j low. by-fill .behind .form j (behind-pointed n to moved pointed put .form j (by-move .form j low));
+      behind = lent-behind n new moved pointed filled to (by-move .behind) put (by-fill .behind);
+      clean =
+          after-kept n old pointed filled
+          (λ j low. signals-through old moved pointed j (by-move .signals j low) (kept-pointed moved pointed to put j))
+          (by-fill .clean);
+    }
 
 pub trial-into-spec : {M : Type 1} → statement M
 trial-into-spec =

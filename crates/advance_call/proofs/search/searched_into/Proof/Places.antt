@@ -10,7 +10,7 @@ use Rattle.machine.specs.declared.model.Model.{Model}
 use Rattle.machine.specs.Time.{tick, last-tick}
 use Rattle.machine.specs.Sound.{sound}
 use Rattle.machine.specs.Step.{step-made}
-use Rattle.machine.specs.Advance.{round, any-objects}
+use Rattle.machine.specs.Advance.{longest-wanted, round, any-objects}
 use Rattle.ask_laws.specs.Agreed.{Agreed}
 use Rattle.step_parts.specs.StepShown.{Settleable, shown-settleable}
 use Rattle.words_store.specs.ModelIn.{part-count, model-in, WordsThere}
@@ -62,13 +62,15 @@ words-of tries = tries .trial-into .last .1 .1 .1 .0
 
 -- what the caller promises
 abbrev pub is-sound-at : (s : tie.Start Inv-loop μ-loop Inv-ceilings μ-ceilings) → sound (lent-model (s .args .table .now) (s .args .old .now)) ≡ true
-is-sound-at s = s .pre .1 .1 .0
+is-sound-at s = s .pre .sounds
 
-abbrev pub small : (s : tie.Start Inv-loop μ-loop Inv-ceilings μ-ceilings) → s .args .w ≤ 1000000000
-small s = s .pre .1 .1 .1 .0
+abbrev pub small : (s : tie.Start Inv-loop μ-loop Inv-ceilings μ-ceilings) → s .args .w ≤ longest-wanted
+small s = s .pre .short
 
-abbrev pub far : (s : tie.Start Inv-loop μ-loop Inv-ceilings μ-ceilings) → tick (model-in (s .args .table .now) (s .args .old .now) .point) + s .args .w ≤ last-tick
-far s = s .pre .1 .1 .1 .1 .0
+abbrev pub far :
+    (s : tie.Start Inv-loop μ-loop Inv-ceilings μ-ceilings) →
+    tick (model-in (s .args .table .now) (s .args .old .now) .point) + s .args .w ≤ last-tick
+far s = s .pre .in-time
 
 -- the words behind the new state's are those at the start
 pub behind-at : (at : tie.At-loop Inv-loop μ-loop Inv-ceilings μ-ceilings) → SameBehind (part-count (start-of at .args .table .now)) (start-of at .args .new .now) (at .loop .new)
@@ -80,7 +82,7 @@ behind-at at =
 -- so there is room for the new state
 pub room-at : (at : tie.At-loop Inv-loop μ-loop Inv-ceilings μ-ceilings) → WordsThere (start-of at .args .table .now) (at .loop .new)
 room-at at =
-    let room = start-of at .pre .1 .0 in
+    let room = start-of at .pre .new-there in
     record { table = room .table; state = omega (arith, room .state, behind-at at .size) }
 
 -- a round that changed h
@@ -130,7 +132,8 @@ objects-tried asked =
     let tries = trial-of asked in
     let at = loop-of-trial tries in
     let h = at .loop .h in
-    objects-made (model-of at) h h ∙ ap (any-objects-settled h) (sym (tries .trial-into .ensures .0)) ∙ sym (asked .any-objects-in .ensures)
+    objects-made (model-of at) h h ∙ ap (any-objects-settled h) (sym (tries .trial-into .ensures .shown)) ∙
+    sym (asked .any-objects-in .ensures)
 
 -- the trial can be settled
 pub settleable :
@@ -138,7 +141,8 @@ pub settleable :
     Settleable (lent-model (start-of (loop-of-trial tries) .args .table .now) (words-of tries))
 settleable tries =
     let at = loop-of-trial tries in
-    subst Settleable (sym (tries .trial-into .ensures .0)) (shown-settleable (model-of at) (at .loop .h) (is-sound-at (start-of at)))
+    subst Settleable (sym (tries .trial-into .ensures .shown))
+    (shown-settleable (model-of at) (at .loop .h) (is-sound-at (start-of at)))
 
 -- a part objects to it
 pub objected :
@@ -162,10 +166,10 @@ behind-trial tries =
     let at = loop-of-trial tries in
     let s = start-of at in
     behind-through (part-count (s .args .table .now)) (s .args .new .now) (at .loop .new) (words-of tries)
-    (behind-at at) (tries .trial-into .ensures .1 .1 .0)
+    (behind-at at) (tries .trial-into .ensures .behind)
 
 -- there is room for it
 pub room-of-trial : (tries : tie.After-trial-into Inv-loop μ-loop Inv-ceilings μ-ceilings) → WordsThere (start-of (loop-of-trial tries) .args .table .now) (words-of tries)
 room-of-trial tries =
-    let room = start-of (loop-of-trial tries) .pre .1 .0 in
+    let room = start-of (loop-of-trial tries) .pre .new-there in
     record { table = room .table; state = omega (arith, room .state, behind-trial tries .size) }
