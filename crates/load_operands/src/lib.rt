@@ -2,3 +2,4 @@
 pub mod cursor;
 pub mod operands;
 pub mod refusal;
+pub mod score;

@@ -4,7 +4,7 @@ use crate::cursor::ByteRead;
 use crate::cursor::Cursor;
 use crate::cursor::WordRead;
 use crate::cursor::byte;
-use crate::cursor::word;
+use crate::cursor::u32_at;
 ghost use Rattle.load_operands.specs.Operands.{PartMeant, WireMeant};
 
 // The operands of a Part, the signed ones still as they stand in the stream.

@@ -14,6 +14,13 @@ use part_rules::range::is_positive;
 use part_rules::range::magnitude_known;
 use part_rules::range::preference_known;
 use part_rules::source::is_wired;
+use refusals::ALREADY_WIRED;
+use refusals::NOT_THERE;
+use refusals::OUT_OF_PLACE;
+use refusals::OUT_OF_RANGE;
+use refusals::SPAN_NOT_RISING;
+use refusals::TOO_MANY;
+use refusals::UNKNOWN_COMMAND;
 use refusals::first_of;
 use refusals::refusal;
 ghost use mathlib.Core.Path.{_≡_};
@@ -35,9 +42,6 @@ pub const END_BYTE: u8 = 0x05;
 
 pub const WANT_BYTE: u8 = 0x06;
 
-// The number of a kind that is not found.
-const UNKNOWN_KIND: u64 = 5;
-
 // The refusal of a Begin with this magnitude.
 pub fn begin_refusal(e: u8) -> u64
     ensures { λ r. ⌜ r ≡ begin-refusal e ⌝ }
@@ -53,20 +57,20 @@ fn operands_refusal(o: PartOperands) -> u64
     ensures { λ r. ⌜ r ≡ operands-number o ⌝ }
 {
     let KindFound::Known(kind) = kind_of(o.kind) else {
-        return UNKNOWN_KIND;
+        return OUT_OF_RANGE;
     };
     if !preference_known(o.preference) {
-        return 5;
+        return OUT_OF_RANGE;
     }
     let fit = operands_fit(kind, signed_of(o.a), signed_of(o.b), o.p);
-    refusal(!fit, 5)
+    refusal(!fit, OUT_OF_RANGE)
 }
 
 // The refusal of a Part behind so many.
 pub fn part_refusal(count: usize, o: PartOperands) -> u64
     ensures { λ r. ⌜ r ≡ part-number count o ⌝ }
 {
-    let room = refusal(count >= PARTS, 6);
+    let room = refusal(count >= PARTS, TOO_MANY);
     let range = operands_refusal(o);
     first_of(room, range)
 }
@@ -75,9 +79,9 @@ pub fn part_refusal(count: usize, o: PartOperands) -> u64
 pub fn span_refusal(count: usize, last: u32, v: u32) -> u64
     ensures { λ r. ⌜ r ≡ span-number count last v ⌝ }
 {
-    let places = refusal(count >= SPANS, 6);
-    let range = refusal(!is_positive(v), 5);
-    let order = refusal(v <= last, 12);
+    let places = refusal(count >= SPANS, TOO_MANY);
+    let range = refusal(!is_positive(v), OUT_OF_RANGE);
+    let order = refusal(v <= last, SPAN_NOT_RISING);
     first_of(places, first_of(range, order))
 }
 
@@ -96,8 +100,8 @@ pub fn port_refusal(kind: Kind, port0: Source, port1: Source, port: u8) -> u64
     ensures { λ r. ⌜ r ≡ port-number kind port0 port1 port ⌝ }
 {
     let source = source_of(port0, port1, port);
-    let unknown = refusal(port >= ports_of(kind), 7);
-    let taken = refusal(is_wired(source), 8);
+    let unknown = refusal(port >= ports_of(kind), NOT_THERE);
+    let taken = refusal(is_wired(source), ALREADY_WIRED);
     first_of(unknown, taken)
 }
 
@@ -134,7 +138,7 @@ fn in_place(begun: bool, spannable: bool, b: u8) -> bool
 pub fn command_refusal(begun: bool, spannable: bool, b: u8) -> u64
     ensures { λ r. ⌜ r ≡ command-number begun spannable b ⌝ }
 {
-    let unknown = refusal(!known_command(b), 2);
-    let misplaced = refusal(!in_place(begun, spannable, b), 3);
+    let unknown = refusal(!known_command(b), UNKNOWN_COMMAND);
+    let misplaced = refusal(!in_place(begun, spannable, b), OUT_OF_PLACE);
     first_of(unknown, misplaced)
 }

@@ -1,55 +1,45 @@
--- The whole rehearsal, shown: by induction on the batches, each taking its text off what is to come; and by the lengths of texts. Assumes nothing.
-use Prim.Native.Nat.{ℕ, _+_}
-use native.Mathlib.Omega.{arith}
-use mathlib.Core.Path.{_≡_, refl, sym, ap, _∙_}
-use mathlib.Core.List.{List, [], _∷_, _++_}
-use lib.ListN.{length, length-append}
-use Rattle.machine.specs.Rehearse.{rehearsed}
-use Rattle.prog_rehearse.specs.Batches.{Stand, unprinted, to-come, Batch, batch-text, printed-by, Batches, InBatches, WholeRehearsal}
+-- What the program `rehearse` prints, whole: what is said at the beginning and the text of every batch, one after the
+-- other, are the machine's `rehearsed`, for the bytes that are read of all that standard input holds. Assumes
+-- nothing.
+use Prim.Native.Nat.{ℕ, _<_}
+use mathlib.Core.Path.{_≡_, sym, _∙_}
+use mathlib.Core.List.{List, _∷_, _++_}
+use lib.ListN.{length, take}
+use Rattle.machine.specs.Load.{load}
+use Rattle.machine.specs.Rehearse.{most-read, rehearsed}
+use Rattle.play_score.specs.declared.format.Format.the-variants.{Plain}
+use Rattle.play_score.specs.Lines.{on-output, score-printout}
+use Rattle.play_score.specs.PlainLines.{plain-printout}
+use Rattle.play_score.specs.WholeScore.{Batch, batch-text, InBatches, said-by, whole-score}
 
--- batches up to the end print all that was to come
-print-all : (input : List ℕ) (s : Stand) (bs : List Batch) → Batches input s bs → printed-by bs ≡ to-come input s
-unfolding printed-by batch-text to-come unprinted
-print-all input s [] ended = rw ended refl
-print-all input s (b ∷ bs) (at, batch, rest) = rw (← at, print-all input (b .next) bs rest) (sym (batch .text))
+-- batches that print the bytes that are read of an input, in plain lines
+abbrev pub Rehearsed : List ℕ → List Batch → Type 0
+Rehearsed input batches = InBatches (take most-read input) Plain batches
 
-all-printed : (input : List ℕ) (bs : List Batch) → InBatches input bs → printed-by bs ≡ rehearsed input
-all-printed input bs r = print-all input (r .first) bs (r .batches) ∙ r .begun
+-- The statement, for every input and every list of batches that rehearse it: they print what is rehearsed, on standard
+-- output. A batch that has a text cannot be left out, nor printed twice.
+pub record WholeRehearsal : Type 0 where
+  pub whole : (input : List ℕ) (batches : List Batch) (p : Rehearsed input batches) →
+      said-by (p .buffer) (p .opening) batches ≡ on-output (rehearsed input)
+  pub none-dropped : (input : List ℕ) (xs : List Batch) (b : Batch) (ys : List Batch)
+      (p : Rehearsed input (xs ++ (b ∷ ys))) → 0 < length (batch-text b) →
+      said-by (p .buffer) (p .opening) (xs ++ ys) ≡ on-output (rehearsed input) → ⊥
+  pub none-repeated : (input : List ℕ) (xs : List Batch) (b : Batch) (ys : List Batch)
+      (p : Rehearsed input (xs ++ (b ∷ ys))) → 0 < length (batch-text b) →
+      said-by (p .buffer) (p .opening) (xs ++ (b ∷ b ∷ ys)) ≡ on-output (rehearsed input) → ⊥
 
--- the length of what two lists of batches print
-printed-length : (bs cs : List Batch) → length (printed-by (bs ++ cs)) ≡ length (printed-by bs) + length (printed-by cs)
-unfolding printed-by
-printed-length [] cs = omega arith
-printed-length (b ∷ bs) cs = simp length-append (omega (arith, printed-length bs cs))
-
--- and of one batch with some
-one-more : (b : Batch) (cs : List Batch) → length (printed-by (b ∷ cs)) ≡ length (batch-text b) + length (printed-by cs)
-unfolding printed-by
-one-more b cs = simp length-append
-
--- a list of batches that prints the same has a text of the same length
-same-length : (input : List ℕ) (bs cs : List Batch) → InBatches input bs → printed-by cs ≡ rehearsed input →
-    length (printed-by cs) ≡ length (printed-by bs)
-same-length input bs cs r same = ap length (same ∙ sym (all-printed input bs r))
+-- plain lines are what is rehearsed
+lines-rehearsed : (input : List ℕ) → score-printout (take most-read input) Plain ≡ on-output (rehearsed input)
+unfolding rehearsed
+lines-rehearsed input = plain-printout (take most-read input) (load (take most-read input))
 
 pub whole-rehearsal : WholeRehearsal
 whole-rehearsal =
     record {
-      whole = all-printed;
-      none-dropped = λ input bs b cs r some same.
-          omega (
-            arith,
-            same-length input (bs ++ (b ∷ cs)) (bs ++ cs) r same,
-            printed-length bs cs,
-            printed-length bs (b ∷ cs),
-            one-more b cs,
-          );
-      none-repeated = λ input bs b cs r some same.
-          omega (
-            arith,
-            same-length input (bs ++ (b ∷ cs)) (bs ++ (b ∷ b ∷ cs)) r same,
-            printed-length bs (b ∷ b ∷ cs),
-            printed-length bs (b ∷ cs),
-            one-more b (b ∷ cs),
-          );
+      whole = λ input batches p.
+          sym (whole-score .whole (take most-read input) Plain batches p) ∙ lines-rehearsed input;
+      none-dropped = λ input xs b ys p some same.
+          whole-score .none-dropped (take most-read input) Plain xs b ys p some (lines-rehearsed input ∙ sym same);
+      none-repeated = λ input xs b ys p some same.
+          whole-score .none-repeated (take most-read input) Plain xs b ys p some (lines-rehearsed input ∙ sym same);
     }

@@ -1,4 +1,4 @@
--- `choice_of` reads the three numbers one behind the other.
+-- `choice_of` reads the three numbers one after the other.
 use mathlib.Core.Path.{refl}
 use Rattle.prog_printsheet.specs.SheetPrinted.{choice-in}
 use borrow.Author.Needs.{needs}
@@ -16,7 +16,12 @@ chosen-number-requires-3 c κs = search needs
 
 returns : tie.Need-returns
 unfolding choice-in
-returns c = rw (c .before .before .chosen-number .ensures, c .before .chosen-number2 .ensures, c .chosen-number3 .ensures) refl
+returns c =
+    rw (
+      c .before .before .chosen-number .ensures,
+      c .before .chosen-number2 .ensures,
+      c .chosen-number3 .ensures,
+    ) refl
 
 pub choice-of-spec : {M : Type 1} → statement M
 choice-of-spec =

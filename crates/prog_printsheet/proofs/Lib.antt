@@ -1,4 +1,0 @@
--- Laws of the sheet that `printsheet` prints.
-pub mod SheetCalls
-pub mod TurnLines
-pub mod Openings
