@@ -24,7 +24,7 @@ use Rattle.step_parts.specs.Start.{unfilled}
 use Rattle.load_table.specs.declared.table.TableRead.{TableRead}
 use Rattle.load_table.specs.Concluded.{Ended, concluded, end-loaded, table-read}
 use Rattle.load_call.specs.declared.ending.Ending.{Ending}
-use Rattle.load_call.specs.Places.{components-read, components-count, periods-within, periods-by, first-by, first-parts-by}
+use Rattle.load_call.specs.FirstPlaces.{components-read, components-count, periods-within, periods-by, first-by, first-parts-by}
 
 -- the largest number that a usize holds
 abbrev pub last-position : ℕ
@@ -48,7 +48,7 @@ pub record Judged (read : TableRead) (r : Ending) : Type 0 where
 
 -- a table that was read and is not refused, with the position after its End within the numbers of a word
 pub record Acceptable (read : TableRead) (e : Ending) : Type 0 where
-  pub few : read .count ≤ 32
+  pub few : read .count ≤ most-parts
   pub fits : table-fits (table-read read) ≡ true
   pub magnitude : e .magnitude ≡ magnitude-of (table-read read)
   pub small : e .magnitude ≤ last-magnitude

@@ -10,6 +10,9 @@ use machine::model::Model;
 use machine::model::PARTS;
 use machine::time::Point;
 use order_place::place;
+use refusals::LOOP;
+use refusals::NO_PARTS;
+use refusals::PERIOD_TOO_LONG;
 use refusals::first_of;
 use refusals::refusal;
 use step_parts::start::started;
@@ -26,9 +29,9 @@ ghost use Rattle.load_call.specs.EndRefusals.{Acceptable, Judged, end-nu
 fn end_refusal(count: usize, fit: bool, placed: usize) -> u64
     ensures { λ r. ⌜ r ≡ end-number count fit placed ⌝ }
 {
-    let none = refusal(count == 0, 9);
-    let period = refusal(!fit, 10);
-    let closed = refusal(placed < count, 11);
+    let none = refusal(count == 0, NO_PARTS);
+    let period = refusal(!fit, PERIOD_TOO_LONG);
+    let closed = refusal(placed < count, LOOP);
     first_of(none, first_of(period, closed))
 }
 

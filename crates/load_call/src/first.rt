@@ -1,4 +1,4 @@
-// The parts of a table before the start point is filled. Its contracts cite `specs/Places.antt`, which goes by the machine's
+// The parts of a table before the start point is filled. Its contracts cite `specs/FirstPlaces.antt`, which goes by the machine's
 // `specs/Fresh.antt`.
 use crate::blank::blank_part;
 use machine::model::PARTS;
@@ -17,7 +17,8 @@ ghost use mathlib.Core.Bool.{cond};
 ghost use lib.IntN.{pos};
 ghost use Prim.Native.Nat.{_≤_};
 ghost use Rattle.machine.specs.Time.{last-magnitude};
-ghost use Rattle.load_call.specs.Places.{first-by, first-places};
+ghost use Rattle.machine.specs.Model.{most-parts};
+ghost use Rattle.load_call.specs.FirstPlaces.{first-by, first-places};
 
 // A held number or a speed at the start: the operand where the kind holds it, else 0.
 fn first_number(holds: bool, v: i64) -> i64
@@ -56,7 +57,7 @@ fn first_part(c: Component, magnitude: u8) -> Part
 
 // The first parts of the first `count` components, by the master's magnitude. The places behind them are blank.
 pub(crate) fn first_parts(parts: [Component; PARTS], count: usize, magnitude: u8) -> [Part; PARTS]
-    requires { ⌜ count ≤ 32 ⌝ }
+    requires { ⌜ count ≤ most-parts ⌝ }
     requires { ⌜ magnitude ≤ last-magnitude ⌝ }
     ensures { λ r. ⌜ r ≡ first-places magnitude count parts ⌝ }
 {

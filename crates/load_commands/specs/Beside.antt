@@ -11,7 +11,7 @@ use Rattle.load_operands.specs.Refusals.{span-number}
 use Rattle.load_operands.specs.Tests.{at-least-min}
 use Rattle.load_commands.specs.declared.progress.Progress.{Progress}
 use Rattle.load_commands.specs.Progress.{with-row, reading-of}
-use Rattle.load_commands.specs.Rows.{length-reading, reading-at}
+use Rattle.load_commands.specs.SpanRows.{length-reading, reading-at}
 use Rattle.load_commands.specs.Spanned.{Beside, last-of, last-place, span-count, spanned-reading}
 
 -- the Span at a position, the last part's last span being given

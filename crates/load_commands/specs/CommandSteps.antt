@@ -7,6 +7,7 @@ use lib.ListN.{length}
 use lib.Dec.{leb}
 use borrow.Author.Tests.{ne-eqb, lt-leb}
 use Rattle.machine.specs.Load.{Read, Reading, ended, refused, unless-refused}
+use Rattle.machine.specs.Model.{most-parts}
 use Rattle.load_operands.specs.Operands.{cut-number}
 use Rattle.load_commands.specs.declared.table_command.SpanResult.{SpanResult}
 use Rattle.load_commands.specs.declared.table_command.CommandResult.{CommandResult}
@@ -31,17 +32,17 @@ refused-span number at progress = record { span = 0; step = refused-step number 
 
 -- what a command leaves: the progress counts no more than 32 parts, and a refusal is the whole of such a step
 pub record StepLeft (at : ℕ) (progress : Progress) (r : CommandResult) : Type 0 where
-  pub few : r .progress .count ≤ 32
+  pub few : r .progress .count ≤ most-parts
   pub refused : (r .number ≡ 0 → ⊥) → r ≡ refused-step (r .number) at progress
 
 pub record SpanLeft (at : ℕ) (progress : Progress) (r : SpanResult) : Type 0 where
-  pub few : r .step .progress .count ≤ 32
+  pub few : r .step .progress .count ≤ most-parts
   pub refused : (r .step .number ≡ 0 → ⊥) → r ≡ refused-span (r .step .number) at progress
 
 -- laws of a step that is such a refusal
 module _ (r : CommandResult) (n at : ℕ) (progress : Progress) (is : r ≡ refused-step n at progress) where
   -- it leaves that
-  pub refused-left : progress .count ≤ 32 → StepLeft at progress r
+  pub refused-left : progress .count ≤ most-parts → StepLeft at progress r
   refused-left few = rw is (record { few = few; refused = λ some. refl })
 
   -- it is document 01's refusal with this number

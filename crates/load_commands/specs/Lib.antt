@@ -1,7 +1,7 @@
 -- What the reading of a table's commands comes to.
 pub mod Progress
 pub mod ComponentMade
-pub mod Rows
+pub mod SpanRows
 pub mod CommandSteps
 pub mod Wired
 pub mod Spanned

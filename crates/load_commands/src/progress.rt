@@ -9,16 +9,15 @@ use machine::part::SPANS;
 use machine::part::Source;
 use part_rules::kind::is_drive;
 use part_rules::kind::kind_numbered;
+use refusals::NOT_THERE;
 ghost use Prim.Native.Nat.{ℕ, _<_, _≤_};
 ghost use mathlib.Core.Path.{_≡_};
 ghost use mathlib.Core.List.{List};
 ghost use Rattle.machine.specs.Load.{begun-with, wire-refusal, with-part, with-wire};
+ghost use Rattle.machine.specs.Model.{most-parts};
 ghost use Rattle.load_commands.specs.Progress.{reading-of};
 ghost use Rattle.load_commands.specs.Wired.{wired-reading};
 ghost use Rattle.load_commands.specs.ComponentMade.{component-of, made-component};
-
-// The number of a wire that names an unknown part.
-const UNKNOWN_PART: u64 = 7;
 
 // Whether Begin was read, whether a span may follow, the default magnitude, and the parts: the first `count` places are in use. Free in every progress
 // that is answered: the places behind them, and a component's own places for spans, which its row stands for.
@@ -53,9 +52,9 @@ fn component_of(o: PartOperands) -> Component
 
 // The progress with one part more.
 pub(crate) fn with_part(progress: Progress, o: PartOperands) -> Progress
-    requires { ⌜ progress .count < 32 ⌝ }
+    requires { ⌜ progress .count < most-parts ⌝ }
     ensures { λ r. ⌜ ((rows : List (List ℕ)) → reading-of r rows ≡ with-part (reading-of progress rows) (component-of o)) ⌝ }
-    ensures few { λ r. ⌜ r .count ≤ 32 ⌝ }
+    ensures few { λ r. ⌜ r .count ≤ most-parts ⌝ }
 {
     let made = component_of(o);
     let kind = made.kind;
@@ -74,7 +73,7 @@ pub(crate) fn with_part(progress: Progress, o: PartOperands) -> Progress
 // The progress behind a Begin with this magnitude.
 pub(crate) fn with_begin(progress: Progress, e: u8) -> Progress
     ensures { λ r. ⌜ ((rows : List (List ℕ)) → reading-of r rows ≡ begun-with e) ⌝ }
-    ensures few { λ r. ⌜ r .count ≤ 32 ⌝ }
+    ensures few { λ r. ⌜ r .count ≤ most-parts ⌝ }
 {
     let parts = progress.parts;
     Progress {
@@ -123,9 +122,9 @@ fn wired_component(c: Component, port: u8, source: u8) -> Component
 
 // The progress with a port of the part `receiver` wired to a source.
 pub(crate) fn with_wire(progress: Progress, receiver: usize, port: u8, source: u8) -> Progress
-    requires { ⌜ (receiver < progress .count) × (progress .count ≤ 32) ⌝ }
+    requires { ⌜ (receiver < progress .count) × (progress .count ≤ most-parts) ⌝ }
     ensures { λ r. ⌜ ((rows : List (List ℕ)) → reading-of r rows ≡ wired-reading (reading-of progress rows) receiver port source) ⌝ }
-    ensures few { λ r. ⌜ r .count ≤ 32 ⌝ }
+    ensures few { λ r. ⌜ r .count ≤ most-parts ⌝ }
 {
     let c = progress.parts[receiver];
     let wired = wired_component(c, port, source);
@@ -142,16 +141,16 @@ pub(crate) fn with_wire(progress: Progress, receiver: usize, port: u8, source: u
 
 // The refusal of a Wire behind this progress.
 pub(crate) fn wire_refusal(progress: Progress, source: u8, receiver: u8, port: u8) -> u64
-    requires { ⌜ progress .count ≤ 32 ⌝ }
+    requires { ⌜ progress .count ≤ most-parts ⌝ }
     ensures { λ r. ⌜ ((rows : List (List ℕ)) → r ≡ wire-refusal (reading-of progress rows .table .parts) source receiver port) ⌝ }
 {
     let count = progress.count;
     if source as usize >= count {
-        return UNKNOWN_PART;
+        return NOT_THERE;
     }
     let place = receiver as usize;
     if place >= count {
-        return UNKNOWN_PART;
+        return NOT_THERE;
     }
     let c = progress.parts[place];
     let kind = c.kind;

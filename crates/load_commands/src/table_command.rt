@@ -20,11 +20,13 @@ use load_operands::operands::wire_operands;
 use load_operands::refusal::begin_refusal;
 use load_operands::refusal::part_refusal;
 use load_operands::refusal::span_refusal;
+use refusals::CUT;
 ghost use Prim.Native.Nat.{ℕ, _<_, _≤_};
 ghost use mathlib.Core.Path.{_≡_};
 ghost use mathlib.Core.List.{List};
 ghost use lib.ListN.{length};
 ghost use Rattle.machine.specs.Load.{begin-command, begin-refusal, begun-with, part-command, unless-refused, wire-command, wire-refusal, with-part};
+ghost use Rattle.machine.specs.Model.{most-parts};
 ghost use Rattle.load_commands.specs.Beside.{span-stepped};
 ghost use Rattle.load_commands.specs.ComponentMade.{component-of};
 ghost use Rattle.load_commands.specs.Progress.{reading-of};
@@ -32,9 +34,6 @@ ghost use Rattle.load_operands.specs.Refusals.{part-number, span-number};
 ghost use Rattle.load_commands.specs.Spanned.{RowThere, last-place, row-with, span-count, spanned-reading};
 ghost use Rattle.load_commands.specs.CommandSteps.{SpanLeft, StepLeft, refused-step, step-of, uncut};
 ghost use Rattle.load_commands.specs.Wired.{wired-reading};
-
-// The number of a command that is cut.
-const CUT: u64 = 1;
 
 // What a command comes to: its refusal's number, 0 meaning none, and the position and the progress behind it; those of a refusal are the
 // command's own position and the progress before it. Free are the unused places of a progress (`progress.rt`).
@@ -57,7 +56,7 @@ fn refused_step(number: u64, at: usize, progress: Progress) -> CommandResult
 
 // A Begin with this magnitude, from a position up to the position `next`.
 fn begin_step(progress: Progress, e: u8, at: usize, next: usize) -> CommandResult
-    requires { ⌜ progress .count ≤ 32 ⌝ }
+    requires { ⌜ progress .count ≤ most-parts ⌝ }
     ensures { λ r. ⌜ ((rows : List (List ℕ)) → step-of rows at r ≡ unless-refused (begin-refusal e) at next (begun-with e)) ⌝ }
     ensures left { λ r. ⌜ StepLeft at progress r ⌝ }
 {
@@ -75,7 +74,7 @@ fn begin_step(progress: Progress, e: u8, at: usize, next: usize) -> CommandResul
 
 // The Begin at a position.
 pub fn begin(s: &[u8], at: usize, progress: Progress) -> CommandResult
-    requires { ⌜ (at < length (now s)) × (progress .count ≤ 32) ⌝ }
+    requires { ⌜ (at < length (now s)) × (progress .count ≤ most-parts) ⌝ }
     ensures { λ r. ⌜ ((rows : List (List ℕ)) → step-of rows at r ≡ uncut (now (s .entry)) at 2 (begin-command (now (s .entry)) at)) ⌝ }
     ensures left { λ r. ⌜ StepLeft at progress r ⌝ }
 {
@@ -87,7 +86,7 @@ pub fn begin(s: &[u8], at: usize, progress: Progress) -> CommandResult
 
 // A Part with these operands, from a position up to the position `next`.
 fn part_step(progress: Progress, o: PartOperands, at: usize, next: usize) -> CommandResult
-    requires { ⌜ progress .count ≤ 32 ⌝ }
+    requires { ⌜ progress .count ≤ most-parts ⌝ }
     ensures { λ r. ⌜ ((rows : List (List ℕ)) → step-of rows at r ≡
         unless-refused (part-number (progress .count) o) at next (with-part (reading-of progress rows) (component-of o))) ⌝ }
     ensures left { λ r. ⌜ StepLeft at progress r ⌝ }
@@ -106,7 +105,7 @@ fn part_step(progress: Progress, o: PartOperands, at: usize, next: usize) -> Com
 
 // The Part at a position.
 pub fn part(s: &[u8], at: usize, progress: Progress) -> CommandResult
-    requires { ⌜ (at < length (now s)) × (progress .count ≤ 32) ⌝ }
+    requires { ⌜ (at < length (now s)) × (progress .count ≤ most-parts) ⌝ }
     ensures { λ r. ⌜ ((rows : List (List ℕ)) → step-of rows at r ≡
         uncut (now (s .entry)) at 15 (part-command (now (s .entry)) at (reading-of progress rows))) ⌝ }
     ensures left { λ r. ⌜ StepLeft at progress r ⌝ }
@@ -119,7 +118,7 @@ pub fn part(s: &[u8], at: usize, progress: Progress) -> CommandResult
 
 // A Wire with these operands, from a position up to the position `next`.
 fn wire_step(progress: Progress, o: WireOperands, at: usize, next: usize) -> CommandResult
-    requires { ⌜ progress .count ≤ 32 ⌝ }
+    requires { ⌜ progress .count ≤ most-parts ⌝ }
     ensures { λ r. ⌜ ((rows : List (List ℕ)) → step-of rows at r ≡
         unless-refused (wire-refusal (reading-of progress rows .table .parts) (o .source) (o .receiver) (o .port)) at next
         (wired-reading (reading-of progress rows) (o .receiver) (o .port) (o .source))) ⌝ }
@@ -139,7 +138,7 @@ fn wire_step(progress: Progress, o: WireOperands, at: usize, next: usize) -> Com
 
 // The Wire at a position.
 pub fn wire(s: &[u8], at: usize, progress: Progress) -> CommandResult
-    requires { ⌜ (at < length (now s)) × (progress .count ≤ 32) ⌝ }
+    requires { ⌜ (at < length (now s)) × (progress .count ≤ most-parts) ⌝ }
     ensures { λ r. ⌜ ((rows : List (List ℕ)) → step-of rows at r ≡
         uncut (now (s .entry)) at 4 (wire-command (now (s .entry)) at (reading-of progress rows))) ⌝ }
     ensures left { λ r. ⌜ StepLeft at progress r ⌝ }
@@ -158,7 +157,7 @@ pub struct SpanResult {
 
 // A Span with the value v, from a position up to the position `next`, the last part's last span being given.
 fn span_step(progress: Progress, last: u32, v: u32, at: usize, next: usize) -> CommandResult
-    requires { ⌜ (0 < progress .count) × (progress .count ≤ 32) ⌝ }
+    requires { ⌜ (0 < progress .count) × (progress .count ≤ most-parts) ⌝ }
     ensures { λ r. ⌜ ((rows : List (List ℕ)) → RowThere progress rows →
         step-of (row-with rows (last-place progress) (span-count progress) v) at r ≡
         unless-refused (span-number (span-count progress) last v) at next
@@ -181,7 +180,7 @@ fn span_step(progress: Progress, last: u32, v: u32, at: usize, next: usize) -> C
 
 // The Span at a position, the last part's last span being given.
 pub fn span(s: &[u8], at: usize, progress: Progress, last: u32) -> SpanResult
-    requires { ⌜ (at < length (now s)) × (0 < progress .count) × (progress .count ≤ 32) ⌝ }
+    requires { ⌜ (at < length (now s)) × (0 < progress .count) × (progress .count ≤ most-parts) ⌝ }
     ensures { λ r. ⌜ ((rows : List (List ℕ)) → RowThere progress rows →
         step-of (row-with rows (last-place progress) (span-count progress) (r .span)) at (r .step) ≡
         uncut (now (s .entry)) at 5 (span-stepped (now (s .entry)) at progress last rows)) ⌝ }

@@ -57,11 +57,11 @@ pub record EndedRead (at : ℕ) (t : Table) (r : TableRead) : Type 0 where
   pub position : r .position ≡ at
   pub table : table-read r ≡ t
   pub counted : length (t .parts) ≡ r .count
-  pub few : r .count ≤ 32
+  pub few : r .count ≤ most-parts
 
 -- what holds of a table whose End was reached: its magnitude is known, and its components fit a table of so many parts
 pub record Ended (r : TableRead) : Type 0 where
-  pub few : r .count ≤ 32
+  pub few : r .count ≤ most-parts
   pub magnitude : magnitude-known (r .magnitude) ≡ true
   pub components : All (ComponentFits (r .count)) (table-read r .parts)
 

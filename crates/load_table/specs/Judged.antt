@@ -21,7 +21,7 @@ use Rattle.load_commands.specs.declared.progress.Progress.{Progress}
 use Rattle.load_commands.specs.Progress.{reading-of}
 use Rattle.load_operands.specs.Refusals.{command-number, in-its-place}
 use Rattle.load_operands.specs.Tests.{room-left}
-use Rattle.load_commands.specs.Rows.{length-reading}
+use Rattle.load_commands.specs.SpanRows.{length-reading}
 use Rattle.load_commands.specs.Spanned.{last-place}
 use Rattle.load_table.specs.declared.turn.CommandRead.{CommandRead}
 use Rattle.load_table.specs.Concluded.{end-loaded}

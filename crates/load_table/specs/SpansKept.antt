@@ -14,7 +14,7 @@ use Rattle.sound_laws.specs.Accepted.{Readable}
 use Rattle.load_commands.specs.declared.progress.Progress.{Progress}
 use Rattle.load_commands.specs.Progress.{with-row, reading-of}
 use Rattle.load_operands.specs.Refusals.{command-number, in-its-place}
-use Rattle.load_commands.specs.Rows.{length-reading, reading-at}
+use Rattle.load_commands.specs.SpanRows.{length-reading, reading-at}
 use Rattle.load_commands.specs.Spanned.{last-place, span-count}
 use Rattle.load_table.specs.Turning.{Spannable}
 

@@ -6,6 +6,7 @@ use mathlib.Core.List.{List}
 use lib.ListN.{length}
 use lib.Dec.{eqb}
 use Rattle.machine.specs.Load.{Read, onward, ended, refused, end-byte, span-byte, byte-at, read-turn}
+use Rattle.machine.specs.Model.{most-parts}
 use Rattle.load_commands.specs.declared.progress.Progress.{Progress}
 use Rattle.load_commands.specs.Progress.{reading-of}
 use Rattle.load_table.specs.declared.turn.CommandRead.{CommandRead}
@@ -30,7 +31,7 @@ still-turn number position byte progress =
 pub record PlacedTurn (bs : List ℕ) (at : ℕ) (progress : Progress) (rows : List (List ℕ)) (b : ℕ) (r : CommandRead) : Type 0 where
   pub is : sized-command bs at (reading-of progress rows) b ≡ turn-of at progress rows r
   pub byte : r .byte ≡ b
-  pub few : r .progress .count ≤ 32
+  pub few : r .progress .count ≤ most-parts
   pub refused : (r .number ≡ 0 → ⊥) → r ≡ still-turn (r .number) (r .position) b progress
   pub end : b ≡ end-byte → r ≡ still-turn 0 at b progress
   pub span : (b ≡ span-byte → ⊥) → r .span ≡ 0
@@ -41,7 +42,7 @@ pub record Turned (bs : List ℕ) (at : ℕ) (progress : Progress) (rows : List 
   pub is : read-turn bs at (reading-of progress rows) ≡ turn-of at progress rows r
   pub here : r .number ≡ 0 → at < length bs
   pub room : r .number ≡ 0 → r .byte ≡ span-byte → Room progress
-  pub few : r .progress .count ≤ 32
+  pub few : r .progress .count ≤ most-parts
   pub byte : r .byte ≡ byte-at bs at
   pub refused : (r .number ≡ 0 → ⊥) → r ≡ still-turn (r .number) (r .position) (byte-at bs at) progress
   pub end : EndHere bs at (reading-of progress rows) → r ≡ still-turn 0 at end-byte progress

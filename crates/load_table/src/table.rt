@@ -38,7 +38,7 @@ fn blank_component() -> Component
 // Where reading begins: nothing was read. Free are a progress's unused places.
 fn nothing_read() -> Progress
     ensures { λ r. ⌜ ((rows : List (List ℕ)) → reading-of r rows ≡ nothing-read) ⌝ }
-    ensures few { λ r. ⌜ r .count ≤ 32 ⌝ }
+    ensures few { λ r. ⌜ r .count ≤ most-parts ⌝ }
 {
     let none = blank_component();
     let parts = [none; PARTS];
@@ -101,7 +101,7 @@ fn refused_read(number: u64, at: usize) -> TableRead
 
 // End at a position, behind the progress and its rows. Free are the bytes of unused places.
 fn ended_read(at: usize, progress: Progress, rows: [[u32; SPANS]; PARTS]) -> TableRead
-    requires { ⌜ progress .count ≤ 32 ⌝ }
+    requires { ⌜ progress .count ≤ most-parts ⌝ }
     ensures { λ r. ⌜ EndedRead at (reading-of progress rows .table) r ⌝ }
 {
     let parts = progress.parts;

@@ -14,10 +14,12 @@ use load_operands::refusal::SPAN_BYTE;
 use load_operands::refusal::command_refusal;
 use machine::model::PARTS;
 use machine::part::SPANS;
+use refusals::CUT;
 ghost use Prim.Native.Nat.{_<_, _≤_};
 ghost use mathlib.Core.Path.{_≡_};
 ghost use lib.ListN.{length};
 ghost use Rattle.machine.specs.Load.{span-command};
+ghost use Rattle.machine.specs.Model.{most-parts};
 ghost use Rattle.load_commands.specs.Progress.{reading-of};
 ghost use Rattle.load_commands.specs.Spanned.{last-place, row-with, span-count};
 ghost use Rattle.load_commands.specs.CommandSteps.{SpanLeft, step-of, uncut};
@@ -27,7 +29,7 @@ ghost use Rattle.load_table.specs.Turning.{CommandLeft, Room, Spannable,
 
 // The Span at a position, behind the progress and its rows.
 fn span_beside(s: &[u8], at: usize, progress: Progress, rows: [[u32; SPANS]; PARTS]) -> SpanResult
-    requires { ⌜ (at < length (now s)) × (progress .count ≤ 32) × Spannable progress ⌝ }
+    requires { ⌜ (at < length (now s)) × (progress .count ≤ most-parts) × Spannable progress ⌝ }
     ensures { λ r. ⌜ step-of (row-with rows (last-place progress) (span-count progress) (r .span)) at (r .step) ≡
         uncut (now (s .entry)) at 5 (span-command (now (s .entry)) at (reading-of progress rows)) ⌝ }
     ensures left { λ r. ⌜ SpanLeft at progress r ⌝ }
@@ -47,7 +49,7 @@ fn command(
     rows: [[u32; SPANS]; PARTS],
     b: u8,
 ) -> SpanResult
-    requires { ⌜ (at < length (now s)) × (progress .count ≤ 32) × (0 < b) × (b < 5) × (b ≡ 3 → Spannable progress) ⌝ }
+    requires { ⌜ (at < length (now s)) × (progress .count ≤ most-parts) × (0 < b) × (b < 5) × (b ≡ 3 → Spannable progress) ⌝ }
     ensures { λ r. ⌜ step-of (rows-behind b progress rows (r .span)) at (r .step) ≡
         sized-command (now (s .entry)) at (reading-of progress rows) b ⌝ }
     ensures left { λ r. ⌜ CommandLeft at progress b r ⌝ }
@@ -83,7 +85,7 @@ pub(crate) fn rows_behind(
     b: u8,
     v: u32,
 ) -> [[u32; SPANS]; PARTS]
-    requires { ⌜ (progress .count ≤ 32) × (b ≡ 3 → Room progress) ⌝ }
+    requires { ⌜ (progress .count ≤ most-parts) × (b ≡ 3 → Room progress) ⌝ }
     ensures { λ r. ⌜ r ≡ rows-behind b progress rows v ⌝ }
 {
     if b != SPAN_BYTE {
@@ -113,7 +115,7 @@ fn placed(
     rows: [[u32; SPANS]; PARTS],
     b: u8,
 ) -> CommandRead
-    requires { ⌜ (at < length (now s)) × (progress .count ≤ 32) × (0 < b) × (b ≤ 5) × (b ≡ 3 → Spannable progress) ⌝ }
+    requires { ⌜ (at < length (now s)) × (progress .count ≤ most-parts) × (0 < b) × (b ≤ 5) × (b ≡ 3 → Spannable progress) ⌝ }
     ensures { λ r. ⌜ PlacedTurn (now (s .entry)) at progress rows b r ⌝ }
 {
     if b == END_BYTE {
@@ -153,12 +155,12 @@ pub(crate) fn command_at(
     progress: Progress,
     rows: [[u32; SPANS]; PARTS],
 ) -> CommandRead
-    requires { ⌜ (progress .count ≤ 32) × Readable (reading-of progress rows) ⌝ }
+    requires { ⌜ (progress .count ≤ most-parts) × Readable (reading-of progress rows) ⌝ }
     ensures { λ r. ⌜ Turned (now (s .entry)) at progress rows r ⌝ }
 {
     if at >= s.len() {
         return CommandRead {
-            number: 1,
+            number: CUT,
             position: s.len(),
             byte: 0,
             span: 0,

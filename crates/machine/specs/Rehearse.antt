@@ -56,7 +56,7 @@ unfoldable pub signal-text : Signal → List ℕ
 signal-text Absent = hyphen ∷ []
 signal-text (Value v) = signed-decimal v
 
--- "each part's output in part order", read as by part number (docs/DECISIONS.md, reading 1), with "one blank between"
+-- "each part's output in part order", read as by part number (docs/DECISIONS.md, R1), with "one blank between"
 unfoldable pub outputs-text : List Part → List ℕ
 outputs-text [] = []
 outputs-text (p ∷ ps) = blank ∷ (signal-text (p .state .output) ++ outputs-text ps)

@@ -13,6 +13,7 @@ use lib.Seq.{append-snoc, drop-drop, drop-set-lt, length-take-le, take-suc-set}
 use lib.Pow.{pow-pos}
 use lib.Count.{ones, ones-le, ones-ones}
 use Rattle.machine.specs.declared.part.Component.{Component}
+use Rattle.machine.specs.Model.{most-parts}
 use Rattle.order_place.specs.declared.Direct.{Direct}
 use Rattle.laws.specs.WordMarks.{all-marks, mark-cleared, marks-of}
 use Rattle.order_place.specs.Direct.{direct-of, lowest-among}
@@ -22,12 +23,12 @@ use Rattle.order_place.proofs.Candidates.{found-marked}
 -- the parts placed first, and those that are placed from here on, are the order of all; 0 stands behind them
 pub record Partway (count : ℕ) (ds : List Direct) (order : List ℕ) (w : ℕ) : Type 0 where
   pub fits : w < 2 ^ count
-  pub full : length order ≡ 32
+  pub full : length order ≡ most-parts
   pub so-far : take (count - ones w) order ++ placed-by (ones w) ds (marks-of count w) ≡ order-by ds
-  pub rest : drop (count - ones w) order ≡ replicate (32 - (count - ones w)) 0
+  pub rest : drop (count - ones w) order ≡ replicate (most-parts - (count - ones w)) 0
 
 -- at the start all parts are marked, and none is placed
-pub started : (count : ℕ) (ds : List Direct) → length ds ≡ count → Partway count ds (replicate 32 0) (2 ^ count - 1)
+pub started : (count : ℕ) (ds : List Direct) → length ds ≡ count → Partway count ds (replicate most-parts 0) (2 ^ count - 1)
 unfolding order-by
 started count ds e =
     let some : 0 < 2 ^ count = pow-pos count in
@@ -55,13 +56,13 @@ stored : (order : List ℕ) (n k : ℕ) (later : List ℕ) → n < length order 
 stored order n k later p = rw (take-suc-set order n k p) (append-snoc (take n order) k later)
 
 -- 0 stands behind it still
-free-behind : (order : List ℕ) (n k : ℕ) → n < 32 → drop n order ≡ replicate (32 - n) 0 → drop (suc n) (set order n k) ≡ replicate (32 - suc n) 0
+free-behind : (order : List ℕ) (n k : ℕ) → n < most-parts → drop n order ≡ replicate (most-parts - n) 0 → drop (suc n) (set order n k) ≡ replicate (most-parts - suc n) 0
 free-behind order n k p free =
-    let one-fewer : 32 - n ≡ suc (32 - suc n) = omega arith in
+    let one-fewer : most-parts - n ≡ suc (most-parts - suc n) = omega arith in
     drop-set-lt (suc n) order n k (omega arith) ∙ rw (← add-one n, ← drop-drop 1 n order, free, one-fewer, add-one n)
 
 -- the part k is found: it is stored, and its mark is cleared
-pub turned : (count : ℕ) (ds : List Direct) (order : List ℕ) (w k : ℕ) → count ≤ 32 → Partway count ds order w →
+pub turned : (count : ℕ) (ds : List Direct) (order : List ℕ) (w k : ℕ) → count ≤ most-parts → Partway count ds order w →
     lowest-among (marks-of count w) (marks-of count w) 0 ds ≡ some k → Partway count ds (set order (count - ones w) k) (w - 2 ^ k)
 turned count ds order w k few partway found =
     let marks = marks-of count w in
@@ -93,7 +94,7 @@ all-placed count ds order w partway found =
     partway .so-far
 
 -- .. and that is the part order
-pub ended : (count : ℕ) (parts : List Component) (ds : List Direct) (order : List ℕ) (w : ℕ) → count ≤ 32 →
+pub ended : (count : ℕ) (parts : List Component) (ds : List Direct) (order : List ℕ) (w : ℕ) → count ≤ most-parts →
     ds ≡ map direct-of (take count parts) → Partway count ds order w →
     lowest-among (marks-of count w) (marks-of count w) 0 ds ≡ none → InOrder parts count (record { order = order; count = count - ones w })
 ended count parts ds order w few of-parts partway found =

@@ -12,6 +12,7 @@ ghost use mathlib.Core.Path.{_≡_};
 ghost use mathlib.Core.List.{map};
 ghost use Prim.Native.Nat.{_-_, _^_, _≤_};
 ghost use Rattle.machine.specs.Table.{source-placed};
+ghost use Rattle.machine.specs.Model.{most-parts};
 ghost use Rattle.laws.specs.WordMarks.{marks-of};
 ghost use Rattle.order_place.specs.Direct.{direct-source, direct-of, both-placed, lowest-among, found-as};
 ghost use Rattle.order_place.specs.OrderByMarks.{InOrder};
@@ -119,7 +120,7 @@ fn lowest(direct: [Direct; PARTS], marks: u32) -> FoundPart
 
 // The marks of so many parts, all of them unplaced.
 fn all_marked(count: usize) -> u32
-    requires { ⌜ count ≤ 32 ⌝ }
+    requires { ⌜ count ≤ most-parts ⌝ }
     ensures { λ r. ⌜ r ≡ 2 ^ count - 1 ⌝ }
 {
     ((1u64 << count) - 1) as u32
@@ -128,7 +129,7 @@ fn all_marked(count: usize) -> u32
 // The first `count` parts in the order in which they are placed: the lowest marked part whose direct
 // sources are placed goes next, until there is none.
 pub fn place(parts: [Component; PARTS], count: usize) -> Placed
-    requires { ⌜ count ≤ 32 ⌝ }
+    requires { ⌜ count ≤ most-parts ⌝ }
     ensures { λ r. ⌜ InOrder parts count r ⌝ }
 {
     let direct = all_direct(parts);

@@ -28,6 +28,7 @@ ghost use Prim.Native.Nat.{_≤_, _<_};
 ghost use Rattle.machine.specs.declared.part.Component.{Component};
 ghost use Rattle.machine.specs.Lists.{same};
 ghost use Rattle.machine.specs.Table.{ordered, part-order};
+ghost use Rattle.machine.specs.Model.{most-parts};
 ghost use Rattle.order_place.specs.Direct.{direct-of};
 ghost use Rattle.order_test.specs.Times.{source-after, ready-after};
 ghost use Rattle.order_test.specs.Links.{Links, WalkedBack};
@@ -37,7 +38,7 @@ const UNPLACED: usize = PARTS + 1;
 
 // How many parts are placed once the source is. A source that is none of the parts keeps no part waiting.
 fn source_after(after: &[usize; PARTS], count: usize, source: Source) -> usize
-    requires { ⌜ count ≤ 32 ⌝ }
+    requires { ⌜ count ≤ most-parts ⌝ }
     ensures { λ r. ⌜ r ≡ source-after (now (after .entry)) count source ⌝ }
 {
     match source {
@@ -54,7 +55,7 @@ fn source_after(after: &[usize; PARTS], count: usize, source: Source) -> usize
 
 // The ready time of a part: how many parts are placed once its direct sources are.
 fn ready_after(after: &[usize; PARTS], count: usize, direct: Direct) -> usize
-    requires { ⌜ count ≤ 32 ⌝ }
+    requires { ⌜ count ≤ most-parts ⌝ }
     ensures { λ r. ⌜ r ≡ ready-after (now (after .entry)) count direct ⌝ }
 {
     let port0 = direct.port0;
@@ -66,7 +67,7 @@ fn ready_after(after: &[usize; PARTS], count: usize, direct: Direct) -> usize
 
 // The walk back from place i by the links: it ends at the ready time or before it, or behind a higher part.
 fn walk_back(order: &[u16; PARTS], links: &[usize; PARTS], i: usize, ready: usize) -> usize
-    requires { ⌜ (i < 32) × Links (now order) (now links) i ⌝ }
+    requires { ⌜ (i < most-parts) × Links (now order) (now links) i ⌝ }
     ensures { λ r. ⌜ WalkedBack (now (order .entry)) i ready r ⌝ }
 {
     let part = order[i];
@@ -84,7 +85,7 @@ fn walk_back(order: &[u16; PARTS], links: &[usize; PARTS], i: usize, ready: usiz
 // Whether the order of the first `count` parts is their part order, and has all of them: `direct` are
 // the direct sources of the parts, whatever else their components are.
 pub fn follows(order: [u16; PARTS], direct: [Direct; PARTS], count: usize) -> bool
-    requires { ⌜ count ≤ 32 ⌝ }
+    requires { ⌜ count ≤ most-parts ⌝ }
     ensures { λ r. ⌜ ((cs : List Component) → map direct-of cs ≡ take count direct → r ≡ ordered cs && same (take count order) (part-order cs)) ⌝ }
 {
     let mut after = [UNPLACED; PARTS];

@@ -26,7 +26,7 @@ use Rattle.sound_laws.specs.ByteLengths.{spans-length, part-length, few-spans}
 use Rattle.words_codec.specs.Words.{tabulate, encode-signed}
 use Rattle.words_codec.specs.Tables.{length-table, table-at}
 use Rattle.words_store.specs.ModelIn.{part-count, stored-component}
-use Rattle.save_call.specs.LentTable.{lent-component, lent-table, SourceBelow, part-text, wires-text}
+use Rattle.save_call.specs.LentTable.{lent-component, lent-table, SourceInByte, part-text, wires-text}
 
 -- one part more
 parts-added : (cs : List Component) (c : Component) → parts-bytes (cs ++ (c ∷ [])) ≡ parts-bytes cs ++ part-text c
@@ -109,11 +109,11 @@ pub record SavablePart (ts : List ℕ) (i : ℕ) : Type 0 where
   pub operands : operands-fit (stored-component ts i .kind) (stored-component ts i .a) (stored-component ts i .b) (stored-component ts i .p) ≡ true
   pub counted : stored-component ts i .«span_count» ≡ length (lent-component ts i .spans)
   pub spans : stored-component ts i .«span_count» ≤ 8
-  pub port0 : SourceBelow 256 (stored-component ts i .port0)
-  pub port1 : SourceBelow 256 (stored-component ts i .port1)
+  pub port0 : SourceInByte (stored-component ts i .port0)
+  pub port1 : SourceInByte (stored-component ts i .port1)
 
 -- a source that fits into a table of at most 32 parts
-fitting-source : (n many port : ℕ) (s : Source) → n ≤ most-parts → source-fits n many port s ≡ true → SourceBelow 256 s
+fitting-source : (n many port : ℕ) (s : Source) → n ≤ most-parts → source-fits n many port s ≡ true → SourceInByte s
 unfolding source-fits
 fitting-source n many port Unwired few fits = tt
 fitting-source n many port (From k) few fits = omega (arith, ltb-true k n (and-right (ltb port many) (ltb k n) fits))

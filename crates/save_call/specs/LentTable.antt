@@ -35,10 +35,10 @@ lent-table-is ts ss =
     ap (map (λ (p : Part). p .component)) (map-table trimmed-part f n) ∙ map-table (λ (p : Part). p .component) (λ (i : ℕ). trimmed-part (f i)) n in
     ap (λ (cs : List Component). record { magnitude = slot ts 0 % 256; parts = cs }) parts
 
--- a source whose number is below n
-abbrev pub SourceBelow : ℕ → Source → Type 0
-SourceBelow n Unwired = Unit {0}
-SourceBelow n (From k) = k < n
+-- a source whose number fits a byte
+abbrev pub SourceInByte : Source → Type 0
+SourceInByte Unwired = Unit {0}
+SourceInByte (From k) = k < 256
 
 -- a part with its spans, and the wires into part i
 unfoldable pub part-text : Component → List ℕ

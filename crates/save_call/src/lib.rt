@@ -3,8 +3,9 @@
 use crate::sweep::lengths_of;
 use crate::sweep::put_table;
 use machine::model::Written;
+use refusals::NOT_SOUND;
+use refusals::TOO_SHORT;
 use sound_test::is_sound_in;
-use write_bytes::written::TOO_SHORT;
 ghost use mathlib.Core.Path.{_≡_};
 ghost use mathlib.Core.Bool.{true};
 ghost use Prim.Native.Nat.{_≤_};
@@ -18,9 +19,6 @@ ghost use Rattle.save_call.specs.SavedInto.{SavedInto};
 
 mod sweep;
 mod writer;
-
-// The number of a save of words that spell no sound model.
-const UNSOUND: u64 = 24;
 
 // The bytes of a table that fits, where the buffer has room for them: their length is worked out before any is put.
 fn save_table(table: &[u64], out: &mut [u8]) -> Written
@@ -50,7 +48,7 @@ pub fn save(table: &[u64], state: &[u64], out: &mut [u8]) -> Written
 {
     if !is_sound_in(table, state) {
         return Written {
-            number: UNSOUND,
+            number: NOT_SOUND,
             length: 0,
         };
     }

@@ -22,7 +22,7 @@ ghost use Rattle.machine.specs.Model.{trimmed-component};
 ghost use Rattle.machine.specs.Signal.{is-value};
 ghost use Rattle.machine.specs.TableBytes.{operand-bytes, port-bytes, signed-operand, spans-bytes};
 ghost use Rattle.write_bytes.specs.Put.{Put};
-ghost use Rattle.save_call.specs.LentTable.{SourceBelow, part-text, wires-text};
+ghost use Rattle.save_call.specs.LentTable.{SourceInByte, part-text, wires-text};
 
 // Begin.
 pub(crate) fn put_begin(out: &mut [u8], at: usize, magnitude: u8) -> usize
@@ -117,7 +117,7 @@ fn put_wire(out: &mut [u8], at: usize, source: u8, receiver: u8, port: u8) -> us
 // The Wire into a port of the part `receiver`, none where nothing is wired to it.
 fn put_port(out: &mut [u8], at: usize, receiver: usize, port: u8, s: Source) -> usize
     requires { ⌜ receiver < 256 ⌝ }
-    requires { ⌜ SourceBelow 256 s ⌝ }
+    requires { ⌜ SourceInByte s ⌝ }
     requires { ⌜ at + length (port-bytes receiver port s) ≤ length (now out) ⌝ }
     ensures { λ r. ⌜ Put 4 (port-bytes receiver port s) at (now (out .entry)) (now (out .exit)) r ⌝ }
 {
@@ -130,8 +130,8 @@ fn put_port(out: &mut [u8], at: usize, receiver: usize, port: u8, s: Source) -> 
 // The Wires into the part `receiver`, by port.
 pub(crate) fn put_wires(out: &mut [u8], at: usize, receiver: usize, c: Component) -> usize
     requires { ⌜ receiver < 256 ⌝ }
-    requires { ⌜ SourceBelow 256 (c .port0) ⌝ }
-    requires { ⌜ SourceBelow 256 (c .port1) ⌝ }
+    requires { ⌜ SourceInByte (c .port0) ⌝ }
+    requires { ⌜ SourceInByte (c .port1) ⌝ }
     requires { ⌜ at + length (wires-text receiver c) ≤ length (now out) ⌝ }
     ensures { λ r. ⌜ Put 8 (wires-text receiver c) at (now (out .entry)) (now (out .exit)) r ⌝ }
 {

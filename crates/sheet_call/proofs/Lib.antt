@@ -1,3 +1,3 @@
 -- Texts put into their fields, and what fits of a line field by field.
-mod Fields
-mod Rows
+mod FieldsPut
+mod RowFits

@@ -5,11 +5,13 @@ use crate::row::put_refusal_row;
 use crate::row::put_step_row;
 use machine::model::Outcome;
 use machine::model::Written;
+use refusals::NOT_PRINTABLE;
+use refusals::NOT_SOUND;
+use refusals::TOO_SHORT;
 use sound_test::is_sound_in;
 use words_store::lookup::output_at;
 use words_store::lookup::parts_of;
 use words_store::lookup::point_of;
-use write_bytes::written::TOO_SHORT;
 ghost use mathlib.Core.Path.{_≡_};
 ghost use mathlib.Core.Bool.{_&&_};
 ghost use Prim.Native.Nat.{_≤_};
@@ -21,12 +23,6 @@ ghost use Rattle.sheet_call.specs.SheetInto.{SheetInto, lent-sheet-refus
 
 mod field;
 mod row;
-
-// The number of a line for words that spell no sound model.
-const UNSOUND: u64 = 24;
-
-// The number of a line that shows a part which is not there, or a number wider than its field.
-const UNPRINTABLE: u64 = 26;
 
 // How many bytes a line has, its line feed among them.
 const LINE: usize = 79;
@@ -56,17 +52,17 @@ fn refusal_of(
     ensures { λ r. ⌜ r ≡ lent-sheet-refusal (now (table .entry)) (now (state .entry)) outcome first second third ⌝ }
 {
     if !is_sound_in(table, state) {
-        return UNSOUND;
+        return NOT_SOUND;
     }
     let count = parts_of(table);
     if !parts_there(count, first, second, third) {
-        return UNPRINTABLE;
+        return NOT_PRINTABLE;
     }
     if outcome.number != 0 {
         return 0;
     }
     if !counts_fit(outcome.step, outcome.rounds, outcome.revisions) {
-        return UNPRINTABLE;
+        return NOT_PRINTABLE;
     }
     0
 }

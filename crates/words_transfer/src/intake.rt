@@ -8,6 +8,8 @@ use machine::part::Component;
 use machine::part::Kind;
 use machine::part::SPANS;
 use machine::part::Source;
+use refusals::NOT_SOUND;
+use refusals::TOO_SHORT;
 use words_codec::fields::encode_kind;
 use words_codec::fields::encode_source;
 use words_store::lookup::state_words;
@@ -24,11 +26,6 @@ ghost use Rattle.words_transfer.specs.TableRuns.{OperandsPut, SpansPut, 
 ghost use Rattle.words_transfer.specs.ComponentPut.{ComponentPut};
 ghost use Rattle.words_transfer.specs.ModelPut.{HeaderPut, KeptBehind, ModelPut};
 ghost use Rattle.words_transfer.specs.PutInto.{PutInto};
-
-// The number of a model that counts more parts than there may be, and of words that are too few.
-const TOO_MANY: u64 = 24;
-
-const TOO_SHORT: u64 = 25;
 
 // The word of a place that no span is in.
 const NO_SPAN: u64 = 0;
@@ -144,7 +141,7 @@ pub fn put_model(m: Model, table: &mut [u64], state: &mut [u64]) -> u64
 {
     let count = m.count;
     if count > PARTS {
-        return TOO_MANY;
+        return NOT_SOUND;
     }
     if table.len() < table_words(count) {
         return TOO_SHORT;

@@ -2,4 +2,3 @@
 // number of a buffer that is too short. Its contracts cite `specs/Put.antt`.
 pub mod number;
 pub mod put;
-pub mod written;

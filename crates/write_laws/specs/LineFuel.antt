@@ -18,26 +18,26 @@ use Rattle.machine.specs.Rehearse.{answer-line, score-lines, lines-from, digits
 use Rattle.laws.specs.Bools.{cond-cases, cond-false}
 
 -- where the score goes on, it goes on at a later position
-abbrev Later : ℕ → Score → Type 0
-Later at End = Unit {0}
-Later at (Wanted w next) = at < next
-Later at (Refused number position) = Unit {0}
+abbrev LaterScore : ℕ → Score → Type 0
+LaterScore at End = Unit {0}
+LaterScore at (Wanted w next) = at < next
+LaterScore at (Refused number position) = Unit {0}
 
 -- so it is with each of its commands, and at each position
-command-later : (bs : List ℕ) (at b : ℕ) → Later at (score-command bs at b)
+command-later : (bs : List ℕ) (at b : ℕ) → LaterScore at (score-command bs at b)
 unfolding score-command command-width
 command-later bs at b =
-    cond-cases (Later at) (known-command b) _ _
-    (λ known. cond-cases (Later at) (eqb b want-byte) _ _
-    (λ wants. cond-cases (Later at) (leb (at + command-width b) (length bs)) _ _
+    cond-cases (LaterScore at) (known-command b) _ _
+    (λ known. cond-cases (LaterScore at) (eqb b want-byte) _ _
+    (λ wants. cond-cases (LaterScore at) (leb (at + command-width b) (length bs)) _ _
     (λ whole. rw (eqb-true b want-byte wants) (omega arith))
     (λ cut. tt))
     (λ other. tt))
     (λ unknown. tt)
 
-score-later : (bs : List ℕ) (at : ℕ) → Later at (score-at bs at)
+score-later : (bs : List ℕ) (at : ℕ) → LaterScore at (score-at bs at)
 unfolding score-at
-score-later bs at = cond-cases (Later at) (ltb at (length bs)) _ _ (λ inside. command-later bs at (byte-at bs at)) (λ past. tt)
+score-later bs at = cond-cases (LaterScore at) (ltb at (length bs)) _ _ (λ inside. command-later bs at (byte-at bs at)) (λ past. tt)
 
 -- where a step is wanted, its position lies within the stream
 abbrev Inside : ℕ → ℕ → Score → Type 0
@@ -80,7 +80,7 @@ lines-enough (suc n) zero bs at m few many = rw (score-past bs at (omega arith))
 lines-enough (suc n) (suc k) bs at m few many = by-score (score-at bs at) (score-later bs at) (lines-enough n k bs)
   where
     by-score :
-        (s : Score) → Later at s →
+        (s : Score) → LaterScore at s →
         ((next : ℕ) (z : Model) → length bs < next + n → length bs < next + k → lines-from n bs next z ≡ lines-from k bs next z) →
         score-lines s (λ r next. lines-from n bs next (r .model)) (advance m) ≡
         score-lines s (λ r next. lines-from k bs next (r .model)) (advance m)

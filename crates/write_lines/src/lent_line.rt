@@ -8,12 +8,13 @@ use crate::line::put_numbers;
 use crate::line::write_refused;
 use crate::text::put_output;
 use machine::model::Written;
+use refusals::NOT_SOUND;
+use refusals::TOO_SHORT;
 use words_store::form::spelled;
 use words_store::lookup::output_at;
 use words_store::lookup::parts_of;
 use words_store::lookup::point_of;
 use write_bytes::put::put_byte;
-use write_bytes::written::TOO_SHORT;
 ghost use mathlib.Core.Path.{_≡_};
 ghost use Prim.Native.Nat.{ℕ, _+_, _*_, _≤_};
 ghost use lib.ListN.{length};
@@ -22,9 +23,6 @@ ghost use Rattle.words_store.specs.ModelIn.{WordsThere, model-in, part-count};
 ghost use Rattle.machine.specs.Writing.{WrittenAs};
 ghost use Rattle.write_bytes.specs.Put.{Put};
 ghost use Rattle.write_lines.specs.LentLines.{LineInto, lent-answer};
-
-// The number of a line of words that spell no model.
-const NO_MODEL: u64 = 24;
 
 // How many bytes the line of a committed advance has at most besides its outputs, five numbers of 20 digits with four
 // blanks and a line feed, and how many each output, a blank, a hyphen and 19 digits: 777 for 32 parts.
@@ -121,7 +119,7 @@ pub fn write_lent(
 {
     if !spelled(table, state) {
         return Written {
-            number: NO_MODEL,
+            number: NOT_SOUND,
             length: 0,
         };
     }

@@ -4,9 +4,9 @@
 use crate::length::digits_of;
 use crate::text::put_decimal;
 use machine::model::Written;
+use refusals::TOO_SHORT;
 use write_bytes::put::put_byte;
 use write_bytes::put::put_text;
-use write_bytes::written::TOO_SHORT;
 ghost use mathlib.Core.Path.{_≡_};
 ghost use mathlib.Core.List.{_∷_, [], _++_};
 ghost use Prim.Native.Nat.{_+_, _≤_, _<_};

@@ -6,17 +6,17 @@ use mathlib.Core.Path.{_≡_, refl, _∙_}
 use mathlib.Core.List.{map, _++_, append-nil}
 use lib.ListN.{length, take, drop}
 use lib.Seq.{take-all}
-use Rattle.machine.specs.Model.{blank-component}
+use Rattle.machine.specs.Model.{most-parts, blank-component}
 use Rattle.order_place.specs.Direct.{direct-of}
 use Rattle.laws.specs.Partway.{mapped-more}
 use Rattle.order_place.proofs.all_direct.Statement.{statement}
 use Rattle.order_place.proofs.all_direct.Tie as tie
 
 abbrev Inv-loop : tie.InvT-loop
-Inv-loop parts all₀ i₀ all i = (i ≤ 32) × (all ≡ map direct-of (take i parts) ++ drop i all₀)
+Inv-loop parts all₀ i₀ all i = (i ≤ most-parts) × (all ≡ map direct-of (take i parts) ++ drop i all₀)
 
 abbrev μ-loop : tie.MeasureT-loop
-μ-loop parts all₀ i₀ all i = 32 - i
+μ-loop parts all₀ i₀ all i = most-parts - i
 
 loop-holds : tie.Need-loop-holds Inv-loop μ-loop
 loop-holds c = (omega arith, refl)
@@ -46,16 +46,16 @@ loop-again : tie.Need-loop-again Inv-loop μ-loop
 loop-again c =
     let turn = c .before .before .before in
     let parts = turn .before .args .t1 in
-    let full : length parts ≡ 32 = turn .before .good .0 .1 .0 .1 in
+    let full : length parts ≡ most-parts = turn .before .good .0 .1 .0 .1 in
     let here : turn .loop .i < length parts = omega arith in
     (omega arith, rw (turn .loop .inv .1, c .direct-sources .ensures) (mapped-more direct-of parts _ (turn .loop .i) blank-component here full))
 
 returns : tie.Need-returns Inv-loop μ-loop
 returns c =
     let parts = c .before .before .args .t1 in
-    let full : length parts ≡ 32 = c .before .before .good .0 .1 .0 .1 in
-    let done : c .before .loop .i ≡ 32 = omega arith in
-    c .before .loop .inv .1 ∙ rw (done, append-nil, take-all 32 parts (omega arith))
+    let full : length parts ≡ most-parts = c .before .before .good .0 .1 .0 .1 in
+    let done : c .before .loop .i ≡ most-parts = omega arith in
+    c .before .loop .inv .1 ∙ rw (done, append-nil, take-all most-parts parts (omega arith))
 
 pub all-direct-spec : {M : Type 1} → statement M
 all-direct-spec =

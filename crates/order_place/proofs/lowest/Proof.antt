@@ -6,6 +6,7 @@ use native.Mathlib.Nat.{zero-add}
 use mathlib.Core.Path.{_≡_, refl, sym, _∙_}
 use lib.ListN.{length}
 use lib.Count.{trailingZeros}
+use Rattle.machine.specs.Model.{most-parts}
 use Rattle.laws.specs.WordMarks.{Cleared, FirstMark, mark-cleared, first-mark, marks-of, no-marks, one-mark}
 use Rattle.order_place.specs.Direct.{lowest-among, no-sources}
 use Rattle.order_place.proofs.Candidates.{found, none-left, passed}
@@ -58,7 +59,7 @@ returns c =
     let start = turn .before .before in
     let direct = start .args .t1 in
     let w = turn .before .loop .candidates in
-    let full : length direct ≡ 32 = start .good .0 .1 .0 .1 in
+    let full : length direct ≡ most-parts = start .good .0 .1 .0 .1 in
     let it = read-first turn in
     let below : trailingZeros 32 w < length direct = omega (arith, it .rest .below) in
     rw (

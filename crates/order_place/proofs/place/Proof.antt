@@ -9,6 +9,7 @@ use lib.ListN.{length, length-map, take}
 use lib.Seq.{length-take-le}
 use lib.Count.{ones, ones-le}
 use borrow.Author.Needs.{needs}
+use Rattle.machine.specs.Model.{most-parts}
 use Rattle.order_place.specs.declared.Direct.{Direct}
 use Rattle.order_place.specs.declared.FoundPart.the-variants.{At}
 use Rattle.laws.specs.WordMarks.{Cleared, mark-cleared, marks-of, one-mark}
@@ -28,7 +29,7 @@ record PlacingTurn (count : ℕ) (direct : List Direct) (w k : ℕ) : Type 0 whe
   room : count - ones w < 32
 
 -- the code's answer says that it is such a turn
-turn : (count : ℕ) (direct : List Direct) (w k : ℕ) → count ≤ 32 → w < 2 ^ count →
+turn : (count : ℕ) (direct : List Direct) (w k : ℕ) → count ≤ most-parts → w < 2 ^ count →
     found-as (lowest-among (marks-of 32 w) (marks-of 32 w) 0 direct) ≡ At k → PlacingTurn count direct w k
 turn count direct w k few fits answer =
     let marks = marks-of count w in
@@ -49,13 +50,18 @@ of-parts : (c : tie.After-all-direct Inv-loop μ-loop) →
 of-parts c = rw (c .all-direct .ensures) (take-map direct-of (c .before .args .count) (c .before .args .parts))
 
 -- there are at most as many ones as parts
-few-ones : (c : tie.At-loop Inv-loop μ-loop) → ones (c .loop .marks) ≤ c .before .before .before .args .count
-few-ones c = ones-le (c .before .before .before .args .count) (c .loop .marks) (c .loop .inv .fits)
+few-ones : (c : tie.At-loop Inv-loop μ-loop) →
+    let start = c .before .before .before in
+    ones (c .loop .marks) ≤ start .args .count
+few-ones c =
+    let start = c .before .before .before in
+    ones-le (start .args .count) (c .loop .marks) (c .loop .inv .fits)
 
 -- the turn, where the code has found a part
 turn-of : (c : tie.After-known-told Inv-loop μ-loop) →
     let loop = c .before .before .before .before in
-    PlacingTurn (loop .before .before .before .args .count) (loop .before .before .all-direct .result) (loop .loop .marks) (c .before .k .given .0 .0)
+    let start = loop .before .before .before in
+    PlacingTurn (start .args .count) (loop .before .before .all-direct .result) (loop .loop .marks) (c .before .k .given .0 .0)
 turn-of c =
     let asked = c .before .before .before in
     let loop = asked .before in
@@ -74,13 +80,15 @@ loop-holds c =
     let start = c .before .before in
     let count = start .args .count in
     let direct = take count (c .before .all-direct .result) in
-    let room : length (start .args .parts) ≡ 32 = start .good .0 .1 .0 .1 in
+    let room : length (start .args .parts) ≡ most-parts = start .good .0 .1 .0 .1 in
     let counted : length direct ≡ count =
     rw (of-parts (c .before), length-map) (length-take-le count (start .args .parts) (omega (arith, start .pre))) in
     rw (c .all-marked .ensures) (started count direct counted)
 
 cast-done : tie.Need-cast-done Inv-loop μ-loop
-cast-done c = omega (arith, few-ones c, c .before .before .before .pre)
+cast-done c =
+    let start = c .before .before .before in
+    omega (arith, few-ones c, start .pre)
 
 sub-done : tie.Need-sub-done Inv-loop μ-loop
 sub-done c = few-ones c

@@ -11,6 +11,7 @@ use borrow.Author.Needs.{needs}
 use Rattle.machine.specs.declared.part.Component.{Component}
 use Rattle.machine.specs.Lists.{same}
 use Rattle.machine.specs.Table.{ordered, part-order}
+use Rattle.machine.specs.Model.{most-parts}
 use Rattle.order_place.specs.Direct.{direct-of}
 use Rattle.order_test.specs.PlacesInTurn.{InTurn}
 use Rattle.order_test.specs.Passed.{Passed, none-passed, one-passed, placed-twice, before-source, after-higher, refused-at, all-accepted}
@@ -26,14 +27,14 @@ abbrev μ-loop : tie.MeasureT-loop
 -- the order, and the direct sources, have places for all parts
 long : (c : tie.Start Inv-loop μ-loop) → c .args .count ≤ length (c .args .t1)
 long c =
-    let full : length (c .args .t1) ≡ 32 = c .good .0 .1 .0 .1 in
-    let few : c .args .count ≤ 32 = c .pre in
+    let full : length (c .args .t1) ≡ most-parts = c .good .0 .1 .0 .1 in
+    let few : c .args .count ≤ most-parts = c .pre in
     omega arith
 
 sourced : (c : tie.Start Inv-loop μ-loop) → c .args .count ≤ length (c .args .t2)
 sourced c =
-    let full : length (c .args .t2) ≡ 32 = c .good .1 .0 .1 .0 .1 in
-    let few : c .args .count ≤ 32 = c .pre in
+    let full : length (c .args .t2) ≡ most-parts = c .good .1 .0 .1 .0 .1 in
+    let few : c .args .count ≤ most-parts = c .pre in
     omega arith
 
 -- the turn, and the ready time that it asks for, seen from later places
@@ -131,13 +132,16 @@ loop-less c = omega arith
 
 loop-again : tie.Need-loop-again Inv-loop μ-loop
 loop-again c =
+    let at-if = c .before .before .before .before in
     let asked = asked-of (c .before) in
+    let second = asked .before .before .before in
+    let first = second .before in
     let turn = turn-of asked in
     let start = turn .before .before in
-    let ready = rw (asked .ready-after .ensures) at (c .before .before .before .before .if3 .left) in
+    let ready = rw (asked .ready-after .ensures) at (at-if .if3 .left) in
     let back = rw (asked .ready-after .ensures) at (c .if4 .left) in
     rw add-one
-    (one-passed _ _ _ _ _ _ (turn .before .loop .inv) (asked .before .before .before .before .if1 .left) (asked .before .before .before .if2 .left) ready
+    (one-passed _ _ _ _ _ _ (turn .before .loop .inv) (first .if1 .left) (second .if2 .left) ready
     (c .before .walk-back .result) (c .before .walk-back .ensures .link) back (turn .loop-test .taken) (start .pre) (long start))
 
 returns-5 : tie.Need-returns-5 Inv-loop μ-loop

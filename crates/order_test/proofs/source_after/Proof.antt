@@ -30,7 +30,9 @@ returns-2 c = rw (c .enum-told .given .1)
 
 returns-3 : tie.Need-returns-3
 unfolding source-after
-returns-3 c = rw (c .before .before .before .source .given .1, lt-leb _ _ (c .before .if1 .left))
+returns-3 c =
+    let at-source = c .before .before .before in
+    rw (at-source .source .given .1, lt-leb _ _ (c .before .if1 .left))
 
 pub source-after-spec : {M : Type 1} → statement M
 source-after-spec =

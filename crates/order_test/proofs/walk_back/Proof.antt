@@ -41,7 +41,9 @@ element-copy-out-if1 : tie.Need-element-copy-out-if1 Inv-loop μ-loop
 element-copy-out-if1 c = omega arith
 
 returns : tie.Need-returns Inv-loop μ-loop
-returns c = record { link = c .before .before .before .loop .inv; higher = λ behind. c .if1 .taken }
+returns c =
+    let at-loop = c .before .before .before in
+    record { link = at-loop .loop .inv; higher = λ behind. c .if1 .taken }
 
 mul-place : tie.Need-mul-place Inv-loop μ-loop
 mul-place c = omega arith
@@ -55,7 +57,8 @@ loop-less c = let turn = c .before .before .before in omega (arith, link-before 
 loop-again : tie.Need-loop-again Inv-loop μ-loop
 loop-again c =
     let turn = c .before .before .before in
-    let args = turn .before .before .before .args in
+    let start = turn .before .before .before in
+    let args = start .args in
     let place = turn .before .loop .place in
     let next : suc (place - 1) ≡ place = omega arith in
     link-more (args .order .now) (args .i) (place - 1) (getD (args .links .now) (place - 1) 0) (rw next (turn .before .loop .inv))

@@ -35,8 +35,10 @@ accepted ts ss before after w is written = rw (is, lent-table-is ts ss) written
 
 -- what the test showed where it holds
 sounds : (c : tie.Else1) →
-    (spelled (c .before .before .before .before .before .args .table .now) (c .before .before .before .before .before .args .state .now) &&
-    sound (trimmed (model-in (c .before .before .before .before .before .args .table .now) (c .before .before .before .before .before .args .state .now)))) ≡ true
+    let start = c .before .before .before .before .before in
+    let table = start .args .table .now in
+    let state = start .args .state .now in
+    (spelled table state && sound (trimmed (model-in table state))) ≡ true
 sounds c = sym (c .before .is-sound-in .ensures) ∙ not-false (c .before .is-sound-in .result) (c .if1 .left)
 
 is-sound-in-requires : tie.Need-is-sound-in-requires
@@ -50,7 +52,8 @@ returns c =
 save-table-requires : tie.Need-save-table-requires
 save-table-requires c κs =
     let test = c .before in
-    let args = test .before .before .before .before .before .args in
+    let start = test .before .before .before .before .before in
+    let args = start .args in
     let ts = args .table .now in
     let ss = args .state .now in
     let spells = and-left (spelled ts ss) (sound (trimmed (model-in ts ss))) (sounds test) in
@@ -64,7 +67,8 @@ returns-2 : tie.Need-returns-2
 returns-2 c =
     let saved = c .before .before in
     let test = saved .before .before in
-    let args = test .before .before .before .before .before .args in
+    let start = test .before .before .before .before .before in
+    let args = start .args in
     let ts = args .table .now in
     let ss = args .state .now in
     let spells = and-left (spelled ts ss) (sound (trimmed (model-in ts ss))) (sounds test) in

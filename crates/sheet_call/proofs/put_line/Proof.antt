@@ -52,27 +52,32 @@ unfolding sheet-line shown-line
 returns c =
     let put = c .before .before in
     let test = put .before .before in
-    let args = test .before .before .before .before .before .args in
+    let start = test .before .before .before .before .before in
+    let args = start .args in
     rw (refusal-shown (args .table .now) (args .state .now) (args .outcome) (args .first) (args .second) (args .third) (test .if1 .taken)) (put .put-refusal-row .ensures)
 
 point-of-requires : tie.Need-point-of-requires
 point-of-requires c κs =
-    let args = c .before .before .before .before .before .args in
-    omega (arith, spelled-room (args .table .now) (args .state .now) (sheet-free _ _ _ _ _ _ (c .before .before .before .before .before .pre .0) .spells) .state)
+    let start = c .before .before .before .before .before in
+    let args = start .args in
+    omega (arith, spelled-room (args .table .now) (args .state .now) (sheet-free _ _ _ _ _ _ (start .pre .0) .spells) .state)
 
 output-at-requires : tie.Need-output-at-requires
 output-at-requires c κs =
-    let room = chosen-rooms _ _ _ _ _ _ (c .before .before .before .before .before .before .pre .0) in
+    let start = c .before .before .before .before .before .before in
+    let room = chosen-rooms _ _ _ _ _ _ (start .pre .0) in
     omega (arith, room .first, room .second, room .third)
 
 output-at-requires-2 : tie.Need-output-at-requires-2
 output-at-requires-2 c κs =
-    let room = chosen-rooms _ _ _ _ _ _ (c .before .before .before .before .before .before .before .pre .0) in
+    let start = c .before .before .before .before .before .before .before in
+    let room = chosen-rooms _ _ _ _ _ _ (start .pre .0) in
     omega (arith, room .first, room .second, room .third)
 
 output-at-requires-3 : tie.Need-output-at-requires-3
 output-at-requires-3 c κs =
-    let room = chosen-rooms _ _ _ _ _ _ (c .before .before .before .before .before .before .before .before .pre .0) in
+    let start = c .before .before .before .before .before .before .before .before in
+    let room = chosen-rooms _ _ _ _ _ _ (start .pre .0) in
     omega (arith, room .first, room .second, room .third)
 
 put-step-row-requires : tie.Need-put-step-row-requires

@@ -20,8 +20,10 @@ use Rattle.sheet_call.proofs.refusal_of.Tie as tie
 
 -- what the test of the words showed where it holds
 sounds-of : (c : tie.Else1) →
-    (spelled (c .before .before .before .before .args .table .now) (c .before .before .before .before .args .state .now) &&
-    sound (lent-model (c .before .before .before .before .args .table .now) (c .before .before .before .before .args .state .now))) ≡ true
+    let start = c .before .before .before .before in
+    let table = start .args .table .now in
+    let state = start .args .state .now in
+    (spelled table state && sound (lent-model table state)) ≡ true
 sounds-of c = sym (c .before .is-sound-in .ensures) ∙ not-false (c .before .is-sound-in .result) (c .if1 .left)
 
 -- what the test of the chosen parts showed, of the count that was read
@@ -29,8 +31,9 @@ there-is : (count n a b c : ℕ) (t r : Bool) → count ≡ n → r ≡ all-ther
 there-is count n a b c t r same is known = rw (← same) (sym is ∙ known)
 
 there-of : (c : tie.Else2) →
-    all-there (part-count (c .before .before .before .before .before .before .before .args .table .now)) (c .before .before .before .before .before .before .before .args .first)
-    (c .before .before .before .before .before .before .before .args .second) (c .before .before .before .before .before .before .before .args .third) ≡ true
+    let start = c .before .before .before .before .before .before .before in
+    let args = start .args in
+    all-there (part-count (args .table .now)) (args .first) (args .second) (args .third) ≡ true
 there-of c =
     let asked = c .before .parts-there in
     there-is _ _ _ _ _ true (asked .result) (c .before .before .parts-of .ensures) (asked .ensures) (not-false (asked .result) (c .if2 .left))
@@ -45,7 +48,8 @@ returns c =
 
 parts-of-requires : tie.Need-parts-of-requires
 parts-of-requires c κs =
-    let args = c .before .before .before .before .args in
+    let start = c .before .before .before .before in
+    let args = start .args in
     let ts = args .table .now in
     let ss = args .state .now in
     omega (arith, spelled-room ts ss (and-left (spelled ts ss) (sound (lent-model ts ss)) (sounds-of c)) .table)

@@ -5,7 +5,7 @@ use mathlib.Core.Path.{_≡_, sym, _∙_}
 use lib.ListN.{length, length-map}
 use Rattle.machine.specs.Table.{magnitude-of}
 use Rattle.load_table.specs.Concluded.{table-read}
-use Rattle.load_call.specs.Places.{components-read, table-in}
+use Rattle.load_call.specs.FirstPlaces.{components-read, table-in}
 use Rattle.load_call.specs.EndRefusals.{magnitude-small, judged-number, judged-order, judged-places}
 use borrow.Author.Needs.{needs}
 use Rattle.load_call.proofs.ending.judged.Statement.{statement}

@@ -7,7 +7,7 @@ use lib.ListN.{length, length-map, take}
 use Rattle.machine.specs.declared.part.Part.{Part}
 use Rattle.machine.specs.Model.{trimmed, trimmed-part}
 use Rattle.load_call.specs.EndRefusals.{unfilled-is}
-use Rattle.load_call.specs.Places.{first-stored}
+use Rattle.load_call.specs.FirstPlaces.{first-stored}
 use borrow.Author.Needs.{needs}
 use Rattle.load_call.proofs.ending.unfilled_model.Statement.{statement}
 use Rattle.load_call.proofs.ending.unfilled_model.Tie as tie

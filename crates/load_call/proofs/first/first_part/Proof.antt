@@ -8,7 +8,7 @@ use mir.Val.{SFits}
 use mir.ValLaws.{toZ-ofZ}
 use Rattle.machine.specs.Kind.{has-mass, integrates}
 use Rattle.machine.specs.Fresh.{first-state}
-use Rattle.load_call.specs.Places.{first-by}
+use Rattle.load_call.specs.FirstPlaces.{first-by}
 use borrow.Author.Needs.{needs}
 use Rattle.load_call.proofs.first.first_part.Statement.{statement}
 use Rattle.load_call.proofs.first.first_part.Tie as tie
@@ -55,8 +55,9 @@ returns : tie.Need-returns
 unfolding first-by first-state
 returns c =
     let held = c .before .before .before in
+    let start = held .before .before .before in
     rw (
-      held .before .before .before .ratio-of .ensures,
+      start .ratio-of .ensures,
       toZ-ofZ w64 (c .first-number2 .result) (record { sfits = c .first-number2 .ok }),
       toZ-ofZ w64 (held .first-number .result) (record { sfits = held .first-number .ok }),
       speeds c,

@@ -6,9 +6,9 @@ use mathlib.Core.Path.{_≡_, refl, ap₂, _∙_}
 use mathlib.Core.List.{List, map, _++_}
 use lib.ListN.{length, set, take, drop}
 use Rattle.machine.specs.declared.part.Part.{Part}
-use Rattle.machine.specs.Model.{blank-component}
+use Rattle.machine.specs.Model.{most-parts, blank-component}
 use Rattle.laws.specs.Partway.{mapped-more}
-use Rattle.load_call.specs.Places.{first-by, first-places}
+use Rattle.load_call.specs.FirstPlaces.{first-by, first-places}
 use borrow.Author.Needs.{needs}
 use Rattle.load_call.proofs.first.first_parts.Statement.{statement}
 use Rattle.load_call.proofs.first.first_parts.Tie as tie
@@ -52,7 +52,7 @@ loop-again c =
     let loop = turn .before .loop in
     let start = turn .before .before .before in
     let parts = start .args .t1 in
-    let full : length parts ≡ 32 = omega arith in
+    let full : length parts ≡ most-parts = omega arith in
     let here : loop .i < length parts = omega arith in (
       omega arith,
       ap₂ (λ (l : List Part) (p : Part). set l (loop .i) p) (loop .inv .1) (c .first-part .ensures) ∙

@@ -7,7 +7,7 @@ use lib.ListN.{length, drop}
 use Rattle.machine.specs.Time.{master-magnitude}
 use Rattle.machine.specs.Table.{magnitude-of}
 use Rattle.sound_laws.specs.Magnitude.{magnitude-end}
-use Rattle.load_call.specs.Places.{preferences-read, preferences-count, preferences-on, table-in}
+use Rattle.load_call.specs.FirstPlaces.{preferences-read, preferences-count, preferences-on, table-in}
 use borrow.Author.Needs.{needs}
 use Rattle.load_call.proofs.ratios.master_magnitude.Statement.{statement}
 use Rattle.load_call.proofs.ratios.master_magnitude.Tie as tie

@@ -6,7 +6,7 @@ use mathlib.Core.Path.{_≡_, _∙_, refl, sym}
 use mathlib.Core.Bool.{_&&_}
 use lib.ListN.{length, drop}
 use borrow.Author.Tests.{not-true, not-false}
-use Rattle.load_call.specs.Places.{components-read, periods-within, periods-on, periods-end}
+use Rattle.load_call.specs.FirstPlaces.{components-read, periods-within, periods-on, periods-end}
 use borrow.Author.Needs.{needs}
 use Rattle.load_call.proofs.ratios.periods_fit.Statement.{statement}
 use Rattle.load_call.proofs.ratios.periods_fit.Tie as tie

@@ -8,10 +8,11 @@ use borrow.Author.Tests.{lt-ltb, le-ltb}
 use Rattle.machine.specs.declared.part.Component.{Component}
 use Rattle.machine.specs.Table.{component-at}
 use Rattle.machine.specs.Load.{source-of, wire-refusal}
+use Rattle.machine.specs.Model.{most-parts}
 use Rattle.load_commands.specs.declared.progress.Progress.{Progress}
 use Rattle.load_commands.specs.Progress.{with-row, reading-of}
 use Rattle.load_operands.specs.Refusals.{port-number}
-use Rattle.load_commands.specs.Rows.{length-reading, reading-at}
+use Rattle.load_commands.specs.SpanRows.{length-reading, reading-at}
 use borrow.Author.Needs.{needs}
 use Rattle.load_commands.proofs.progress.wire_refusal.Statement.{statement}
 use Rattle.load_commands.proofs.progress.wire_refusal.Tie as tie
@@ -46,7 +47,7 @@ port-left progress source receiver port rows few there here =
 
 -- there are places for as many parts as the progress counts
 few : (c : tie.Start) → c .args .t1 .count ≤ length (c .args .t1 .parts)
-few c = let many : length (c .args .t1 .parts) ≡ 32 = omega (arith, simp length-map at (c .good .0)) in omega arith
+few c = let many : length (c .args .t1 .parts) ≡ most-parts = omega (arith, simp length-map at (c .good .0)) in omega arith
 
 returns : tie.Need-returns
 returns c =
@@ -71,10 +72,11 @@ port-refusal-requires c κs = search needs
 
 returns-3 : tie.Need-returns-3
 returns-3 c =
+    let at-if = c .before .before .before in
     let start = c .before .before .before .before in
     λ rows.
     c .port-refusal .ensures ∙
-    sym (port-left (start .args .t1) _ _ _ rows (few start) (c .before .before .before .if1 .left) (c .before .before .if2 .left))
+    sym (port-left (start .args .t1) _ _ _ rows (few start) (at-if .if1 .left) (c .before .before .if2 .left))
 
 pub wire-refusal-spec : {M : Type 1} → statement M
 wire-refusal-spec =

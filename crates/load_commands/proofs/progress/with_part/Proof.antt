@@ -13,7 +13,7 @@ use Rattle.load_operands.specs.declared.operands.PartOperands.{PartOperands}
 use Rattle.load_commands.specs.declared.progress.Progress.{Progress}
 use Rattle.load_commands.specs.ComponentMade.{component-of, made-component}
 use Rattle.load_commands.specs.Progress.{with-row, reading-of}
-use Rattle.load_commands.specs.Rows.{joined-added}
+use Rattle.load_commands.specs.SpanRows.{joined-added}
 use borrow.Author.Needs.{needs}
 use Rattle.load_commands.proofs.progress.with_part.Statement.{statement}
 use Rattle.load_commands.proofs.progress.with_part.Tie as tie

@@ -9,9 +9,10 @@ use lib.Seq.{take-set-lt}
 use Rattle.machine.specs.declared.part.Component.{Component}
 use Rattle.machine.specs.Table.{component-at}
 use Rattle.machine.specs.Load.{with-component, with-wire}
+use Rattle.machine.specs.Model.{most-parts}
 use Rattle.load_commands.specs.declared.progress.Progress.{Progress}
 use Rattle.load_commands.specs.Progress.{with-row, reading-of}
-use Rattle.load_commands.specs.Rows.{joined-set, reading-at}
+use Rattle.load_commands.specs.SpanRows.{joined-set, reading-at}
 use Rattle.load_commands.specs.Wired.{wired-reading}
 use borrow.Author.Needs.{needs}
 use Rattle.load_commands.proofs.progress.with_wire.Statement.{statement}
@@ -63,7 +64,7 @@ returns : tie.Need-returns
 returns c =
     let start = c .before .before .before in
     let progress = start .args .t1 in
-    let many : length (progress .parts) ≡ 32 = omega (arith, simp length-map at (start .good .0)) in
+    let many : length (progress .parts) ≡ most-parts = omega (arith, simp length-map at (start .good .0)) in
     let few : progress .count ≤ length (progress .parts) = omega arith in (
       wired-as progress (start .args .receiver) (start .args .port) (start .args .source) _ (c .before .wired-component .ensures)
           (start .pre .0) few,

@@ -10,9 +10,10 @@ use lib.Seq.{take-set-lt, take-suc-set}
 use Rattle.machine.specs.declared.part.Component.{Component}
 use Rattle.machine.specs.Table.{component-at}
 use Rattle.machine.specs.Load.{with-component, with-span}
+use Rattle.machine.specs.Model.{most-parts}
 use Rattle.load_commands.specs.declared.progress.Progress.{Progress}
 use Rattle.load_commands.specs.Progress.{with-row, reading-of}
-use Rattle.load_commands.specs.Rows.{joined-set-row, reading-at}
+use Rattle.load_commands.specs.SpanRows.{joined-set-row, reading-at}
 use Rattle.load_commands.specs.Spanned.{row-with, spanned-reading}
 use borrow.Author.Needs.{needs}
 use Rattle.load_commands.proofs.rows.with_span_counted.Statement.{statement}
@@ -80,7 +81,7 @@ returns : tie.Need-returns
 returns c =
     let start = c .before .before .before in
     let progress = start .args .t1 in
-    let many : length (progress .parts) ≡ 32 = omega (arith, simp length-map at (start .good .0)) in
+    let many : length (progress .parts) ≡ most-parts = omega (arith, simp length-map at (start .good .0)) in
     let few : progress .count ≤ length (progress .parts) = omega arith in (
       spanned-as progress (start .args .k) (start .pre .0) few,
       omega arith,

@@ -49,7 +49,8 @@ begin-step-requires c κs = search needs
 returns-2 : tie.Need-returns-2
 returns-2 c =
     let found = c .before .before in
-    let args = found .before .before .before .before .args in
+    let start = found .before .before .before .before in
+    let args = start .args in
     let got = rw (found .e .given .1) at (byte-cases (found .before .before .byte .ensures)) in (
       λ rows. c .begin-step .ensures .0 rows ∙ begin-as (args .s .now) (args .at) _ _ (omega arith) (got .1) (omega arith),
       c .begin-step .ensures .1,

@@ -6,13 +6,14 @@ use mathlib.Core.List.{List}
 use lib.ListN.{length, length-map, length-take}
 use borrow.Author.Tests.{le-leb}
 use Rattle.machine.specs.Load.{byte-at, part-read, part-refusal, part-command, unless-refused, with-part}
+use Rattle.machine.specs.Model.{most-parts}
 use Rattle.load_operands.specs.declared.operands.PartOperands.{PartOperands}
 use Rattle.load_commands.specs.declared.progress.Progress.{Progress}
 use Rattle.load_commands.specs.ComponentMade.{component-of}
 use Rattle.load_operands.specs.Operands.{part-operands-at, part-cases}
 use Rattle.load_commands.specs.Progress.{reading-of}
 use Rattle.load_operands.specs.Refusals.{operands-judged, part-number}
-use Rattle.load_commands.specs.Rows.{length-joined}
+use Rattle.load_commands.specs.SpanRows.{length-joined}
 use Rattle.load_commands.specs.CommandSteps.{cut-as, refused-left, uncut}
 use Rattle.load_operands.specs.Tests.{at-least-min}
 use borrow.Author.Needs.{needs}
@@ -30,7 +31,7 @@ read-as bs at o operands =
     rw (operands, preference, a, b, p)
 
 -- and the definition's refusal
-number-as : (bs : List ℕ) (at : ℕ) (progress : Progress) (o : PartOperands) (rows : List (List ℕ)) → length (progress .parts) ≡ 32 →
+number-as : (bs : List ℕ) (at : ℕ) (progress : Progress) (o : PartOperands) (rows : List (List ℕ)) → length (progress .parts) ≡ most-parts →
     o ≡ part-operands-at bs (at + 1) →
     part-refusal (reading-of progress rows .table .parts) (byte-at bs (at + 1)) (part-read bs at) ≡ part-number (progress .count) o
 unfolding reading-of part-refusal part-number component-of
@@ -39,7 +40,7 @@ number-as bs at progress o rows many operands =
     rw (read-as bs at o operands, ← kind, length-joined, length-take, many, at-least-min, operands-judged o)
 
 -- a Part that is whole is the definition's
-part-as : (bs : List ℕ) (at : ℕ) (progress : Progress) (o : PartOperands) (next : ℕ) (rows : List (List ℕ)) → length (progress .parts) ≡ 32 →
+part-as : (bs : List ℕ) (at : ℕ) (progress : Progress) (o : PartOperands) (next : ℕ) (rows : List (List ℕ)) → length (progress .parts) ≡ most-parts →
     at + 15 ≤ length bs → o ≡ part-operands-at bs (at + 1) → next ≡ at + 15 →
     unless-refused (part-number (progress .count) o) at next (with-part (reading-of progress rows) (component-of o)) ≡
     uncut bs at 15 (part-command bs at (reading-of progress rows))
@@ -86,7 +87,7 @@ returns-2 c =
     let start = found .before .before .before .before in
     let args = start .args in
     let got = rw (found .o .given .1) at (part-cases (found .before .before .part-operands .ensures)) in
-    let many : length (args .progress .parts) ≡ 32 = omega (arith, simp length-map at (start .good .1 .1 .0)) in (
+    let many : length (args .progress .parts) ≡ most-parts = omega (arith, simp length-map at (start .good .1 .1 .0)) in (
       λ rows.
           c .part-step .ensures .0 rows ∙
           part-as (args .s .now) (args .at) (args .progress) _ _ rows many (omega arith) (got .1) (omega arith),

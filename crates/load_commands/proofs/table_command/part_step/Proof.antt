@@ -7,13 +7,14 @@ use Rattle.load_operands.specs.Refusals.{part-number}
 use Rattle.load_operands.specs.Tests.{room-left}
 use Rattle.load_commands.specs.CommandSteps.{step-of, refused-as, refused-left}
 use borrow.Author.Needs.{needs}
+use Rattle.machine.specs.Model.{most-parts}
 use Rattle.load_commands.proofs.table_command.part_step.Statement.{statement}
 use Rattle.load_commands.proofs.table_command.part_step.Tie as tie
 
 -- a part that is not refused has room
-part-room : (count : ℕ) (o : PartOperands) → part-number count o ≡ 0 → count < 32
+part-room : (count : ℕ) (o : PartOperands) → part-number count o ≡ 0 → count < most-parts
 unfolding part-number
-part-room count o none = room-left 32 count _ none
+part-room count o none = room-left most-parts count _ none
 
 part-refusal-requires : tie.Need-part-refusal-requires
 part-refusal-requires c κs = search needs

@@ -27,13 +27,15 @@ span-as bs at progress rows last v next whole same there = rw (there, same, le-l
 -- the step that was made is the definition's, beside the rows with the value read
 stepped : (c : tie.After-span-step) (rows : List (List ℕ)) →
     let found = c .before .before in
-    let args = found .before .before .before .before .args in
+    let start = found .before .before .before .before in
+    let args = start .args in
     RowThere (args .progress) rows →
     step-of (row-with rows (last-place (args .progress)) (span-count (args .progress)) (found .v .given .0 .0)) (args .at) (c .span-step .result) ≡
     uncut (args .s .now) (args .at) 5 (span-stepped (args .s .now) (args .at) (args .progress) (args .last) rows)
 stepped c rows row =
     let found = c .before .before in
-    let args = found .before .before .before .before .args in
+    let start = found .before .before .before .before in
+    let args = start .args in
     let got = rw (found .v .given .1) at (word-cases (found .before .before .u32-at .ensures)) in
     c .span-step .ensures .0 rows row ∙
     span-as (args .s .now) (args .at) (args .progress) rows (args .last) _ _ (omega arith) (got .1) (omega arith)

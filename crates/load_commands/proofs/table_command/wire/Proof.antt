@@ -57,7 +57,8 @@ wire-step-requires c κs = search needs
 returns-2 : tie.Need-returns-2
 returns-2 c =
     let found = c .before .before in
-    let args = found .before .before .before .before .args in
+    let start = found .before .before .before .before in
+    let args = start .args in
     let got = rw (found .o .given .1) at (wire-cases (found .before .before .wire-operands .ensures)) in (
       λ rows.
           c .wire-step .ensures .0 rows ∙

@@ -6,9 +6,10 @@ use mathlib.Core.List.{[]}
 use lib.ListN.{length, length-map}
 use Rattle.sound_laws.specs.CommandsPassed.{wire-passed}
 use Rattle.load_commands.specs.Progress.{reading-of}
-use Rattle.load_commands.specs.Rows.{length-reading}
+use Rattle.load_commands.specs.SpanRows.{length-reading}
 use Rattle.load_commands.specs.CommandSteps.{step-of, refused-as, refused-left}
 use borrow.Author.Needs.{needs}
+use Rattle.machine.specs.Model.{most-parts}
 use Rattle.load_commands.proofs.table_command.wire_step.Statement.{statement}
 use Rattle.load_commands.proofs.table_command.wire_step.Tie as tie
 
@@ -34,7 +35,7 @@ with-wire-requires c κs =
     let start = c .before .before .before in
     let progress = start .args .progress in
     let o = start .args .o in
-    let many : length (progress .parts) ≡ 32 = omega (arith, simp length-map at (start .good .0)) in
+    let many : length (progress .parts) ≡ most-parts = omega (arith, simp length-map at (start .good .0)) in
     let few : progress .count ≤ length (progress .parts) = omega arith in
     let none = sym (c .before .before .wire-refusal .ensures []) ∙ c .before .if1 .left in
     let (there, here, port) = wire-passed (reading-of progress [] .table .parts) (o .source) (o .receiver) (o .port) none in
@@ -43,7 +44,8 @@ with-wire-requires c κs =
 returns-2 : tie.Need-returns-2
 unfolding step-of
 returns-2 c =
-    let number = c .before .before .before .wire-refusal in (
+    let at-wire-refusal = c .before .before .before in
+    let number = at-wire-refusal .wire-refusal in (
       λ rows. rw (← number .ensures rows, c .before .before .if1 .left, c .with-wire .ensures .0 rows),
       record { few = omega arith; refused = λ some. absurd (some refl) },
     )

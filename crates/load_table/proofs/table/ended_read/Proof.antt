@@ -4,8 +4,9 @@ use native.Mathlib.Omega.{arith}
 use mathlib.Core.Path.{_≡_, refl}
 use lib.ListN.{length, length-map}
 use borrow.Author.Needs.{needs}
+use Rattle.machine.specs.Model.{most-parts}
 use Rattle.load_commands.specs.Progress.{reading-of}
-use Rattle.load_commands.specs.Rows.{length-reading}
+use Rattle.load_commands.specs.SpanRows.{length-reading}
 use Rattle.load_table.specs.Concluded.{table-read}
 use Rattle.load_table.proofs.table.ended_read.Statement.{statement}
 use Rattle.load_table.proofs.table.ended_read.Tie as tie
@@ -17,7 +18,7 @@ returns : tie.Need-returns
 unfolding table-read reading-of
 returns c =
     let progress = c .before .before .args .progress in
-    let many : length (progress .parts) ≡ 32 = omega (arith, simp length-map at (c .before .before .good .1 .0)) in
+    let many : length (progress .parts) ≡ most-parts = omega (arith, simp length-map at (c .before .before .good .1 .0)) in
     let few : progress .count ≤ length (progress .parts) = omega arith in
     record {
       number = refl;

@@ -7,6 +7,7 @@ use mathlib.Core.List.{List}
 use lib.ListN.{length}
 use borrow.Author.Needs.{needs}
 use Rattle.machine.specs.Load.{load, refused}
+use Rattle.machine.specs.Model.{most-parts}
 use Rattle.load_commands.specs.declared.progress.Progress.{Progress}
 use Rattle.load_commands.specs.Progress.{reading-of}
 use Rattle.load_table.specs.declared.turn.CommandRead.{CommandRead}
@@ -19,7 +20,7 @@ use Rattle.load_table.proofs.table.read_table.Statement.{statement}
 use Rattle.load_table.proofs.table.read_table.Tie as tie
 
 abbrev Inv-loop : tie.InvT-loop
-Inv-loop s at₀ progress₀ rows₀ at progress rows = (progress .count ≤ 32) × Stands s at (reading-of progress rows)
+Inv-loop s at₀ progress₀ rows₀ at progress rows = (progress .count ≤ most-parts) × Stands s at (reading-of progress rows)
 
 abbrev μ-loop : tie.MeasureT-loop
 μ-loop s at₀ progress₀ rows₀ at progress rows = length s - at

@@ -5,7 +5,7 @@ use mathlib.Core.Path.{_≡_, refl, ap, _∙_}
 use mathlib.Core.List.{List, [], _∷_, map}
 use lib.ListN.{length, getD, set, take}
 use Rattle.machine.specs.declared.part.Component.{Component}
-use Rattle.machine.specs.Model.{trimmed-component, blank-component}
+use Rattle.machine.specs.Model.{most-parts, trimmed-component, blank-component}
 use Rattle.load_commands.specs.Progress.{with-row, joined}
 use borrow.Author.Needs.{needs}
 use Rattle.load_table.proofs.table.with_rows.Statement.{statement}
@@ -57,10 +57,10 @@ rowed-all (suc n) (c ∷ cs) (row ∷ rows) (suc count) few there =
     ap (λ l. with-row c row ∷ l) (rowed-all n cs rows count (omega arith) (omega arith))
 
 abbrev Inv-loop : tie.InvT-loop
-Inv-loop rows next₀ i₀ next i = (i ≤ 32) × (next ≡ rowed i next₀ rows)
+Inv-loop rows next₀ i₀ next i = (i ≤ most-parts) × (next ≡ rowed i next₀ rows)
 
 abbrev μ-loop : tie.MeasureT-loop
-μ-loop rows next₀ i₀ next i = 32 - i
+μ-loop rows next₀ i₀ next i = most-parts - i
 
 loop-holds : tie.Need-loop-holds Inv-loop μ-loop
 unfolding rowed
@@ -92,7 +92,8 @@ loop-less c = omega arith
 
 loop-again : tie.Need-loop-again Inv-loop μ-loop
 loop-again c =
-    let loop = c .before .before .before .loop in
+    let at-loop = c .before .before .before in
+    let loop = at-loop .loop in
     let start = c .before .before .before .before in
     let parts = start .args .parts in
     let rows = start .args .t2 in

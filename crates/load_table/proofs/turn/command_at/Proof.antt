@@ -6,6 +6,7 @@ use mathlib.Core.List.{List}
 use lib.ListN.{length, length-map, List·getD-eq-default}
 use borrow.Author.Needs.{needs}
 use Rattle.machine.specs.Load.{byte-at}
+use Rattle.machine.specs.Model.{most-parts}
 use Rattle.load_commands.specs.Progress.{reading-of}
 use Rattle.load_table.specs.Stands.{turn-cut}
 use Rattle.load_table.specs.SpansKept.{span-asked}
@@ -23,7 +24,7 @@ test-of refuses = refuses .before .before
 
 -- there are places for as many parts as the progress counts
 few : (c : tie.Start) → c .args .progress .count ≤ length (c .args .progress .parts)
-few c = let many : length (c .args .progress .parts) ≡ 32 = omega (arith, simp length-map at (c .good .1 .1 .0)) in omega arith
+few c = let many : length (c .args .progress .parts) ≡ most-parts = omega (arith, simp length-map at (c .good .1 .1 .0)) in omega arith
 
 -- past the stream's end there is no byte
 past : (bs : List ℕ) (at : ℕ) → length bs ≤ at → 0 ≡ byte-at bs at

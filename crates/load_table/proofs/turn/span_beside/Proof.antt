@@ -7,6 +7,7 @@ use Rattle.load_commands.specs.Beside.{span-beside-as}
 use Rattle.load_commands.specs.Spanned.{RowThere}
 use Rattle.load_commands.specs.CommandSteps.{uncut}
 use borrow.Author.Needs.{needs}
+use Rattle.machine.specs.Model.{most-parts}
 use Rattle.load_table.proofs.turn.span_beside.Statement.{statement}
 use Rattle.load_table.proofs.turn.span_beside.Tie as tie
 
@@ -37,7 +38,7 @@ returns c =
     let start = c .before .before .before .before .before in
     let args = start .args in
     let row : RowThere (args .t3) (args .t4) = record { there = omega arith; eight = last .eight } in
-    let many : length (args .t3 .parts) ≡ 32 = omega (arith, simp length-map at (start .good .1 .1 .0)) in
+    let many : length (args .t3 .parts) ≡ most-parts = omega (arith, simp length-map at (start .good .1 .1 .0)) in
     let few : args .t3 .count ≤ length (args .t3 .parts) = omega arith in
     let same = span-beside-as (args .t3) (args .t4) _ (start .pre .2 .some) few (record { row = row; final = last .is }) (args .s .now) (args .at) in
     (c .span .ensures .0 _ row ∙ ap (uncut (args .s .now) (args .at) 5) same, c .span .ensures .1)

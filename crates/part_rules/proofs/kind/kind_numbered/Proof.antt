@@ -16,7 +16,9 @@ returns : tie.Need-returns
 returns c = rw (c .enum-told .given .1) at (c .before .before .kind-of .ensures .kind)
 
 returns-2 : tie.Need-returns-2
-returns-2 c = rw (c .before .kind .given .1) at (c .before .before .before .kind-of .ensures .kind)
+returns-2 c =
+    let at-kind-of = c .before .before .before in
+    rw (c .before .kind .given .1) at (at-kind-of .kind-of .ensures .kind)
 
 pub kind-numbered-spec : {M : Type 1} → statement M
 kind-numbered-spec = tie.close (tie.spec kind-of-requires enum-known-kind enum-told returns returns-2)

@@ -43,8 +43,10 @@ turn : (c : tie.After-span-rises Inv-loop μ-loop) →
     spans-rise 0 (take (args .count) (args .t1)) ≡
     (c .span-rises .result && spans-rise (getD (args .t1) i 0) (drop (i + 1) (take (args .count) (args .t1))))
 turn c =
-    let loop = c .before .before .before .loop in
-    let args = c .before .before .before .before .args in
+    let start = c .before .before .before .before in
+    let at-loop = c .before .before .before in
+    let loop = at-loop .loop in
+    let args = start .args in
     let inside : loop .i < length (args .t1) = omega arith in
     rw (
       loop .inv,

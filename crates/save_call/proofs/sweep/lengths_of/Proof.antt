@@ -79,14 +79,16 @@ wire-length-requires-2 c κs = tt
 
 add-wires : tie.Need-add-wires Inv-loop μ-loop
 add-wires c =
+    let at-port0-at = c .before .before .before in
     let second = port-bytes-short (c .wire-length2 .ensures) (c .before .port1-at .ensures) in
-    let first = port-bytes-short (c .before .before .wire-length .ensures) (c .before .before .before .port0-at .ensures) in
+    let first = port-bytes-short (c .before .before .wire-length .ensures) (at-port0-at .port0-at .ensures) in
     omega (arith, first .1, second .1)
 
 add-wires-2 : tie.Need-add-wires-2 Inv-loop μ-loop
 add-wires-2 c =
+    let at-port0-at = c .before .before .before in
     let second = port-bytes-short (c .wire-length2 .ensures) (c .before .port1-at .ensures) in
-    let first = port-bytes-short (c .before .before .wire-length .ensures) (c .before .before .before .port0-at .ensures) in
+    let first = port-bytes-short (c .before .before .wire-length .ensures) (at-port0-at .port0-at .ensures) in
     let spans = c .before .before .before .before in
     let turn = turn-of spans in
     omega (arith, most spans .1, turn .loop .inv .2, wires-counted (start-of turn .args .table .now) (turn .loop .i) (here spans), first .0, second .0)
@@ -99,10 +101,11 @@ loop-less c = omega arith
 
 loop-again : tie.Need-loop-again Inv-loop μ-loop
 loop-again c =
+    let at-port0-at = c .before .before .before in
     let spans = c .before .before .before .before in
     let turn = turn-of spans in
     let fit = here spans in
-    let first = port-bytes-short (c .before .before .wire-length .ensures) (c .before .before .before .port0-at .ensures) in
+    let first = port-bytes-short (c .before .before .wire-length .ensures) (at-port0-at .port0-at .ensures) in
     let second = port-bytes-short (c .wire-length2 .ensures) (c .before .port1-at .ensures) in
     let words = start-of turn .args .table .now in (
       omega arith,

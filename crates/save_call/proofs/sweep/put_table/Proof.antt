@@ -42,8 +42,12 @@ here : (c : tie.At-loop Inv-loop μ-loop) → c .loop .i < part-count (words-of 
 here c low = part-fits-at _ (start-of (begin-of c) .pre .1 .0) _ low
 
 -- the count of parts was read
-counted : (c : tie.At-loop Inv-loop μ-loop) → begin-of c .before .before .before .parts-of .result ≡ part-count (words-of c)
-counted c = begin-of c .before .before .before .parts-of .ensures
+counted : (c : tie.At-loop Inv-loop μ-loop) →
+    let start = begin-of c .before .before .before in
+    start .parts-of .result ≡ part-count (words-of c)
+counted c =
+    let start = begin-of c .before .before .before in
+    start .parts-of .ensures
 
 -- the buffer has room for the whole table
 room : (c : tie.At-loop Inv-loop μ-loop) → length (table-bytes (lent-table (words-of c))) ≤ length (c .loop .out)
@@ -89,7 +93,9 @@ magnitude-of-requires : tie.Need-magnitude-of-requires Inv-loop μ-loop
 magnitude-of-requires c κs = omega arith
 
 put-begin-requires : tie.Need-put-begin-requires Inv-loop μ-loop
-put-begin-requires c κs = omega (arith, table-length (lent-table (c .before .before .before .before .before .args .table .now)))
+put-begin-requires c κs =
+    let start = c .before .before .before .before .before in
+    omega (arith, table-length (lent-table (start .args .table .now)))
 
 loop-holds : tie.Need-loop-holds Inv-loop μ-loop
 unfolding parts-bytes wires-bytes tabulate
@@ -129,6 +135,7 @@ put-component-requires c κs =
 put-wires-requires : tie.Need-put-wires-requires Inv-loop μ-loop
 unfolding lent-component trimmed-component wires-text
 put-wires-requires c κs =
+    let at-put-component = c .before .before .before in
     let read = c .before .before .before .before .before in
     let loop = read .before .before in
     let i = loop .loop .i in
@@ -141,7 +148,7 @@ put-wires-requires c κs =
     let most = wires-within (words-of loop) i (omega arith) in
     let next = loop .loop .inv .2 .next in
     let begins = start-of (begin-of loop) .pre .1 .1 .0 in
-    let kept = c .before .before .before .put-component .kept .0 in (
+    let kept = at-put-component .put-component .kept .0 in (
       omega (arith, few .1),
       (
         rw is (fit .port0),

@@ -7,7 +7,7 @@ use Rattle.machine.specs.declared.part.Source.{Source}
 use Rattle.machine.specs.declared.part.Source.the-variants.{From}
 use Rattle.machine.specs.TableBytes.{port-bytes}
 use Rattle.write_bytes.specs.Pieces.{put-nothing, put-as}
-use Rattle.save_call.specs.LentTable.{SourceBelow}
+use Rattle.save_call.specs.LentTable.{SourceInByte}
 use borrow.Author.Needs.{needs}
 use Rattle.save_call.proofs.writer.put_port.Statement.{statement}
 use Rattle.save_call.proofs.writer.put_port.Tie as tie
@@ -17,7 +17,7 @@ wire-room : (receiver port at n k : ℕ) (s : Source) → s ≡ From k → at + 
 unfolding port-bytes
 wire-room receiver port at n k s is room = rw is at room
 
-source-small : (k : ℕ) (s : Source) → s ≡ From k → SourceBelow 256 s → k < 256
+source-small : (k : ℕ) (s : Source) → s ≡ From k → SourceInByte s → k < 256
 source-small k s is small = rw is at small
 
 enum-told : tie.Need-enum-told
@@ -28,8 +28,9 @@ enum-known-s c = search needs
 
 cast-put-wire : tie.Need-cast-put-wire
 cast-put-wire c =
+    let start = c .before .before .before .before .before in
     let wired = c .before .before .s .given in
-    let small = source-small _ _ (wired .1) (c .before .before .before .before .before .pre .1 .0) in
+    let small = source-small _ _ (wired .1) (start .pre .1 .0) in
     search needs
 
 cast-put-wire-2 : tie.Need-cast-put-wire-2
@@ -51,7 +52,9 @@ same-length c = search needs
 
 returns-2 : tie.Need-returns-2
 unfolding port-bytes
-returns-2 c = rw (c .before .before .before .before .before .s .given .1) (c .before .before .put-wire .ensures)
+returns-2 c =
+    let at-s = c .before .before .before .before .before in
+    rw (at-s .s .given .1) (c .before .before .put-wire .ensures)
 
 pub put-port-spec : {M : Type 1} → statement M
 put-port-spec =

@@ -3,7 +3,7 @@ use mathlib.Core.Path.{ap}
 use Prim.Native.Nat.{ℕ, _-_}
 use Rattle.write_bytes.specs.Pieces.{put-then}
 use borrow.Author.Needs.{needs}
-use Rattle.sheet_call.proofs.Fields.{field-put}
+use Rattle.sheet_call.proofs.FieldsPut.{field-put}
 use Rattle.sheet_call.proofs.field.put_number_field.Statement.{statement}
 use Rattle.sheet_call.proofs.field.put_number_field.Tie as tie
 

@@ -6,7 +6,7 @@ use mir.Syntax.{w64}
 use mir.ValLaws.{toZ-ofZ}
 use Rattle.machine.specs.Sheet.{output-width}
 use borrow.Author.Needs.{needs}
-use Rattle.sheet_call.proofs.Fields.{field-put}
+use Rattle.sheet_call.proofs.FieldsPut.{field-put}
 use Rattle.sheet_call.proofs.field.put_value_field.Statement.{statement}
 use Rattle.sheet_call.proofs.field.put_value_field.Tie as tie
 

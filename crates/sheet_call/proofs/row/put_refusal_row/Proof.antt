@@ -4,7 +4,7 @@ use Rattle.machine.specs.Sheet.{refused-row}
 use Rattle.write_laws.specs.Decimal.{word-digits}
 use Rattle.write_bytes.specs.Pieces.{put-then}
 use borrow.Author.Needs.{needs}
-use Rattle.sheet_call.proofs.Fields.{filled-put}
+use Rattle.sheet_call.proofs.FieldsPut.{filled-put}
 use Rattle.sheet_call.proofs.row.put_refusal_row.Statement.{statement}
 use Rattle.sheet_call.proofs.row.put_refusal_row.Tie as tie
 

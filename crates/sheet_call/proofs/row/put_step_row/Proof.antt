@@ -8,7 +8,7 @@ use Rattle.machine.specs.declared.signal.Signal.{Signal}
 use Rattle.machine.specs.Sheet.{ShownStep, shown-fits, shown-line, row, field-texts}
 use Rattle.write_bytes.specs.Pieces.{put-then}
 use borrow.Author.Needs.{needs}
-use Rattle.sheet_call.proofs.Rows.{FieldsFit, fields-fit}
+use Rattle.sheet_call.proofs.RowFits.{FieldsFit, fields-fit}
 use Rattle.sheet_call.proofs.row.put_step_row.Statement.{statement}
 use Rattle.sheet_call.proofs.row.put_step_row.Tie as tie
 

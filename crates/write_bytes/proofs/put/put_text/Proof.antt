@@ -33,7 +33,8 @@ shared-slice-read-put-byte c = search needs
 put-byte-requires : tie.Need-put-byte-requires Inv-loop μ-loop
 put-byte-requires c κs =
     let turn = c .before .before .before in
-    omega (arith, length-take (turn .loop .i) (turn .before .before .before .args .text .now))
+    let start = turn .before .before .before in
+    omega (arith, length-take (turn .loop .i) (start .args .text .now))
 
 add-i : tie.Need-add-i Inv-loop μ-loop
 add-i c = omega arith

@@ -105,12 +105,15 @@ enum-told c = search needs
 returns-3 : tie.Need-returns-3
 returns-3 c =
     let zero = c .before .before in
-    let within = zero .before .before .before .before .before .if1 .left in
+    let tested = zero .before .before .before .before .before in
+    let within = tested .if1 .left in
     let one = subst (λ (x : Comparison). OneOf (1 ∷ 2 ∷ []) (tagOf the-type x)) (c .before .compare .ensures) (c .match .keys2) in
     from-the-end _ _ within (zero .if3 .taken) (not-earlier _ last-microstep one)
 
 -- the point lies before the last one of its tick
-before-the-end : (c : tie.After-enum-told) → c .before .before .before .before .before .before .before .before .before .before .args .self .n < last-microstep
+before-the-end : (c : tie.After-enum-told) →
+    let start = c .before .before .before .before .before .before .before .before .before .before in
+    start .args .self .n < last-microstep
 before-the-end c = earlier _ last-microstep (sym (c .before .before .compare .ensures) ∙ c .enum-told .given .1)
 
 add-t14 : tie.Need-add-t14
@@ -119,7 +122,8 @@ add-t14 c = omega (arith, before-the-end c)
 returns-4 : tie.Need-returns-4
 returns-4 c =
     let zero = c .before .before .before in
-    let within = zero .before .before .before .before .before .if1 .left in
+    let tested = zero .before .before .before .before .before in
+    let within = tested .if1 .left in
     within-the-tick _ _ within (zero .if3 .taken) (before-the-end c)
 
 add-t15 : tie.Need-add-t15
