@@ -26,7 +26,8 @@ use Rattle.machine.specs.declared.model.Outcome.{Outcome}
 use Rattle.advance_call.specs.Into.{lent-model, SearchedInto, AdvancedInto}
 use Rattle.advance_call.specs.IntoLaws.{barred-call, short-call, searched-call, spelled-call}
 use Rattle.advance_call.specs.EveryLent.{LentCall, next-state, LentChain}
-use Rattle.advance_call.specs.AnyRoom.{Promised, AnyRoomChain, WholeLentList, with-room, room-alone, every-room-list}
+use Rattle.advance_call.specs.AnyRoom.{Promised, AnyRoomChain, WholeLentList, with-room, room-alone}
+use Rattle.advance_call.specs.AnyRoom.{every-room-list}
 
 -- the bytes of the table, and its words
 abbrev pub square-bytes : List ℕ

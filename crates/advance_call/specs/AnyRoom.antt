@@ -23,7 +23,8 @@ use Rattle.words_store.specs.ModelIn.{part-count, state-words, model-in}
 use Rattle.words_store.specs.Form.{spelled}
 use Rattle.advance_call.specs.Into.{lent-model, outcome-into, AdvancedInto}
 use Rattle.advance_call.specs.IntoLaws.{with-barred, with-short}
-use Rattle.advance_call.specs.EveryLent.{LentCall, next-state, LentChain, machine-calls-of, spells-on, every-lent-list}
+use Rattle.advance_call.specs.EveryLent.{LentCall, next-state, LentChain, machine-calls-of, spells-on}
+use Rattle.advance_call.specs.EveryLent.{every-lent-list}
 
 -- a call keeps what a call on the words of the table ts promises
 abbrev pub Promised : List ℕ → LentCall → Type 0

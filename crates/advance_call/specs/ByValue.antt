@@ -1,6 +1,7 @@
--- From what a call on lent words promises to what the call by value does: the model put into words is the one handed in, but for the places in no use, and its
--- state, taken back, is the answer's. The idea: words that spell a model, with room for the new state, are asked of the machine as they are, so that the
--- call on words ends as the machine does. Assumes nothing.
+-- From what a call on lent words promises to what the call by value does: the model put into words is the one handed
+-- in, but for the places in no use, and its state, taken back, is the answer's. The idea: words that spell a model,
+-- with room for the new state, are asked of the machine as they are, so that the call on words ends as the machine
+-- does. Assumes nothing.
 use Prim.Native.Nat.{ℕ, _≤_, _<_}
 use native.Mathlib.Omega.{arith}
 use mathlib.Core.Path.{_≡_, refl, sym, ap, ap₂, _∙_}
@@ -36,14 +37,16 @@ pub answered : (x z : Model) (o : Outcome) (v : Outcome) → z ≡ answer-with x
     answer-of z (v .number) (v .step) (v .rounds) (v .revisions) (v .ceiling) ≡ answer-with x o
 unfolding answer-with
 answered x z o v same ends =
-    ap₂ (λ (y : Model) (u : Outcome). answer-of y (u .number) (u .step) (u .rounds) (u .revisions) (u .ceiling)) same ends
+    ap₂ (λ (y : Model) (u : Outcome). answer-of y (u .number) (u .step) (u .rounds) (u .revisions) (u .ceiling)) same
+    ends
 
 -- which of a refusal is the model handed in
 pub refused-model : (x : Model) (o : Outcome) → (o .number ≡ 0 → ⊥) → x ≡ answer-with x o .model
 unfolding answer-with
 refused-model x o other = sym (cond-false (eqb (o .number) 0) (step-made x (o .step)) x (ne-eqb (o .number) 0 other))
 
--- a call on the words ts and os, which hold the model m, with room for the new state; it left the words ns, and ended with v
+-- a call on the words ts and os, which hold the model m, with room for the new state; it left the words ns, and ended
+-- with v
 module _
     (m : Model)
     (w room : ℕ)
@@ -62,12 +65,14 @@ module _
   ends = called .ends ∙ machine-ends
 
   -- so where it is refused, the answer has the model handed in
-  pub refused-by-value : (v .number ≡ 0 → ⊥) → Advanced m w (answer-of m (v .number) (v .step) (v .rounds) (v .revisions) (v .ceiling))
+  pub refused-by-value : (v .number ≡ 0 → ⊥) →
+      Advanced m w (answer-of m (v .number) (v .step) (v .rounds) (v .revisions) (v .ceiling))
   unfolding advance trimmed-answer
   refused-by-value other =
       let o = outcome (trimmed m) w in
       record {
-        machine = answered (trimmed m) (trimmed m) o v (refused-model (trimmed m) o (λ z. other (ap (λ (u : Outcome). u .number) ends ∙ z))) ends;
+        machine = answered (trimmed m) (trimmed m) o v
+            (refused-model (trimmed m) o (λ z. other (ap (λ (u : Outcome). u .number) ends ∙ z))) ends;
         unchanged = λ z. refl;
         unused = record { orders = refl; parts = refl; spans = λ i l. refl };
       }
@@ -81,7 +86,8 @@ module _
       record {
         machine =
             answered (trimmed m) (trimmed r) o v
-            (back .is ts os (put .is) ∙ called .next (called .asked none) ∙ ap₂ (λ (x : Model) (u : Outcome). answer-with x u .model) (put .is) machine-ends)
+            (back .is ts os (put .is) ∙ called .next (called .asked none) ∙
+            ap₂ (λ (x : Model) (u : Outcome). answer-with x u .model) (put .is) machine-ends)
             ends;
         unchanged = λ other. absurd (other none);
         unused = back .unused;

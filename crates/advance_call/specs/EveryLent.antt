@@ -28,7 +28,8 @@ use Rattle.words_store.specs.StoreFrame.{held-unused}
 use Rattle.advance_call.specs.Into.{lent-model, AdvancedInto}
 use Rattle.advance_call.specs.IntoLaws.{into-machine}
 
--- a call: the state that it was given, the wanted step, the words lent for the new state before it and after it, and its outcome
+-- a call: the state that it was given, the wanted step, the words lent for the new state before it and after it, and
+-- its outcome
 pub record LentCall : Type 0 where
   pub state : List ℕ
   pub wanted : ℕ
@@ -86,15 +87,18 @@ module _
   ends = called .ends ∙ (into-machine ts (c .state) (c .wanted) (length (c .before)) spells enough)
 
   -- the state that is then handed on means the model of the machine's answer
-  handed-on : (eqb (c .result .number) 0 ≡ true) ⊎ (eqb (c .result .number) 0 ≡ false) → lent-model ts (next-state c) ≡ answer-with m o .model
+  handed-on : (eqb (c .result .number) 0 ≡ true) ⊎ (eqb (c .result .number) 0 ≡ false) →
+      lent-model ts (next-state c) ≡ answer-with m o .model
   unfolding next-state answer-with
   handed-on (inl zero-number) =
       ap (lent-model ts) (cond-true (eqb (c .result .number) 0) (c .after) (c .state) zero-number) ∙
       called .next (called .asked (eqb-true (c .result .number) 0 zero-number)) ∙
-      ap (λ (x : Outcome). answer-with m x .model) (into-machine ts (c .state) (c .wanted) (length (c .before)) spells enough)
+      ap (λ (x : Outcome). answer-with m x .model)
+      (into-machine ts (c .state) (c .wanted) (length (c .before)) spells enough)
   handed-on (inr other) =
       ap (lent-model ts) (cond-false (eqb (c .result .number) 0) (c .after) (c .state) other) ∙
-      sym (cond-false (eqb (o .number) 0) (step-made m (o .step)) m (ap (λ (v : Outcome). eqb (v .number) 0) (sym ends) ∙ other))
+      sym (cond-false (eqb (o .number) 0) (step-made m (o .step)) m
+      (ap (λ (v : Outcome). eqb (v .number) 0) (sym ends) ∙ other))
 
   -- where it is refused, that is the state handed in
   kept : eqb (c .result .number) 0 ≡ false → next-state c ≡ c .state
@@ -107,30 +111,42 @@ module _
       record {
         machine =
             ap₂ (λ (x : Model) (v : Outcome).
-            record { model = x; number = v .number; step = v .step; rounds = v .rounds; revisions = v .revisions; ceiling = v .ceiling })
+            record {
+              model = x;
+              number = v .number;
+              step = v .step;
+              rounds = v .rounds;
+              revisions = v .revisions;
+              ceiling = v .ceiling;
+            })
             (handed-on (either (eqb (c .result .number) 0))) ends;
         unchanged = λ other. ap (model-in ts) (kept (ne-eqb (c .result .number) 0 other));
         unused = held-unused ts (c .state) (next-state c);
       }
 
   -- and spells it
-  pub spells-on : (eqb (c .result .number) 0 ≡ true) ⊎ (eqb (c .result .number) 0 ≡ false) → spelled ts (next-state c) ≡ true
+  pub spells-on : (eqb (c .result .number) 0 ≡ true) ⊎ (eqb (c .result .number) 0 ≡ false) →
+      spelled ts (next-state c) ≡ true
   unfolding next-state
-  spells-on (inl zero-number) = rw zero-number (called .form (called .asked (eqb-true (c .result .number) 0 zero-number)))
+  spells-on (inl zero-number) =
+      rw zero-number (called .form (called .asked (eqb-true (c .result .number) 0 zero-number)))
   spells-on (inr other) = rw other spells
 
 -- a chain of calls on words is a chain of the machine's
-pub lent-chain : (ts s : List ℕ) (cs : List LentCall) → spelled ts s ≡ true → LentChain ts s cs → Chain (model-in ts s) (machine-calls-of ts cs)
+pub lent-chain : (ts s : List ℕ) (cs : List LentCall) → spelled ts s ≡ true → LentChain ts s cs →
+    Chain (model-in ts s) (machine-calls-of ts cs)
 unfolding machine-calls-of machine-call
 lent-chain ts s [] spells chain = tt
 lent-chain ts s (c ∷ cs) spells chain =
     let here : spelled ts (c .state) ≡ true = ap (spelled ts) (chain .0) ∙ spells in (
       ap (model-in ts) (chain .0),
       answers ts c here (chain .1) (chain .2),
-      lent-chain ts (next-state c) cs (spells-on ts c here (chain .1) (chain .2) (either (eqb (c .result .number) 0))) (chain .3),
+      lent-chain ts (next-state c) cs (spells-on ts c here (chain .1) (chain .2) (either (eqb (c .result .number) 0)))
+          (chain .3),
     )
 
--- demand 3: whatever bytes were loaded into words, and whatever steps were wanted then, the claim holds of the whole list of calls
+-- demand 3: whatever bytes were loaded into words, and whatever steps were wanted then, the claim holds of the whole
+-- list of calls
 pub every-lent-list :
     (bs ts s : List ℕ) → load bs .number ≡ 0 → lent-model ts s ≡ load bs .model → spelled ts s ≡ true →
     (cs : List LentCall) → LentChain ts s cs → WholeList (model-in ts s) (machine-calls-of ts cs)

@@ -1,6 +1,7 @@
--- Demand 3 of the calls of `advance` themselves. The contract of `advance` (src/lib.rt) promises `Advanced m w r` of its answer r, for every model m and
--- wanted step w, and asks for nothing; a chain of calls (`Chain`, machine's specs/Calls.antt) asks of each answer that very promise, and that each call is
--- given the model of the answer before it. So what a caller gets who hands each answer's model to the next call is a chain, one call at a time, and
+-- Demand 3 of the calls of `advance` themselves. The contract of `advance` (src/lib.rt) promises `Advanced m w r` of
+-- its answer r, for every model m and wanted step w, and asks for nothing; a chain of calls (`Chain`, machine's
+-- specs/Calls.antt) asks of each answer that very promise, and that each call is given the model of the answer before
+-- it. So what a caller gets who hands each answer's model to the next call is a chain, one call at a time, and
 -- `whole-list` (wholelist's specs/Demand3.antt) speaks of it. Assumes nothing.
 use Prim.Native.Nat.{ℕ}
 use mathlib.Core.Path.{_≡_, refl}
@@ -19,11 +20,12 @@ abbrev pub call : Model → ℕ → Answer → Call
 call m w r = record { given = m; wanted = w; answer = r }
 
 -- an answer that keeps the contract, before a chain from the model that it holds
-chain-step : (m : Model) (w : ℕ) (r : Answer) (cs : List Call) → Advanced m w r → Chain (r .model) cs → Chain m (call m w r ∷ cs)
+chain-step : (m : Model) (w : ℕ) (r : Answer) (cs : List Call) → Advanced m w r → Chain (r .model) cs →
+    Chain m (call m w r ∷ cs)
 chain-step m w r cs keeps rest = (refl, keeps, rest)
 
--- the answers rs to the wanted steps ws, one call for each: the first call is given the model m, each next one the model of the answer before it. Nothing
--- is asked of an answer but what the contract of `advance` promises
+-- the answers rs to the wanted steps ws, one call for each: the first call is given the model m, each next one the
+-- model of the answer before it. Nothing is asked of an answer but what the contract of `advance` promises
 abbrev pub Answered : Model → List ℕ → List Answer → Type 0
 Answered m [] [] = Unit {0}
 Answered m [] (r ∷ rs) = ⊥
@@ -41,11 +43,13 @@ answered-chain : (m : Model) (ws : List ℕ) (rs : List Answer) → Answered m w
 unfolding calls
 answered-chain m [] rs all = tt
 answered-chain m (w ∷ ws) [] all = absurd all
-answered-chain m (w ∷ ws) (r ∷ rs) all = chain-step m w r (calls (r .model) ws rs) (all .0) (answered-chain (r .model) ws rs (all .1))
+answered-chain m (w ∷ ws) (r ∷ rs) all =
+    chain-step m w r (calls (r .model) ws rs) (all .0) (answered-chain (r .model) ws rs (all .1))
 
 -- demand 3: whatever bytes were loaded, and whatever steps were wanted then, the claim holds of the whole list of calls
 pub every-list :
     (bs : List ℕ) (loaded : Loaded) → trimmed-loaded loaded ≡ load bs → loaded .number ≡ 0 →
-    (ws : List ℕ) (rs : List Answer) → Answered (loaded .model) ws rs → WholeList (loaded .model) (calls (loaded .model) ws rs)
+    (ws : List ℕ) (rs : List Answer) → Answered (loaded .model) ws rs →
+    WholeList (loaded .model) (calls (loaded .model) ws rs)
 every-list bs loaded loads accepted ws rs all =
     whole-list bs loaded (calls (loaded .model) ws rs) loads accepted (answered-chain (loaded .model) ws rs all)

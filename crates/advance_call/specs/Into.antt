@@ -23,7 +23,7 @@ lent-model ts ss = trimmed (model-in ts ss)
 
 -- What the search for a step of at most w promises of the words of the new state and of how it ends: as the machine's
 -- search, after a round. The new words then spell the model of the machine's answer, the step made or the model handed
--- in, and the words behind the model's are kept. Where a step is committed the outputs are clean, and each held signal
+-- in, and the words after the model's are kept. Where a step is committed the outputs are clean, and each held signal
 -- is or has its words from the old state; where the call is refused the new state has the old one's words.
 pub record SearchedInto (table old : List ℕ) (w : ℕ) (new₀ new₁ : List ℕ) (r : Outcome) : Type 0 where
   pub ends : r ≡ searched (lent-model table old) w
@@ -50,7 +50,7 @@ outcome-into ts os w room = cond (spelled ts os) (outcome-with ts os w room) (ba
 
 -- What a call promises of the words of the new state and of how it ends, o being the outcome. A call that is barred
 -- makes no round and writes no word; one that commits a step made a round. After a round the new words spell the model
--- of the machine's answer: the step made, or where it is refused the model handed in. The words behind the model's are
+-- of the machine's answer: the step made, or where it is refused the model handed in. The words after the model's are
 -- kept. Of its free words: where a step is committed the outputs are clean, and each held signal is or has its words
 -- from the old state; where the call is refused after a round, the new state has the old one's words.
 pub record CalledInto (o : Outcome) (table old new₀ new₁ : List ℕ) (r : Outcome) : Type 0 where

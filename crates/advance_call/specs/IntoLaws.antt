@@ -34,7 +34,13 @@ use Rattle.advance_call.specs.Into.{unless-short, outcome-with, outcome-
 
 -- an answer without its model
 abbrev pub ended : Answer → Outcome
-ended r = record { number = r .number; step = r .step; rounds = r .rounds; revisions = r .revisions; ceiling = r .ceiling }
+ended r = record {
+  number = r .number;
+  step = r .step;
+  rounds = r .rounds;
+  revisions = r .revisions;
+  ceiling = r .ceiling;
+}
 
 -- an answer of the search whose model is the one that the new words mean
 pub searched-words :
@@ -55,7 +61,8 @@ searched-words ts os new₀ new₁ w r found asked holds form behind clean same 
     }
 
 -- how a call ends that something bars, one whose words for the new state are too few, and one that is searched
-pub with-barred : (ts os : List ℕ) (w room k : ℕ) → k ≡ barred (lent-model ts os) w → (k ≡ 0 → ⊥) → outcome-with ts os w room ≡ barred-outcome k
+pub with-barred : (ts os : List ℕ) (w room k : ℕ) → k ≡ barred (lent-model ts os) w → (k ≡ 0 → ⊥) →
+    outcome-with ts os w room ≡ barred-outcome k
 unfolding outcome-with unless-short
 with-barred ts os w room k e other =
     let m = lent-model ts os in
@@ -72,7 +79,8 @@ with-searched : (ts os : List ℕ) (w room : ℕ) → barred (lent-model ts os) 
     outcome-with ts os w room ≡ searched (lent-model ts os) w
 unfolding outcome-with unless-short
 with-searched ts os w room none enough =
-    rw (eq-eqb (barred (lent-model ts os) w) 0 none, le-leb (state-words (part-count ts)) room enough) (outcome-searched (lent-model ts os) w none)
+    rw (eq-eqb (barred (lent-model ts os) w) 0 none, le-leb (state-words (part-count ts)) room enough)
+    (outcome-searched (lent-model ts os) w none)
 
 -- a call that is barred writes nothing
 called-barred :
@@ -126,7 +134,8 @@ pub spelled-call :
 unfolding outcome-into
 spelled-call ts os new₀ new₁ w r spells called = rw spells called
 
-unsound-outcome : (ts os : List ℕ) (w room : ℕ) → (spelled ts os ≡ false) ⊎ (sound (lent-model ts os) ≡ false) → (spelled ts os ≡ true) ⊎ (spelled ts os ≡ false) →
+unsound-outcome : (ts os : List ℕ) (w room : ℕ) → (spelled ts os ≡ false) ⊎ (sound (lent-model ts os) ≡ false) →
+    (spelled ts os ≡ true) ⊎ (spelled ts os ≡ false) →
     outcome-into ts os w room ≡ barred-outcome 24
 unfolding outcome-into barred
 unsound-outcome ts os w room (inl none) known = rw none refl
@@ -143,7 +152,8 @@ unsound-call ts os new₀ w fails =
     (λ z. omega arith)
 
 -- the number that bars a call of a sound model, by the point that was read
-pub bars-lent : (ts os : List ℕ) (now : Point) (w k : ℕ) → sound (lent-model ts os) ≡ true → now ≡ stored-point os → k ≡ barred-by true (tick now) w →
+pub bars-lent : (ts os : List ℕ) (now : Point) (w k : ℕ) → sound (lent-model ts os) ≡ true → now ≡ stored-point os →
+    k ≡ barred-by true (tick now) w →
     k ≡ barred (lent-model ts os) w
 unfolding model-in
 bars-lent ts os now w k is-sound at e =
@@ -158,7 +168,8 @@ pub into-machine : (ts os : List ℕ) (w room : ℕ) → spelled ts os ≡ true 
     outcome-into ts os w room ≡ outcome (lent-model ts os) w
 unfolding outcome-into outcome-with unless-short
 into-machine ts os w room spells enough =
-    rw (spells, le-leb (state-words (part-count ts)) room enough, and-not-true (eqb (barred (lent-model ts os) w) 0)) refl
+    rw (spells, le-leb (state-words (part-count ts)) room enough, and-not-true (eqb (barred (lent-model ts os) w) 0))
+    refl
 
 -- request 6, "Each call keeps its answers, whatever outputs those records held before": two calls on the same words,
 -- with as many lent for the new state, end alike whatever those held, and where a round was made the new states mean

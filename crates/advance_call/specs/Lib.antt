@@ -1,5 +1,6 @@
--- The search turn by turn, what bars a call, calls on lent words and by value, what a caller has of a call on words that spell a model; and demand 3 of the calls themselves
--- (`EveryList`), on words too (`EveryLent`), also where a call is lent too few of them (`AnyRoom`).
+-- The search turn by turn, what bars a call, calls on lent words and by value, what a caller has of a call on words
+-- that spell a model; and demand 3 of the calls themselves (`EveryList`), on words too (`EveryLent`), also where a call
+-- is lent too few of them (`AnyRoom`).
 pub mod Searching
 pub mod Barring
 pub mod Into

@@ -1,5 +1,6 @@
--- What the search for a step promises, and the laws of its turns by what the code has at hand: the round, the number of a refusal, and whether a part
--- objects to the trial. The idea: `Left` says that the search from here comes to the outcome of the whole search. Assumes nothing.
+-- What the search for a step promises, and the laws of its turns by what the code has at hand: the round, the number of
+-- a refusal, and whether a part objects to the trial. The idea: `Left` says that the search from here comes to the
+-- outcome of the whole search. Assumes nothing.
 use Prim.Native.Nat.{ℕ, suc, _+_, _/_, _≤_, _<_}
 use native.Mathlib.Omega.{arith}
 use mathlib.Core.Path.{_≡_, refl, sym, ap, _∙_}
@@ -13,7 +14,8 @@ use Rattle.machine.specs.Time.{in-time, last-microstep, last-tick, led-to, tick
 use Rattle.machine.specs.Model.{trimmed, trimmed-answer}
 use Rattle.machine.specs.Step.{step-made}
 use Rattle.machine.specs.Sound.{sound}
-use Rattle.machine.specs.Advance.{Turn, Lower, Halve, Commit, Refuse, followed, search-from, searched, turn, tried, round, any-due, any-objects, answer-with}
+use Rattle.machine.specs.Advance.{Turn, Lower, Halve, Commit, Refuse, followed, search-from, searched, turn, tried}
+use Rattle.machine.specs.Advance.{round, any-due, any-objects, answer-with}
 use Rattle.laws.specs.Bools.{cond-true, cond-false}
 use Rattle.sound_laws.specs.SoundParts.{sound-time}
 use Rattle.advance_laws.specs.SearchFuel.{Falls, unrolled}
@@ -21,7 +23,8 @@ use Rattle.advance_laws.specs.Fair.{fair-falls}
 use Rattle.advance_laws.specs.SearchTurns.{turn-fair}
 use Rattle.advance_lists.specs.RoundsOwed.{round-owes}
 
--- what the search promises of its answer r to a call that nothing bars, for the model m and the wanted step w: the machine's answer, trimmed
+-- what the search promises of its answer r to a call that nothing bars, for the model m and the wanted step w: the
+-- machine's answer, trimmed
 pub record Searched (m : Model) (w : ℕ) (r : Answer) : Type 0 where
   pub machine : trimmed-answer r ≡ answer-with (trimmed m) (searched (trimmed m) w)
 
@@ -33,21 +36,27 @@ unfoldable pub refusal : Model → ℕ → ℕ
 refusal m h = number-by (eqb h 0) (any-due m) (eqb (m .point .n) last-microstep)
 
 -- within the time, the microstep is the last where a step of 0 leads past it
-last-by : (b : Bool) (p : Point) → eqb (p .n) last-microstep ≡ b → p .n ≤ last-microstep → not (leb (p .n + 1) last-microstep) ≡ b
-last-by true p e most = let end = eqb-true (p .n) last-microstep e in simp (lt-leb (p .n + 1) last-microstep (omega arith))
-last-by false p e most = let other = eqb-false (p .n) last-microstep e in simp (le-leb (p .n + 1) last-microstep (omega arith))
+last-by : (b : Bool) (p : Point) → eqb (p .n) last-microstep ≡ b → p .n ≤ last-microstep →
+    not (leb (p .n + 1) last-microstep) ≡ b
+last-by true p e most = let end = eqb-true (p .n) last-microstep e in
+    simp (lt-leb (p .n + 1) last-microstep (omega arith))
+last-by false p e most = let other = eqb-false (p .n) last-microstep e in
+    simp (le-leb (p .n + 1) last-microstep (omega arith))
 
 pub last-past : (m : Model) → sound m ≡ true → not (in-time (led-to (m .point) 0)) ≡ eqb (m .point .n) last-microstep
 unfolding in-time led-to
 last-past m is-sound =
     let time = sound-time m is-sound in
-    rw (le-leb (tick (m .point)) last-tick (time .0)) (last-by (eqb (m .point .n) last-microstep) (m .point) refl (time .1))
+    rw (le-leb (tick (m .point)) last-tick (time .0))
+    (last-by (eqb (m .point .n) last-microstep) (m .point) refl (time .1))
 
 -- the turn by the same tests, `other` where there is no refusal
 abbrev turn-by : Bool → Bool → Bool → Turn → Turn
-turn-by is-zero is-due is-last other = cond (is-zero && not is-due) (Refuse 22) (cond (is-zero && is-due && is-last) (Refuse 21) other)
+turn-by is-zero is-due is-last other =
+    cond (is-zero && not is-due) (Refuse 22) (cond (is-zero && is-due && is-last) (Refuse 21) other)
 
--- it is the refusal's where the number is not 0, and the other turn where it is; a step of 0 then stands before the last microstep
+-- it is the refusal's where the number is not 0, and the other turn where it is; a step of 0 then is before the last
+-- microstep
 refused-by : (z d l : Bool) (t : Turn) → (number-by z d l ≡ 0 → ⊥) → turn-by z d l t ≡ Refuse (number-by z d l)
 refused-by true true true t other = refl
 refused-by true true false t other = absurd (other refl)
@@ -82,7 +91,8 @@ module _ (m : Model) (is-sound : sound m ≡ true) where
   turned : (w c h n v : ℕ) (t : Turn) → Left m w c h n v → turn m h ≡ t →
       followed t (λ (c k n v : ℕ). search-from (turn m) (suc k) c k n v) c h n v ≡ searched m w
   turned w c h n v t left e =
-      ap (λ (s : Turn). followed s (λ (c k n v : ℕ). search-from (turn m) (suc k) c k n v) c h n v) (sym e) ∙ sym (unrolled falls c h n v) ∙ left
+      ap (λ (s : Turn). followed s (λ (c k n v : ℕ). search-from (turn m) (suc k) c k n v) c h n v) (sym e) ∙
+      sym (unrolled falls c h n v) ∙ left
 
   -- the turn by what the round came to
   turn-lower : (h : ℕ) → (round m h ≡ h → ⊥) → turn m h ≡ Lower (round m h)
@@ -97,13 +107,15 @@ module _ (m : Model) (is-sound : sound m ≡ true) where
   unfolding tried refusal
   turn-refused h same other =
       turn-tried h same ∙
-      refused-by (eqb h 0) (any-due m) (eqb (m .point .n) last-microstep) (cond (any-objects h (step-made m h)) Halve Commit) other
+      refused-by (eqb h 0) (any-due m) (eqb (m .point .n) last-microstep)
+      (cond (any-objects h (step-made m h)) Halve Commit) other
 
   turn-made : (h : ℕ) → round m h ≡ h → refusal m h ≡ 0 → turn m h ≡ cond (any-objects h (step-made m h)) Halve Commit
   unfolding tried refusal
   turn-made h same none =
       turn-tried h same ∙
-      made-by (eqb h 0) (any-due m) (eqb (m .point .n) last-microstep) (cond (any-objects h (step-made m h)) Halve Commit) none
+      made-by (eqb h 0) (any-due m) (eqb (m .point .n) last-microstep)
+      (cond (any-objects h (step-made m h)) Halve Commit) none
 
   turn-halve : (h : ℕ) → round m h ≡ h → refusal m h ≡ 0 → any-objects h (step-made m h) ≡ true → turn m h ≡ Halve
   turn-halve h same none some = turn-made h same none ∙ cond-true (any-objects h (step-made m h)) Halve Commit some
@@ -116,7 +128,8 @@ module _ (m : Model) (is-sound : sound m ≡ true) where
   lower-below h other = falls .lower h (round m h) (turn-lower h other)
 
   -- an objection: it goes on at half of h, a ceiling too
-  pub halved : (w c h n v : ℕ) → Left m w c h n v → round m h ≡ h → refusal m h ≡ 0 → any-objects h (step-made m h) ≡ true →
+  pub halved : (w c h n v : ℕ) → Left m w c h n v → round m h ≡ h → refusal m h ≡ 0 →
+      any-objects h (step-made m h) ≡ true →
       Left m w (h / 2) (h / 2) (n + 1) (v + 1)
   halved w c h n v left same none some = turned w c h n v Halve left (turn-halve h same none some)
 
@@ -129,10 +142,12 @@ module _ (m : Model) (is-sound : sound m ≡ true) where
   refused w c h n v k left same e other =
       sym (turned w c h n v (Refuse k) left (turn-refused h same (λ z. other (e ∙ z)) ∙ ap Refuse (sym e)))
 
-  committed : (w c h n v : ℕ) → Left m w c h n v → round m h ≡ h → refusal m h ≡ 0 → any-objects h (step-made m h) ≡ false →
+  committed : (w c h n v : ℕ) → Left m w c h n v → round m h ≡ h → refusal m h ≡ 0 →
+      any-objects h (step-made m h) ≡ false →
       searched m w ≡ record { number = 0; step = h; rounds = n + 1; revisions = v; ceiling = c }
   committed w c h n v left same none all =
-      sym (turned w c h n v Commit left (turn-made h same none ∙ cond-false (any-objects h (step-made m h)) Halve Commit all))
+      sym (turned w c h n v Commit left (turn-made h same none ∙
+      cond-false (any-objects h (step-made m h)) Halve Commit all))
 
 -- an answer by its fields
 abbrev pub answer-of : Model → (k h n v c : ℕ) → Answer
@@ -146,13 +161,15 @@ answer-refused m k n v c other =
     ap (λ (z : Model). answer-of z k 0 n v c) (cond-false (eqb k 0) (step-made m 0) m (ne-eqb k 0 other))
 
 answer-committed : (m : Model) (h n v c : ℕ) →
-    answer-with m (record { number = 0; step = h; rounds = n; revisions = v; ceiling = c }) ≡ answer-of (step-made m h) 0 h n v c
+    answer-with m (record { number = 0; step = h; rounds = n; revisions = v; ceiling = c }) ≡
+    answer-of (step-made m h) 0 h n v c
 unfolding answer-with
 answer-committed m h n v c = refl
 
 module _ (m : Model) (is-sound : sound (trimmed m) ≡ true) where
   -- what a refusal answers, and what a step committed
-  pub refused-answer : (w c h n v k : ℕ) → Left (trimmed m) w c h n v → round (trimmed m) h ≡ h → k ≡ refusal (trimmed m) h → (k ≡ 0 → ⊥) →
+  pub refused-answer : (w c h n v k : ℕ) → Left (trimmed m) w c h n v → round (trimmed m) h ≡ h →
+      k ≡ refusal (trimmed m) h → (k ≡ 0 → ⊥) →
       Searched m w (answer-of m k 0 (n + 1) v c)
   unfolding trimmed-answer
   refused-answer w c h n v k left same e other =
@@ -162,7 +179,8 @@ module _ (m : Model) (is-sound : sound (trimmed m) ≡ true) where
             answer-refused (trimmed m) k (n + 1) v c other);
       }
 
-  pub committed-answer : (trial : Model) (w c h n v : ℕ) → Left (trimmed m) w c h n v → round (trimmed m) h ≡ h → refusal (trimmed m) h ≡ 0 →
+  pub committed-answer : (trial : Model) (w c h n v : ℕ) → Left (trimmed m) w c h n v → round (trimmed m) h ≡ h →
+      refusal (trimmed m) h ≡ 0 →
       any-objects h (trimmed trial) ≡ false → trimmed trial ≡ step-made (trimmed m) h →
       Searched m w (answer-of trial 0 h (n + 1) v c)
   unfolding trimmed-answer
@@ -170,15 +188,17 @@ module _ (m : Model) (is-sound : sound (trimmed m) ≡ true) where
       record {
         machine =
             ap (λ (z : Model). answer-of z 0 h (n + 1) v c) is ∙
-            sym (ap (answer-with (trimmed m)) (committed (trimmed m) is-sound w c h n v left same none (ap (any-objects h) (sym is) ∙ all)) ∙
+            sym (ap (answer-with (trimmed m))
+            (committed (trimmed m) is-sound w c h n v left same none (ap (any-objects h) (sym is) ∙ all)) ∙
             answer-committed (trimmed m) h (n + 1) v c);
       }
 
-  -- a step of 0 that is not refused stands before the last microstep
+  -- a step of 0 that is not refused is before the last microstep
   pub may-step : (h : ℕ) → refusal (trimmed m) h ≡ 0 → h ≡ 0 → m .point .n < last-microstep
   unfolding refusal trimmed
   may-step h none zero-step =
-      let before = before-last (any-due (trimmed m)) (eqb (m .point .n) last-microstep) (rw (eq-eqb h 0 zero-step) at none) in
+      let before = before-last (any-due (trimmed m)) (eqb (m .point .n) last-microstep)
+      (rw (eq-eqb h 0 zero-step) at none) in
       let other = eqb-false (m .point .n) last-microstep before in
       let most : m .point .n ≤ last-microstep = sound-time (trimmed m) is-sound .1 in
       omega arith

@@ -27,7 +27,7 @@ fn may_be_wanted(w: u64) -> bool
     w <= 1_000_000_000
 }
 
-// The number that bars a call with the wanted step `w`, of a model that is sound or not and stands at the
+// The number that bars a call with the wanted step `w`, of a model that is sound or not and is at the
 // point `now`. A step of 0 is out of its range, wherever it leads.
 pub(crate) fn barred_number(sound: bool, now: Point, w: u64) -> u64
     ensures { λ r. ⌜ r ≡ barred-by sound (tick now) w ⌝ }

@@ -33,10 +33,10 @@ mod search;
 // search. A call that is refused answers the model handed in; one that is barred, with the number and counts of 0.
 //
 // The contract is the machine's answer. It is the very promise that a chain of calls asks of each of its
-// answers, so that demand 3 holds of every list of these calls behind a load: `specs/EveryList.antt`.
+// answers, so that demand 3 holds of every list of these calls after a load: `specs/EveryList.antt`.
 //
 // The call is `advance_into` on words of its own: the model is put into them, and where a step is committed it takes
-// the new state back. So the rounds and trials of a call copy no model; what it costs beside them is the model handed
+// the new state back. So the rounds and trials of a call copy no model; what it costs besides them is the model handed
 // in and handed over, which is copied since it goes by value, and put into words and read from them once.
 pub fn advance(m: Model, w: u64) -> Answer
     ensures { λ r. ⌜ Advanced m w r ⌝ }

@@ -1,5 +1,5 @@
--- What one turn owes for the search to find the longest step, in few rounds: over any `turn`, the steps that are `ok`, and a `potential` of at most
--- `most` that every lower h uses up. Assumes nothing.
+-- What one turn owes for the search to find the longest step, in few rounds: over any `turn`, the steps that are `ok`,
+-- and a `potential` of at most `most` that every lower h uses up. Assumes nothing.
 use Prim.Native.Nat.{ℕ, _≤_, _<_}
 use mathlib.Core.Path.{_≡_}
 use mathlib.Core.Logic.{_⊎_}
@@ -23,5 +23,6 @@ pub record Fair (turn : ℕ → Turn) (ok : ℕ → Type 0) (potential : ℕ →
   pub mono : (j h : ℕ) → j ≤ h → potential j ≤ potential h
 
 -- such turns fall
-pub fair-falls : {turn : ℕ → Turn} {ok : ℕ → Type 0} {potential : ℕ → ℕ} {most : ℕ} → Fair turn ok potential most → Falls turn
+pub fair-falls : {turn : ℕ → Turn} {ok : ℕ → Type 0} {potential : ℕ → ℕ} {most : ℕ} → Fair turn ok potential most →
+    Falls turn
 fair-falls fair = record { lower = fair .lower; halve = fair .halve }

@@ -1,6 +1,6 @@
--- What the search finds where each turn is fair: the longest step within the last ceiling that is ok, in few rounds and revisions, or a refusal.
--- The idea: an induction on fuel that carries what holds of the search so far, h being below 2 ^ suc b at the ceiling that leaves b revisions.
--- Assumes nothing.
+-- What the search finds where each turn is fair: the longest step within the last ceiling that is ok, in few rounds and
+-- revisions, or a refusal. The idea: an induction on fuel that carries what holds of the search so far, h being below 2
+-- ^ suc b at the ceiling that leaves b revisions. Assumes nothing.
 use Prim.Native.Nat.{ℕ, zero, suc, _+_, _/_, _^_, _≤_, _<_}
 use native.Mathlib.Omega.{arith}
 use mathlib.Core.Path.{_≡_, refl}
@@ -41,9 +41,11 @@ halved : (h b : ℕ) → 2 ≤ h → h < 2 ^ suc b → (b′ : ℕ) × (b ≡ su
 halved h zero two small = absurd (omega arith)
 halved h (suc b) two small = (b, refl, omega arith)
 
-module _ {turn : ℕ → Turn} {ok : ℕ → Type 0} {potential : ℕ → ℕ} {most : ℕ} (fair : Fair turn ok potential most) (w : ℕ) where
+module _ {turn : ℕ → Turn} {ok : ℕ → Type 0} {potential : ℕ → ℕ} {most : ℕ} (fair : Fair turn ok potential most)
+    (w : ℕ) where
   -- what holds so far holds still after a lower h, and after a halving
-  lowered : (c h l n v b : ℕ) → SoFar ok potential most w c h n v b → turn h ≡ Lower l → SoFar ok potential most w c l (n + 1) v b
+  lowered : (c h l n v b : ℕ) → SoFar ok potential most w c h n v b → turn h ≡ Lower l →
+      SoFar ok potential most w c l (n + 1) v b
   lowered c h l n v b so-far e =
       let fewer : potential l < potential h = fair .drops h l e in
       let less : l < h = fair .lower h l e in
@@ -73,7 +75,8 @@ module _ {turn : ℕ → Turn} {ok : ℕ → Type 0} {potential : ℕ → ℕ} {
       )
 
   -- what follows a turn is found, if what goes on from a search so far is
-  followed-found : (t : Turn) (on : ℕ → ℕ → ℕ → ℕ → Outcome) (c h n v b : ℕ) → turn h ≡ t → SoFar ok potential most w c h n v b →
+  followed-found : (t : Turn) (on : ℕ → ℕ → ℕ → ℕ → Outcome) (c h n v b : ℕ) → turn h ≡ t →
+      SoFar ok potential most w c h n v b →
       ((c′ k n′ v′ b′ : ℕ) → k < h → SoFar ok potential most w c′ k n′ v′ b′ → Found turn ok most w (on c′ k n′ v′)) →
       Found turn ok most w (followed t on c h n v)
   followed-found (Lower l) on c h n v b e so-far later =
@@ -112,7 +115,8 @@ module _ {turn : ℕ → Turn} {ok : ℕ → Type 0} {potential : ℕ → ℕ} {
       }
 
   -- a search that goes on from a search so far finds what is asked
-  found-from : (f c h n v b : ℕ) → h < f → SoFar ok potential most w c h n v b → Found turn ok most w (search-from turn f c h n v)
+  found-from : (f c h n v b : ℕ) → h < f → SoFar ok potential most w c h n v b →
+      Found turn ok most w (search-from turn f c h n v)
   unfolding search-from
   found-from zero c h n v b p so-far = absurd (omega arith)
   found-from (suc f) c h n v b p so-far =

@@ -1,5 +1,6 @@
--- What a step made leaves as it was: the number of parts, and of each part its component and ratio. The idea: both are read from the cores of the
--- parts, and a step keeps of these what moving keeps (soundness, `step-kept`). Assumes nothing.
+-- What a step made leaves as it was: the number of parts, and of each part its component and ratio. The idea: both are
+-- read from the cores of the parts, and a step keeps of these what moving keeps (soundness, `step-kept`). Assumes
+-- nothing.
 use Prim.Native.Nat.{ℕ}
 use mathlib.Core.Path.{_≡_, refl, ap}
 use mathlib.Core.List.{map}

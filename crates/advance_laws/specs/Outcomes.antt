@@ -1,5 +1,6 @@
--- What a call of advance comes to: barred, its number and counts of 0; not barred, what the search finds. Either way the outcome has what demand 3 says
--- of each call. The idea: the search from w is fair, and a barred call has no ceiling above 0. Assumes nothing.
+-- What a call of advance comes to: barred, its number and counts of 0; not barred, what the search finds. Either way
+-- the outcome has what demand 3 says of each call. The idea: the search from w is fair, and a barred call has no
+-- ceiling above 0. Assumes nothing.
 use Prim.Native.Nat.{ℕ, _+_, _*_, _≤_}
 use native.Mathlib.Omega.{arith}
 use native.Mathlib.Decide.{ℕ-discrete}
@@ -63,7 +64,8 @@ pub record OutcomeFacts (m : Model) (o : Outcome) : Type 0 where
   pub refused : (o .number ≡ 0 → ⊥) → (j : ℕ) → j ≤ o .ceiling → AllAccept m j → j ≡ 0
 
 -- it holds of what the search finds ..
-found-facts : (m : Model) (w : ℕ) (o : Outcome) → Found (turn m) (AllAccept m) (9 * length (m .parts)) w o → OutcomeFacts m o
+found-facts : (m : Model) (w : ℕ) (o : Outcome) → Found (turn m) (AllAccept m) (9 * length (m .parts)) w o →
+    OutcomeFacts m o
 found-facts m w o has =
     record {
       rounds = has .rounds;
@@ -93,7 +95,8 @@ unfolding searched
 outcome-found {m} owes w e = rw (outcome-searched m w e) (found (turn-fair owes) w (not-barred m w e .at-most))
 
 -- the outcome of every call has what demand 3 says, if a round owes what it should wherever a call is not barred
-pub outcome-facts : (m : Model) (potential : ℕ → ℕ) (w : ℕ) → (barred m w ≡ 0 → RoundOwes m potential) → OutcomeFacts m (outcome m w)
+pub outcome-facts : (m : Model) (potential : ℕ → ℕ) (w : ℕ) → (barred m w ≡ 0 → RoundOwes m potential) →
+    OutcomeFacts m (outcome m w)
 outcome-facts m potential w owes = facts (ℕ-discrete (barred m w) 0)
   where
     facts : Dec (barred m w ≡ 0) → OutcomeFacts m (outcome m w)

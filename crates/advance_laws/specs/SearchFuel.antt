@@ -1,6 +1,6 @@
--- The search for a step spends no fuel that matters: h falls with each turn that goes on, so any fuel above h gives the same outcome, and the
--- search from h is one turn followed by the search from a smaller h. The idea: what follows a turn calls the rest of the search below h alone.
--- Assumes nothing.
+-- The search for a step spends no fuel that matters: h falls with each turn that goes on, so any fuel above h gives the
+-- same outcome, and the search from h is one turn followed by the search from a smaller h. The idea: what follows a
+-- turn calls the rest of the search below h alone. Assumes nothing.
 use Prim.Native.Nat.{ℕ, zero, suc, _+_, _/_, _≤_, _<_}
 use native.Mathlib.Omega.{arith}
 use mathlib.Core.Path.{_≡_, refl}
@@ -39,5 +39,6 @@ module _ {turn : ℕ → Turn} (falls : Falls turn) where
       search-from turn (suc h) c h n v ≡ followed (turn h) (λ (c k n v : ℕ). search-from turn (suc k) c k n v) c h n v
   unfolding search-from
   unrolled c h n v =
-      followed-same (turn h) (search-from turn h) (λ (c k n v : ℕ). search-from turn (suc k) c k n v) c h n v (falls .lower h) (falls .halve h)
+      followed-same (turn h) (search-from turn h) (λ (c k n v : ℕ). search-from turn (suc k) c k n v) c h n v
+      (falls .lower h) (falls .halve h)
       (λ c′ k n′ v′ below. same-fuel h (suc k) c′ k n′ v′ below (omega arith))

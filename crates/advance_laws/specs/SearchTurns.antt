@@ -1,5 +1,5 @@
--- The machine's own turns are fair, given what one round owes. The idea: `Told` says what each turn of the machine at h shows of the round, of the
--- parts due and of the objections; what a fair turn owes is read from it. Assumes nothing.
+-- The machine's own turns are fair, given what one round owes. The idea: `Told` says what each turn of the machine at h
+-- shows of the round, of the parts due and of the objections; what a fair turn owes is read from it. Assumes nothing.
 use Prim.Native.Nat.{ℕ, _*_, _≤_, _<_}
 use native.Mathlib.Omega.{arith}
 use mathlib.Core.Path.{_≡_, refl, sym, subst}
@@ -15,14 +15,16 @@ use Rattle.machine.specs.Kind.{period, marked}
 use Rattle.machine.specs.Model.{part-at, blank-part}
 use Rattle.machine.specs.Step.{step-made}
 use Rattle.machine.specs.Accept.{Class, waiting, delaying, detecting, driving, free, class-of}
-use Rattle.machine.specs.Advance.{Turn, Lower, Halve, Commit, Refuse, round, any-due, objects-as, objects, any-objects, tried, turn}
+use Rattle.machine.specs.Advance.{Turn, Lower, Halve, Commit, Refuse, round, any-due, objects-as, objects, any-objects}
+use Rattle.machine.specs.Advance.{tried, turn}
 use Rattle.machine.specs.WholeList.{AllAccept}
 use Rattle.laws.specs.Bools.{and-left, and-right, cond-cases}
 use Rattle.laws.specs.ListLaws.{any-one}
 use Rattle.advance_laws.specs.Fair.{Fair}
 use Rattle.advance_laws.specs.Frame.{made-length, made-component, made-ratio}
 
--- what each turn at h shows: whether the round changed h, whether a part objects to the trial, where h may be 0, and the numbers of refusals
+-- what each turn at h shows: whether the round changed h, whether a part objects to the trial, where h may be 0, and
+-- the numbers of refusals
 abbrev pub Told : Model → ℕ → Turn → Type 0
 Told m h (Lower l) = (round m h ≡ l) × (round m h ≡ h → ⊥)
 Told m h Halve = (round m h ≡ h) × (any-objects h (step-made m h) ≡ true)
@@ -32,7 +34,8 @@ Told m h Commit =
 Told m h (Refuse k) = (h ≡ 0) × ((k ≡ 21) ⊎ (k ≡ 22))
 
 -- a step of 0 that is not refused has a part due, before the last microstep
-zero-told : (is-zero is-due is-last : Bool) → is-zero && not is-due ≡ false → is-zero && is-due && is-last ≡ false → is-zero ≡ true →
+zero-told : (is-zero is-due is-last : Bool) → is-zero && not is-due ≡ false → is-zero && is-due && is-last ≡ false →
+    is-zero ≡ true →
     (is-due ≡ true) × (is-last ≡ false)
 zero-told true true is-last not-idle not-last e = (refl, not-last)
 zero-told true false is-last not-idle not-last e = absurd (false≢true (sym not-idle))
@@ -76,8 +79,9 @@ objecting detecting h p e = (refl, ltb-true (period p) h (and-right (marked (p .
 objecting driving h p e = absurd (false≢true e)
 objecting free h p e = absurd (false≢true e)
 
--- what one round owes: it loses no step that all parts accept, changes nothing only where all accept h, and otherwise uses up some of a potential, at most
--- nine for each part and no smaller at a larger h. And the P of every detector is at least 1
+-- what one round owes: it loses no step that all parts accept, changes nothing only where all accept h, and otherwise
+-- uses up some of a potential, at most nine for each part and no smaller at a larger h. And the P of every detector is
+-- at least 1
 pub record RoundOwes (m : Model) (potential : ℕ → ℕ) : Type 0 where
   pub round-within : (h : ℕ) → round m h ≤ h
   pub round-accepted : (h : ℕ) → round m h ≡ h → AllAccept m h
@@ -85,7 +89,8 @@ pub record RoundOwes (m : Model) (potential : ℕ → ℕ) : Type 0 where
   pub round-drops : (h : ℕ) → (round m h ≡ h → ⊥) → potential (round m h) < potential h
   pub potential-bound : (h : ℕ) → potential h ≤ 9 * length (m .parts)
   pub potential-mono : (j h : ℕ) → j ≤ h → potential j ≤ potential h
-  pub positive : (i : ℕ) → i < length (m .parts) → class-of (part-at (m .parts) i) ≡ detecting → 0 < period (part-at (m .parts) i)
+  pub positive : (i : ℕ) → i < length (m .parts) → class-of (part-at (m .parts) i) ≡ detecting →
+      0 < period (part-at (m .parts) i)
 
 module _ {m : Model} {potential : ℕ → ℕ} (owes : RoundOwes m potential) where
   -- a part objects to a step of at least 2 alone
@@ -94,7 +99,8 @@ module _ {m : Model} {potential : ℕ → ℕ} (owes : RoundOwes m potential) wh
   objection-at-two h e =
       let (i, p, objects-i) = any-one (objects h) (step-made m h .parts) blank-part e in
       let here : i < length (m .parts) = rw made-length at p in
-      let (detects, below) = objecting (class-of (part-at (step-made m h .parts) i)) h (part-at (step-made m h .parts) i) objects-i in
+      let (detects, below) = objecting (class-of (part-at (step-made m h .parts) i)) h
+      (part-at (step-made m h .parts) i) objects-i in
       let above-zero = owes .positive i here (rw (made-component m h i) at detects) in
       let below-h : period (part-at (m .parts) i) < h = rw (made-component m h i, made-ratio m h i) at below in
       omega arith
@@ -104,7 +110,8 @@ module _ {m : Model} {potential : ℕ → ℕ} (owes : RoundOwes m potential) wh
   turn-fair =
       record {
         lower = λ h l e. let (low, other) = turn-told m h (Lower l) e in omega (arith, owes .round-within h);
-        keeps = λ h l e j p accepted. let (low, other) = turn-told m h (Lower l) e in rw (← low) (owes .round-most h j p accepted);
+        keeps = λ h l e j p accepted. let (low, other) = turn-told m h (Lower l) e in
+            rw (← low) (owes .round-most h j p accepted);
         drops = λ h l e. let (low, other) = turn-told m h (Lower l) e in rw (← low) (owes .round-drops h other);
         halve = λ h e. objection-at-two h (turn-told m h Halve e .1);
         commit = λ h e. owes .round-accepted h (turn-told m h Commit e .0);

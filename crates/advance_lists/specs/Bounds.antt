@@ -1,5 +1,6 @@
--- What advancing answers to a sound model stays in document 01's ranges: the number, step and counts, by what bars the call or by what the search
--- finds; the model's point and outputs, by its being sound again, since a committed step stays within the time. Assumes nothing.
+-- What advancing answers to a sound model stays in document 01's ranges: the number, step and counts, by what bars the
+-- call or by what the search finds; the model's point and outputs, by its being sound again, since a committed step
+-- stays within the time. Assumes nothing.
 use Prim.Native.Nat.{ℕ, _+_, _≤_, _<_}
 use native.Mathlib.Omega.{arith}
 use native.Mathlib.Decide.{ℕ-discrete}
@@ -75,7 +76,8 @@ outcome-bounds m w = bounds (ℕ-discrete (barred m w) 0)
           ticks = λ z. omega (arith, found .within, found .ceiling);
           microstep =
               λ z zero-step.
-              below (sound-time m (unbarred .is-sound) .1) (turn-told m (outcome m w .step) Commit (found .ended z) .2 zero-step .1);
+              below (sound-time m (unbarred .is-sound) .1)
+              (turn-told m (outcome m w .step) Commit (found .ended z) .2 zero-step .1);
         }
     bounds (no other) =
         rw (outcome-barred m w other)
@@ -98,7 +100,8 @@ answer-sound m w s =
     (λ e. s)
 
 -- so is that of a call that keeps what `advance` promises
-pub call-sound : (m : Model) (w : ℕ) (r : Answer) → Advanced m w r → sound (trimmed m) ≡ true → sound (trimmed (r .model)) ≡ true
+pub call-sound : (m : Model) (w : ℕ) (r : Answer) → Advanced m w r → sound (trimmed m) ≡ true →
+    sound (trimmed (r .model)) ≡ true
 unfolding trimmed-answer
 call-sound m w r a s = rw (ap (λ (z : Answer). z .model) (a .machine)) (answer-sound (trimmed m) w s)
 

@@ -1,6 +1,7 @@
--- Document 01's third demand of every chain of calls from a sound model. A chain is retraced, call by call: a committed call makes its step, a
--- refused one nothing, so that the list's committed steps, made alone, lead to its last model and through its points. The claim's parts are then
--- laws of steps made alone, and the local counts are those of a last model that is sound again. Assumes nothing.
+-- Document 01's third demand of every chain of calls from a sound model. A chain is retraced, call by call: a committed
+-- call makes its step, a refused one nothing, so that the list's committed steps, made alone, lead to its last model
+-- and through its points. The claim's parts are then laws of steps made alone, and the local counts are those of a last
+-- model that is sound again. Assumes nothing.
 use Prim.Native.Nat.{ℕ}
 use mathlib.Core.Path.{_≡_, refl, ap, sym, subst, _∙_}
 use mathlib.Core.Bool.{true, false}
@@ -27,12 +28,14 @@ use Rattle.advance_lists.specs.RoundsOwed.{of-call}
 use Rattle.advance_lists.specs.Bounds.{call-sound}
 
 -- a committed call makes its step
-committed-makes : (m : Model) (w : ℕ) (r : Answer) → Advanced m w r → r .number ≡ 0 → trimmed (r .model) ≡ step-made (trimmed m) (r .step)
+committed-makes : (m : Model) (w : ℕ) (r : Answer) → Advanced m w r → r .number ≡ 0 →
+    trimmed (r .model) ≡ step-made (trimmed m) (r .step)
 unfolding trimmed-answer advance answer-with
 committed-makes m w r a e =
     let number : r .number ≡ outcome (trimmed m) w .number = ap (λ (z : Answer). z .number) (a .machine) in
     let step : r .step ≡ outcome (trimmed m) w .step = ap (λ (z : Answer). z .step) (a .machine) in
-    let zero-number : eqb (outcome (trimmed m) w .number) 0 ≡ true = eq-eqb (outcome (trimmed m) w .number) 0 (sym number ∙ e) in
+    let zero-number : eqb (outcome (trimmed m) w .number) 0 ≡ true =
+    eq-eqb (outcome (trimmed m) w .number) 0 (sym number ∙ e) in
     rw zero-number at (ap (λ (z : Answer). z .model) (a .machine)) ∙ ap (step-made (trimmed m)) (sym step)
 
 -- and leads to its point
@@ -63,7 +66,11 @@ one-more c cs a rest (inl e) =
       model = rw e (rest .model ∙ ap (λ (z : Model). steps-made z (committed cs)) makes);
       points = rw e (ap (λ (ps : List Point). led-to (c .given .point) (c .answer .step) ∷ ps)
           (rest .points ∙ ap (λ (p : Point). points-after p (committed cs)) leads));
-      accepted = rw e (this .accepted number, subst (λ (z : Model). AllAccepted z (committed cs)) makes (rest .accepted));
+      accepted = rw e (
+        this .accepted number,
+        subst (λ (z : Model). AllAccepted z (committed cs)) makes
+            (rest .accepted),
+      );
       calls = (this, rest .calls);
     }
 one-more c cs a rest (inr e) =
@@ -84,7 +91,8 @@ retraced m (c ∷ cs) ch =
     (one-more c cs (ch .1) (retraced (c .answer .model) cs (ch .2)) (either (eqb (c .answer .number) 0)))
 
 -- a chain from a sound model ends with one
-pub chain-sound : (m : Model) (cs : List Call) → sound (trimmed m) ≡ true → Chain m cs → sound (trimmed (last-model m cs)) ≡ true
+pub chain-sound : (m : Model) (cs : List Call) → sound (trimmed m) ≡ true → Chain m cs →
+    sound (trimmed (last-model m cs)) ≡ true
 unfolding last-model
 chain-sound m [] s ch = s
 chain-sound m (c ∷ cs) s ch =

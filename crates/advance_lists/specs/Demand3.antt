@@ -1,6 +1,7 @@
--- Document 01's third demand, of every stream that loads and every chain of calls from the model that it loads to, whatever is in that model's
--- unused places: the model is the fresh one of a table that fits, so it is sound, and it stands at the start point. That the calls of `advance` form such
--- chains is in `master`'s specs/EveryList.antt, above the crate that has the call. Assumes nothing.
+-- Document 01's third demand, of every stream that loads and every chain of calls from the model that it loads to,
+-- whatever is in that model's unused places: the model is the fresh one of a table that fits, so it is sound, and it is
+-- at the start point. That the calls of `advance` form such chains is in `master`'s specs/EveryList.antt, above the
+-- crate that has the call. Assumes nothing.
 use Prim.Native.Nat.{ℕ}
 use native.Mathlib.Omega.{arith}
 use mathlib.Core.Path.{_≡_, ap, sym, subst, _∙_}
@@ -39,7 +40,8 @@ just-loaded bs r loads accepted =
 
 -- document 01's third demand
 pub whole-list :
-    (bs : List ℕ) (r : Loaded) (cs : List Call) → trimmed-loaded r ≡ load bs → r .number ≡ 0 → Chain (r .model) cs → WholeList (r .model) cs
+    (bs : List ℕ) (r : Loaded) (cs : List Call) → trimmed-loaded r ≡ load bs → r .number ≡ 0 → Chain (r .model) cs →
+    WholeList (r .model) cs
 whole-list bs r cs loads accepted = whole-list-from (r .model) cs (just-loaded bs r loads accepted .is-sound)
 
 -- "tick = their sum"

@@ -1,6 +1,7 @@
--- The points that a list of steps leads to, and a pulse's points among them. Nothing here knows a model: of a pulse with
--- period P it is enough that every step waits for the multiples of P. Then none passes over (k × P, 0), since none leads past the next multiple of P;
--- and there the pulse is due, so that the next step is 0 and leads to (k × P, 1). Assumes nothing.
+-- The points that a list of steps leads to, and a pulse's points among them. Nothing here knows a model: of a pulse
+-- with period P it is enough that every step waits for the multiples of P. Then none passes over (k × P, 0), since none
+-- leads past the next multiple of P; and there the pulse is due, so that the next step is 0 and leads to (k × P, 1).
+-- Assumes nothing.
 use Prim.Native.Nat.{ℕ, zero, suc, _+_, _*_, _/_, _%_, _≤_, _<_}
 use native.Mathlib.Omega.{arith}
 use native.Mathlib.Nat.{mul-zero, mul-mod-left, div-lt-iff-lt-mul, mul-le-mul-right}
@@ -40,7 +41,8 @@ unfolding point-after sum
 after-tick p [] = omega arith
 after-tick p (h ∷ hs) = let there = after-tick (led-to p h) hs in omega (arith, led-tick p h)
 
--- a step of h from the point p waits for the multiples of P: it is 0, or p is not at one, and h leads to the next one or less far
+-- a step of h from the point p waits for the multiples of P: it is 0, or p is not at one, and h leads to the next one
+-- or less far
 abbrev pub WaitsAt : ℕ → Point → ℕ → Type 0
 WaitsAt P p h = (h ≡ 0) ⊎ ((at-multiple P p ≡ false) × (tick p + h ≤ next-multiple P (tick p)))
 
@@ -75,7 +77,8 @@ up-to P k p h (inr w) before = near (either (ltb (tick p + h) (k * P)))
 -- a pulse is due at (k × P, 0)
 due-there : (P k : ℕ) → 0 < k * P → at-multiple P (point (k * P) 0) ≡ true
 unfolding at-multiple positive-multiple
-due-there P k up = and-intro (ltb 0 (k * P)) (eqb (k * P % P) 0) (lt-ltb 0 (k * P) up) (eq-eqb (k * P % P) 0 (mul-mod-left k P))
+due-there P k up = and-intro (ltb 0 (k * P)) (eqb (k * P % P) 0) (lt-ltb 0 (k * P) up)
+    (eq-eqb (k * P % P) 0 (mul-mod-left k P))
 
 -- from (k × P, 0) a step that waits leads to (k × P, 1)
 then-one : (P k h : ℕ) → 0 < k * P → WaitsAt P (point (k * P) 0) h → led-to (point (k * P) 0) h ≡ point (k * P) 1
@@ -84,7 +87,8 @@ then-one P k h up (inl e) = rw e
 then-one P k h up (inr w) = absurd (true≢false (sym (due-there P k up) ∙ w .0))
 
 -- steps that wait, from before k × P to k × P or further, lead through (k × P, 0)
-pub reached-point : (P k : ℕ) (p : Point) (hs : List ℕ) → Waits P p hs → tick p < k * P → k * P ≤ tick (point-after p hs) →
+pub reached-point : (P k : ℕ) (p : Point) (hs : List ℕ) → Waits P p hs → tick p < k * P →
+    k * P ≤ tick (point-after p hs) →
     List·Memᴰ (point (k * P) 0) (points-after p hs)
 unfolding point-after points-after
 reached-point P k p [] w before past = absurd (omega arith)
@@ -106,11 +110,14 @@ is-earlier Later = false
 -- a point that is earlier than another is so by its tick, or at the same tick by its microstep
 earlier-by : (q p : Point) → compared q p ≡ Earlier → (tick q < tick p) ⊎ ((tick q ≡ tick p) × (q .n < p .n))
 unfolding compared
-earlier-by q p e = by-tick (either (ltb (tick q) (tick p))) (either (ltb (tick p) (tick q))) (either (ltb (q .n) (p .n))) (either (ltb (p .n) (q .n)))
+earlier-by q p e = by-tick (either (ltb (tick q) (tick p))) (either (ltb (tick p) (tick q)))
+    (either (ltb (q .n) (p .n))) (either (ltb (p .n) (q .n)))
   where
     by-tick :
-        (ltb (tick q) (tick p) ≡ true) ⊎ (ltb (tick q) (tick p) ≡ false) → (ltb (tick p) (tick q) ≡ true) ⊎ (ltb (tick p) (tick q) ≡ false) →
-        (ltb (q .n) (p .n) ≡ true) ⊎ (ltb (q .n) (p .n) ≡ false) → (ltb (p .n) (q .n) ≡ true) ⊎ (ltb (p .n) (q .n) ≡ false) →
+        (ltb (tick q) (tick p) ≡ true) ⊎ (ltb (tick q) (tick p) ≡ false) → (ltb (tick p) (tick q) ≡ true) ⊎
+        (ltb (tick p) (tick q) ≡ false) →
+        (ltb (q .n) (p .n) ≡ true) ⊎ (ltb (q .n) (p .n) ≡ false) → (ltb (p .n) (q .n) ≡ true) ⊎
+        (ltb (p .n) (q .n) ≡ false) →
         (tick q < tick p) ⊎ ((tick q ≡ tick p) × (q .n < p .n))
     by-tick (inl a) b c d = inl (ltb-true (tick q) (tick p) a)
     by-tick (inr a) (inl b) c d = absurd (false≢true (ap is-earlier (rw (a, b) at e)))
@@ -122,7 +129,8 @@ earlier-by q p e = by-tick (either (ltb (tick q) (tick p))) (either (ltb (tick p
     by-tick (inr a) (inr b) (inr c) (inr d) = absurd (false≢true (ap is-earlier (rw (a, b, c, d) at e)))
 
 -- steps that wait, from before k × P, or from (k × P, 0), to a point later than (k × P, 0) lead through (k × P, 1)
-pub passed-point : (P k : ℕ) (p : Point) (hs : List ℕ) → Waits P p hs → (tick p < k * P) ⊎ (p ≡ point (k * P) 0) → 0 < k * P →
+pub passed-point : (P k : ℕ) (p : Point) (hs : List ℕ) → Waits P p hs → (tick p < k * P) ⊎ (p ≡ point (k * P) 0) →
+    0 < k * P →
     compared (point (k * P) 0) (point-after p hs) ≡ Earlier → List·Memᴰ (point (k * P) 1) (points-after p hs)
 unfolding point-after points-after
 passed-point P k p [] w at up past = absurd (not-later at (earlier-by (point (k * P) 0) p past))

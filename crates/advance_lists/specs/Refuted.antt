@@ -1,7 +1,8 @@
--- The claim about a whole list can be false: it refutes the calls of two imitations, each by one of its fields alone. A master that commits one tick
--- each time is refuted by the longest step, and one that moves in the first call and repeats that answer by the sum of the steps. And that previews alter nothing
--- can be false: it refutes a preview that hands on the model that it moved. The model is the fresh one of a single constant, which accepts every step.
--- Assumes nothing.
+-- The claim about a whole list can be false: it refutes the calls of two imitations, each by one of its fields alone. A
+-- master that commits one tick each time is refuted by the longest step, and one that moves in the first call and
+-- repeats that answer by the sum of the steps. And that previews alter nothing can be false: it refutes a preview that
+-- hands on the model that it moved. The model is the fresh one of a single constant, which accepts every step. Assumes
+-- nothing.
 use Prim.Native.Nat.{ℕ, zero, suc, _≤_}
 use native.Mathlib.Omega.{arith}
 use mathlib.Core.Path.{_≡_, refl, ap}
@@ -51,7 +52,8 @@ unfolding computing AcceptsAs Accepts
 accepts-5 zero p = inr (refl, tt)
 accepts-5 (suc i) p = absurd (omega arith)
 
--- of the first call of one tick, what `OfCall` says of the longest step is false: 5 is accepted by all and within the ceiling
+-- of the first call of one tick, what `OfCall` says of the longest step is false: 5 is accepted by all and within the
+-- ceiling
 pub one-tick-not-longest : ((j : ℕ) → j ≤ 5 → AllAccept (trimmed alone) j → j ≤ 1) → ⊥
 one-tick-not-longest longest = let h = longest 5 (omega arith) accepts-5 in omega arith
 
@@ -68,10 +70,14 @@ pub repeated-refuted : WholeList alone repeated-calls → ⊥
 unfolding computing sum
 repeated-refuted claim = let h : _≡_ {A = ℕ} 5 10 = claim .ticks in omega arith
 
--- a preview, wanting 5, that hands on the model with the step made, and an advance behind it
+-- a preview, wanting 5, that hands on the model with the step made, and an advance after it
 abbrev pub moving-calls : List AnyCall
 moving-calls =
-    Previewing (record { given = alone; wanted = 5; returned = record { given = step-made alone 5; answer = committing alone 5 } }) ∷
+    Previewing (record {
+      given = alone;
+      wanted = 5;
+      returned = record { given = step-made alone 5; answer = committing alone 5 };
+    }) ∷
     Advancing (wanting-5 (step-made alone 5) (committing (step-made alone 5) 5)) ∷ []
 
 -- that it altered nothing is false: the advance, alone, would have been given the model at tick 0

@@ -1,5 +1,6 @@
--- What one round, and one call, owe: the laws of acceptance are those that the search for a step asks of a round of a sound model, and what the
--- search then finds is what demand 3 says of each call. A call that is not barred has a sound model. Assumes nothing.
+-- What one round, and one call, owe: the laws of acceptance are those that the search for a step asks of a round of a
+-- sound model, and what the search then finds is what demand 3 says of each call. A call that is not barred has a sound
+-- model. Assumes nothing.
 use Prim.Native.Nat.{ℕ}
 use mathlib.Core.Path.{_≡_, ap, sym, subst, _∙_}
 use mathlib.Core.Bool.{true}
@@ -10,7 +11,8 @@ use Rattle.machine.specs.Sound.{sound}
 use Rattle.machine.specs.Advance.{outcome}
 use Rattle.machine.specs.Calls.{Advanced}
 use Rattle.machine.specs.WholeList.{counts-of, OfCall}
-use Rattle.ask_laws.specs.Rounds.{potential, round-within, round-accepted, round-most, round-drops, potential-bound, potential-mono}
+use Rattle.ask_laws.specs.Rounds.{potential, round-within, round-accepted, round-most, round-drops, potential-bound}
+use Rattle.ask_laws.specs.Rounds.{potential-mono}
 use Rattle.ask_laws.specs.FitParts.{sound-fit, sound-few, sound-detectors}
 use Rattle.advance_laws.specs.SearchTurns.{RoundOwes}
 use Rattle.advance_laws.specs.Outcomes.{not-barred, OutcomeFacts, outcome-facts, advance-counts}
@@ -37,7 +39,8 @@ pub of-call : (m : Model) (w : ℕ) (r : Answer) → Advanced m w r → OfCall (
 unfolding counts-of trimmed-answer
 of-call m w r a =
     let counts : counts-of r ≡ outcome (trimmed m) w = ap counts-of (a .machine) ∙ advance-counts (trimmed m) w in
-    let facts : OutcomeFacts (trimmed m) (counts-of r) = subst (OutcomeFacts (trimmed m)) (sym counts) (every-outcome (trimmed m) w) in
+    let facts : OutcomeFacts (trimmed m) (counts-of r) =
+    subst (OutcomeFacts (trimmed m)) (sym counts) (every-outcome (trimmed m) w) in
     record {
       machine = counts;
       rounds = facts .rounds;

@@ -1,5 +1,5 @@
--- Steps made alone: the point where `steps-made` leaves the model; and that steps which all parts accept, where each is made, lead through every
--- pulse's points. By induction on the list of steps. Assumes nothing.
+-- Steps made alone: the point where `steps-made` leaves the model; and that steps which all parts accept, where each is
+-- made, lead through every pulse's points. By induction on the list of steps. Assumes nothing.
 use Prim.Native.Nat.{ℕ, _+_, _*_, _≤_, _<_}
 use native.Mathlib.Omega.{arith}
 use mathlib.Core.Path.{_≡_, refl, ap, _∙_}
@@ -19,7 +19,8 @@ use Rattle.machine.specs.Step.{step-made, steps-made}
 use Rattle.machine.specs.Accept.{due-as, due, AcceptsAs, Accepts}
 use Rattle.machine.specs.WholeList.{AllAccept, sum}
 use Rattle.advance_laws.specs.Frame.{made-length, made-component, made-ratio}
-use Rattle.advance_lists.specs.Points.{point-after, points-after, after-tick, WaitsAt, Waits, reached-point, passed-point}
+use Rattle.advance_lists.specs.Points.{point-after, points-after, after-tick, WaitsAt, Waits, reached-point}
+use Rattle.advance_lists.specs.Points.{passed-point}
 
 -- all parts accept each of the steps, where it is made
 abbrev pub AllAccepted : Model → List ℕ → Type 0
@@ -42,12 +43,14 @@ pub steps-tick : (m : Model) (hs : List ℕ) → tick (steps-made m hs .point) �
 steps-tick m hs = ap tick (steps-point m hs) ∙ after-tick (m .point) hs
 
 -- what a pulse accepts waits for the multiples of its period
-pulse-waits : (p : Part) (now : Point) (x : Signal) (h : ℕ) → p .component .kind ≡ Pulse → Accepts p now x h → WaitsAt (period p) now h
+pulse-waits : (p : Part) (now : Point) (x : Signal) (h : ℕ) → p .component .kind ≡ Pulse → Accepts p now x h →
+    WaitsAt (period p) now h
 unfolding Accepts due due-as AcceptsAs
 pulse-waits p now x h e a = rw e at a
 
 -- steps that all parts accept wait for every pulse
-pulses-wait : (m : Model) (hs : List ℕ) (i : ℕ) → i < length (m .parts) → part-at (m .parts) i .component .kind ≡ Pulse →
+pulses-wait : (m : Model) (hs : List ℕ) (i : ℕ) → i < length (m .parts) →
+    part-at (m .parts) i .component .kind ≡ Pulse →
     AllAccepted m hs → Waits (period (part-at (m .parts) i)) (m .point) hs
 pulses-wait m [] i p e a = tt
 pulses-wait m (h ∷ hs) i p e a =
@@ -59,15 +62,19 @@ pulses-wait m (h ∷ hs) i p e a =
       rw (component, ratio, made-point m h) at rest,
     )
 
--- so of a pulse with period P they lead through (k × P, 0) once they reach that tick, and through (k × P, 1) once they pass that point
-pub steps-reached : (m : Model) (hs : List ℕ) (i k : ℕ) → i < length (m .parts) → part-at (m .parts) i .component .kind ≡ Pulse →
+-- so of a pulse with period P they lead through (k × P, 0) once they reach that tick, and through (k × P, 1) once they
+-- pass that point
+pub steps-reached : (m : Model) (hs : List ℕ) (i k : ℕ) → i < length (m .parts) →
+    part-at (m .parts) i .component .kind ≡ Pulse →
     AllAccepted m hs → tick (m .point) < k * period (part-at (m .parts) i) →
     k * period (part-at (m .parts) i) ≤ tick (steps-made m hs .point) →
     List·Memᴰ (point (k * period (part-at (m .parts) i)) 0) (points-after (m .point) hs)
 steps-reached m hs i k p e a before past =
-    reached-point (period (part-at (m .parts) i)) k (m .point) hs (pulses-wait m hs i p e a) before (rw (steps-point m hs) at past)
+    reached-point (period (part-at (m .parts) i)) k (m .point) hs (pulses-wait m hs i p e a) before
+    (rw (steps-point m hs) at past)
 
-pub steps-passed : (m : Model) (hs : List ℕ) (i k : ℕ) → i < length (m .parts) → part-at (m .parts) i .component .kind ≡ Pulse →
+pub steps-passed : (m : Model) (hs : List ℕ) (i k : ℕ) → i < length (m .parts) →
+    part-at (m .parts) i .component .kind ≡ Pulse →
     AllAccepted m hs → tick (m .point) < k * period (part-at (m .parts) i) →
     compared (point (k * period (part-at (m .parts) i)) 0) (steps-made m hs .point) ≡ Earlier →
     List·Memᴰ (point (k * period (part-at (m .parts) i)) 1) (points-after (m .point) hs)

@@ -1,6 +1,6 @@
--- A sound model has what the laws of rounds ask: every part is in good order and has at most 8 spans, and the P of every detector is at least 1.
--- The idea: the stored ratios are those that the table gives, each 1 or a power of ten, and a kind that waits for multiples of P, or measures by
--- P, names p. Assumes nothing.
+-- A sound model has what the laws of rounds ask: every part is in good order and has at most 8 spans, and the P of
+-- every detector is at least 1. The idea: the stored ratios are those that the table gives, each 1 or a power of ten,
+-- and a kind that waits for multiples of P, or measures by P, names p. Assumes nothing.
 use Prim.Native.Nat.{ℕ, _-_, _^_, _≤_, _<_}
 use native.Mathlib.Omega.{arith}
 use native.Mathlib.Nat.{one-le-pow, mul-pos}
@@ -10,7 +10,8 @@ use lib.ListN.{length}
 use lib.Dec.{eqb}
 use borrow.Author.Tests.{leb-true}
 use Rattle.machine.specs.declared.part.Kind.{Kind}
-use Rattle.machine.specs.declared.part.Kind.the-variants.{Constant, Gain, Adder, Square, Pulse, Delay, Integrator, ResetIntegrator, Detector, Hold, Sampler, Drive, Clapper}
+use Rattle.machine.specs.declared.part.Kind.the-variants.{Constant, Gain, Adder, Square, Pulse, Delay, Integrator}
+use Rattle.machine.specs.declared.part.Kind.the-variants.{ResetIntegrator, Detector, Hold, Sampler, Drive, Clapper}
 use Rattle.machine.specs.declared.part.Component.{Component}
 use Rattle.machine.specs.declared.model.Model.{Model}
 use Rattle.machine.specs.Time.{ratio-of, no-preference}
@@ -56,7 +57,8 @@ named-by-class Drive = refl
 named-by-class Clapper = refl
 
 -- p, where a kind names it, is at least 1
-named-positive : (c : Component) → operands-fit (c .kind) (c .a) (c .b) (c .p) ≡ true → names-p (c .kind) ≡ true → 0 < c .p
+named-positive : (c : Component) → operands-fit (c .kind) (c .a) (c .b) (c .p) ≡ true → names-p (c .kind) ≡ true →
+    0 < c .p
 unfolding operands-fit is-positive
 named-positive c fits named =
     let facts = simp (named, and-eq-true-iff) at fits in
@@ -66,13 +68,15 @@ module _ (m : Model) (is-sound : sound m ≡ true) (i : ℕ) (within : i < lengt
   -- each ratio is positive
   sound-ratio : 0 < part-at (m .parts) i .ratio
   unfolding component-ratio
-  sound-ratio = rw (sound-ratio-given m is-sound i within) (ratio-positive (magnitude-of (table-of m)) (part-at (m .parts) i .component .preference))
+  sound-ratio = rw (sound-ratio-given m is-sound i within)
+      (ratio-positive (magnitude-of (table-of m)) (part-at (m .parts) i .component .preference))
 
   -- the P of a part is positive, where its class names p
   sound-period : class-names-p (class-of (part-at (m .parts) i)) ≡ true → 0 < period (part-at (m .parts) i)
   sound-period named =
       let component = part-at (m .parts) i .component in
-      mul-pos (named-positive component (sound-component m is-sound i within .operands) (named-by-class (component .kind) ∙ named)) sound-ratio
+      mul-pos (named-positive component (sound-component m is-sound i within .operands)
+      (named-by-class (component .kind) ∙ named)) sound-ratio
 
   -- so is that of a detector
   pub sound-detectors : class-of (part-at (m .parts) i) ≡ detecting → 0 < period (part-at (m .parts) i)
@@ -92,5 +96,6 @@ pub sound-few : (m : Model) → sound m ≡ true → AllFew m
 sound-few m is-sound i within =
     let component = part-at (m .parts) i .component in
     let places = sound-component m is-sound i within .places in
-    cond-cases (λ (most : ℕ). length (component .spans) ≤ most → length (component .spans) ≤ 8) (is-drive (component .kind)) most-spans 0
+    cond-cases (λ (most : ℕ). length (component .spans) ≤ most → length (component .spans) ≤ 8)
+    (is-drive (component .kind)) most-spans 0
     (λ drive few. few) (λ other few. omega arith) places

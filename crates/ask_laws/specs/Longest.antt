@@ -1,7 +1,7 @@
--- "The longest step of at most h that the part accepts" (document 01, "One advance") is what `longest` gives, for a part in good order: it is at
--- most h, the part accepts it, and no longer step of at most h is accepted. The idea, for a drive whose d at h is neither 0 nor a span: a step of
--- at most h adds at most d, so one that is accepted adds at most the largest of 0 and the spans below d, and `last-adding` is the last that adds
--- as much. Assumes nothing.
+-- "The longest step of at most h that the part accepts" (document 01, "One advance") is what `longest` gives, for a
+-- part in good order: it is at most h, the part accepts it, and no longer step of at most h is accepted. The idea, for
+-- a drive whose d at h is neither 0 nor a span: a step of at most h adds at most d, so one that is accepted adds at
+-- most the largest of 0 and the spans below d, and `last-adding` is the last that adds as much. Assumes nothing.
 use Prim.Native.Nat.{ℕ, _+_, _*_, _/_, _≤_, _<_}
 use native.Mathlib.Omega.{arith}
 use native.Mathlib.Nat.{eq-or-lt-of-le, lt-div-mul-add}
@@ -18,13 +18,15 @@ use Rattle.machine.specs.Lists.{member}
 use Rattle.machine.specs.Time.{tick, gained, local-count}
 use Rattle.machine.specs.Kind.{period}
 use Rattle.machine.specs.Step.{gain-of}
-use Rattle.machine.specs.Accept.{Class, waiting, delaying, detecting, driving, free, class-of, due, next-multiple, AcceptsAs, Accepts, allowed, largest-below, last-adding, longest-as, longest}
+use Rattle.machine.specs.Accept.{Class, waiting, delaying, detecting, driving, free, class-of, due, next-multiple}
+use Rattle.machine.specs.Accept.{AcceptsAs, Accepts, allowed, largest-below, last-adding, longest-as, longest}
 use Rattle.laws.specs.Bools.{or-cases, or-left, or-right}
 use Rattle.laws.specs.ListLaws.{member-in, in-member}
 use Rattle.laws.specs.Numbers.{div-grows}
 use Rattle.ask_laws.specs.Spans.{added, last-adding-adds, last-adding-most, last-adding-within, largest-below-is}
 
--- a part is in good order at tick t: its ratio is positive, its local count is floor(t / r), and where it waits for multiples of P that is positive
+-- a part is in good order at tick t: its ratio is positive, its local count is floor(t / r), and where it waits for
+-- multiples of P that is positive
 pub record Fit (t : ℕ) (p : Part) : Type 0 where
   pub ratio : 0 < p .ratio
   pub local : p .state .local .0 ≡ t / p .ratio
@@ -88,7 +90,8 @@ drive-longest spans r t h positive = by-test (allowed spans (added r t h)) refl
         let below : v < added r t h = largest-below-is spans (added r t h) .below (omega arith) in
         record {
           within = last-adding-within r t v positive h below;
-          itself = rw (last-adding-adds r t v positive) (List·Memᴰ·cases-cons (largest-below-is spans (added r t h) .among));
+          itself = rw (last-adding-adds r t v positive)
+              (List·Memᴰ·cases-cons (largest-below-is spans (added r t h) .among));
           most =
               λ j few one.
               let earlier : (t + j) / r ≤ (t + h) / r = div-grows r (t + j) (t + h) (omega arith) in
@@ -109,13 +112,15 @@ longest-as-is driving p t h ratio local positive = rw local (drive-longest (p .c
 longest-as-is free p t h ratio local positive = whole-longest tt
 
 -- what `longest` gives is the longest, for a part that is due, which accepts 0 only, and for another
-longest-is : (p : Part) (now : Point) (x : Signal) (h : ℕ) → Fit (tick now) p → IsLongest (Accepts p now x) h (longest p now x h)
+longest-is : (p : Part) (now : Point) (x : Signal) (h : ℕ) → Fit (tick now) p →
+    IsLongest (Accepts p now x) h (longest p now x h)
 unfolding Accepts longest
 longest-is p now x h fit =
     by-test (due p now x) refl (longest-as-is (class-of p) p (tick now) h (fit .ratio) (fit .local) (fit .period))
   where
     by-test :
-        (b : Bool) → due p now x ≡ b → IsLongest (AcceptsAs (class-of p) p (tick now)) h (longest-as (class-of p) p (tick now) h) →
+        (b : Bool) → due p now x ≡ b →
+        IsLongest (AcceptsAs (class-of p) p (tick now)) h (longest-as (class-of p) p (tick now) h) →
         IsLongest (Accepts p now x) h (cond b 0 (longest-as (class-of p) p (tick now) h))
     by-test true e other =
         record {
@@ -135,10 +140,12 @@ pub longest-within : (p : Part) (now : Point) (x : Signal) (h : ℕ) → Fit (ti
 longest-within p now x h fit = longest-is p now x h fit .within
 
 -- the part accepts it
-pub longest-accepted : (p : Part) (now : Point) (x : Signal) (h : ℕ) → Fit (tick now) p → Accepts p now x (longest p now x h)
+pub longest-accepted : (p : Part) (now : Point) (x : Signal) (h : ℕ) → Fit (tick now) p →
+    Accepts p now x (longest p now x h)
 longest-accepted p now x h fit = longest-is p now x h fit .itself
 
 -- no step of at most h that the part accepts is longer
 pub longest-most :
-    (p : Part) (now : Point) (x : Signal) (h : ℕ) → Fit (tick now) p → (j : ℕ) → j ≤ h → Accepts p now x j → j ≤ longest p now x h
+    (p : Part) (now : Point) (x : Signal) (h : ℕ) → Fit (tick now) p → (j : ℕ) → j ≤ h → Accepts p now x j →
+    j ≤ longest p now x h
 longest-most p now x h fit = longest-is p now x h fit .most

@@ -1,6 +1,7 @@
--- One round (document 01, "One advance"): it gives at most h; where it gives h, all parts accept h; every step of at most h that all parts accept is
--- at most what it gives; and where it lowers h, fewer of the parts' plateau ends lie below, of which there are at most 9 a part: 0 and 8 spans.
--- The idea: what a round gives is h, or the longest step of some part, and that is h or an end. Assumes nothing.
+-- One round (document 01, "One advance"): it gives at most h; where it gives h, all parts accept h; every step of at
+-- most h that all parts accept is at most what it gives; and where it lowers h, fewer of the parts' plateau ends lie
+-- below, of which there are at most 9 a part: 0 and 8 spans. The idea: what a round gives is h, or the longest step of
+-- some part, and that is h or an end. Assumes nothing.
 use Prim.Native.Nat.{ℕ, zero, suc, _*_, _≤_, _<_, min}
 use native.Mathlib.Omega.{arith}
 use native.Mathlib.Nat.{le-trans}
@@ -29,7 +30,7 @@ AllFit m = (i : ℕ) → i < length (m .parts) → Fit (tick (m .point)) (part-a
 abbrev pub AllFew : Model → Type 0
 AllFew m = (i : ℕ) → i < length (m .parts) → length (part-at (m .parts) i .component .spans) ≤ 8
 
--- the longest step of at most h that a part accepts where the model m stands
+-- the longest step of at most h that a part accepts where the model m is
 abbrev pub longest-in : Model → ℕ → Part → ℕ
 longest-in m h p = longest p (m .point) (reading0 (m .parts) p) h
 
@@ -45,7 +46,8 @@ module _ (m : Model) (h : ℕ) where
   least-start best (p ∷ ps) = omega (arith, least-start (min best (longest-in m h p)) ps)
 
   -- and at most the longest step of each
-  pub least-each : (best : ℕ) (ps : List Part) (i : ℕ) → i < length ps → least m h best ps ≤ longest-in m h (part-at ps i)
+  pub least-each : (best : ℕ) (ps : List Part) (i : ℕ) → i < length ps →
+      least m h best ps ≤ longest-in m h (part-at ps i)
   unfolding least
   least-each best [] i within = absurd (omega arith)
   least-each best (p ∷ ps) zero within = omega (arith, least-start (min best (longest-in m h p)) ps)
@@ -68,7 +70,8 @@ module _ (m : Model) (h : ℕ) where
   unfolding least flatMap
   least-drops best [] = inl refl
   least-drops best (p ∷ ps) =
-      ⊎-elim at-first (λ later. inr (⊎-map (λ e. e) (Memᴰ·append-right (ends-in m p)) later)) (least-drops (min best (longest-in m h p)) ps)
+      ⊎-elim at-first (λ later. inr (⊎-map (λ e. e) (Memᴰ·append-right (ends-in m p)) later))
+      (least-drops (min best (longest-in m h p)) ps)
     where
       l : ℕ
       l = least m h (min best (longest-in m h p)) ps

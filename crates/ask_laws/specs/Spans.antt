@@ -1,13 +1,14 @@
--- A drive's steps, by its ratio, its tick and its spans alone: the last step that adds v local ticks, and the largest of 0 and the spans below d.
--- The idea: from tick t, a step of h leads into the local tick floor((t + h) / r), so that the steps which add at most v are those that end
--- before the tick (floor(t / r) + v + 1) × r. Assumes nothing.
+-- A drive's steps, by its ratio, its tick and its spans alone: the last step that adds v local ticks, and the largest
+-- of 0 and the spans below d. The idea: from tick t, a step of h leads into the local tick floor((t + h) / r), so that
+-- the steps which add at most v are those that end before the tick (floor(t / r) + v + 1) × r. Assumes nothing.
 use Prim.Native.Nat.{ℕ, _+_, _-_, _*_, _/_, _≤_, _<_, max}
 use native.Mathlib.Omega.{arith}
 use native.Mathlib.Nat.{div-add-mod', mod-lt, div-eq-of-lt-le, div-lt-iff-lt-mul, le-div-iff-mul-le}
 use mathlib.Core.Path.{_≡_, refl, _∙_}
 use mathlib.Core.Bool.{Bool, true, false, cond}
 use mathlib.Core.Logic.{_⊎_, inl, inr}
-use mathlib.Core.List.{List, [], _∷_, foldl, List·Memᴰ, List·Memᴰ·head, List·Memᴰ·tail, List·Memᴰ·not-nil, List·Memᴰ·cases-cons}
+use mathlib.Core.List.{List, [], _∷_, foldl, List·Memᴰ, List·Memᴰ·head, List·Memᴰ·tail, List·Memᴰ·not-nil}
+use mathlib.Core.List.{List·Memᴰ·cases-cons}
 use lib.Dec.{ltb}
 use borrow.Author.Tests.{ltb-true, ltb-false}
 use Rattle.machine.specs.Accept.{last-adding, largest-below}
@@ -42,7 +43,8 @@ module _ (r t v : ℕ) (positive : 0 < r) where
       let tick : t / r + v + 1 ≤ (t + h) / r = omega arith in
       omega (arith, last-adding-end, le-div-iff-mul-le positive .0 tick)
 
--- what the largest below d comes to, begun at v: it is v or a span, at least v and every span below d, and itself below d where v is
+-- what the largest below d comes to, begun at v: it is v or a span, at least v and every span below d, and itself below
+-- d where v is
 pub record LargestFrom (spans : List ℕ) (d v largest : ℕ) : Type 0 where
   pub among : List·Memᴰ largest (v ∷ spans)
   pub least : v ≤ largest
@@ -79,7 +81,12 @@ one-more {x} {xs} {d} {v} {u} {largest} one least below most later =
 -- the largest below d, begun at v, is what the fold over the spans gives
 largest-from : (spans : List ℕ) (d v : ℕ) → LargestFrom spans d v (foldl (larger-below d) v spans)
 largest-from [] d v =
-    record { among = List·Memᴰ·head refl; least = omega arith; below = λ p. p; most = λ s m. absurd (List·Memᴰ·not-nil m) }
+    record {
+      among = List·Memᴰ·head refl;
+      least = omega arith;
+      below = λ p. p;
+      most = λ s m. absurd (List·Memᴰ·not-nil m);
+    }
 largest-from (x ∷ xs) d v = by-test (ltb x d) refl (largest-from xs d)
   where
     by-test :

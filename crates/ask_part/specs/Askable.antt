@@ -8,8 +8,8 @@ use Rattle.machine.specs.Model.{most-spans}
 use Rattle.machine.specs.Accept.{waiting, class-of}
 use Rattle.step_part.specs.PartRanges.{StepFits}
 
--- the part has at most 8 spans and a positive ratio, P is at most 10^18, and positive where the part waits for its multiples, and a step of h from
--- tick t fits the part
+-- the part has at most 8 spans and a positive ratio, P is at most 10^18, and positive where the part waits for its
+-- multiples, and a step of h from tick t fits the part
 pub record AskFits (t h : ℕ) (p : Part) : Type 0 where
   pub places : p .component .«span_count» ≤ most-spans
   pub ratio : 0 < p .ratio

@@ -1,5 +1,5 @@
--- What a round behind the first needs of a model in words, by what the code reads of each part: its kind, and of a drive its longest step. A part that is no drive
--- accepts h then (`Agreed`), and lowers nothing. Assumes nothing.
+-- What a round after the first needs of a model in words, by what the code reads of each part: its kind, and of a drive
+-- its longest step. A part that is no drive accepts h then (`Agreed`), and lowers nothing. Assumes nothing.
 use Prim.Native.Nat.{ℕ, _+_, _≤_, _<_, min}
 use mathlib.Core.Path.{_≡_, refl, sym, ap, _∙_}
 use mathlib.Core.Bool.{Bool, true, false, true≢false, false≢true}
@@ -40,7 +40,8 @@ undriven c none e = true≢false (ap is-driving (sym e) ∙ none)
 abbrev pub drives : Kind → Bool
 drives k = is-driving (class k)
 
-module _ (ts ss : List ℕ) (i : ℕ) (low : i < part-count ts) (kind : Kind) (of : kind ≡ stored-component ts i .kind) where
+module _ (ts ss : List ℕ) (i : ℕ) (low : i < part-count ts) (kind : Kind)
+    (of : kind ≡ stored-component ts i .kind) where
   -- the model that the words mean, trimmed
   abbrev m : Model
   m = trimmed (model-in ts ss)
@@ -55,7 +56,8 @@ module _ (ts ss : List ℕ) (i : ℕ) (low : i < part-count ts) (kind : Kind) (o
       least m h best (drop i (m .parts)) ≡ least m h best (drop (i + 1) (m .parts))
   later-passes h best few none agreed =
       let accepts = agreed i (rw (lent-many ts ss) low) (λ e. undriven (class kind) none (sym class-here ∙ e)) in
-      ap (least m h best) (parts-from ts ss i low) ∙ least-agreed m h best (part-at (m .parts) i) (drop (i + 1) (m .parts)) few accepts
+      ap (least m h best) (parts-from ts ss i low) ∙
+      least-agreed m h best (part-at (m .parts) i) (drop (i + 1) (m .parts)) few accepts
 
   -- a drive's longest step is taken in
   pub later-drive :
@@ -69,4 +71,5 @@ module _ (ts ss : List ℕ) (i : ℕ) (low : i < part-count ts) (kind : Kind) (o
       longest-driven q (m .point) (reading0 (m .parts) q) h (class-here ∙ driven (class kind) some) ∙
       ap (λ (r : Part). longest-as driving r (tick (stored-point ss)) h) (part-here asked) ∙
       ap (λ (n : Point). longest-as driving (trimmed-part p) (tick n) h) (sym at) ∙ sym e in
-      ap (least m h best) (parts-from ts ss i low) ∙ ap (λ (z : ℕ). least m h (min best z) (drop (i + 1) (m .parts))) longest-here
+      ap (least m h best) (parts-from ts ss i low) ∙
+      ap (λ (z : ℕ). least m h (min best z) (drop (i + 1) (m .parts))) longest-here

@@ -72,7 +72,8 @@ module _ (ts ss : List ℕ) where
     unfolding any
     any-hit f e = ap (any f) parts-from ∙ or-left (f (part-at (m .parts) i)) (any f (drop (i + 1) (m .parts))) e
 
-    pub any-miss : (f : Part → Bool) → f (part-at (m .parts) i) ≡ false → any f (drop i (m .parts)) ≡ any f (drop (i + 1) (m .parts))
+    pub any-miss : (f : Part → Bool) → f (part-at (m .parts) i) ≡ false →
+        any f (drop i (m .parts)) ≡ any f (drop (i + 1) (m .parts))
     unfolding any
     any-miss f e = ap (any f) parts-from ∙ ap (λ (b : Bool). b || any f (drop (i + 1) (m .parts))) e
 

@@ -1,5 +1,5 @@
--- What asking the parts of a trial in words for objections needs, by what the code reads. The trial is not settled yet: each part is settled by its reading, and
--- asked. Assumes nothing.
+-- What asking the parts of a trial in words for objections needs, by what the code reads. The trial is not settled yet:
+-- each part is settled by its reading, and asked. Assumes nothing.
 use Prim.Native.Nat.{ℕ, _≤_}
 use mathlib.Core.Path.{_≡_, refl, sym, ap, subst, _∙_}
 use mathlib.Core.List.{List}

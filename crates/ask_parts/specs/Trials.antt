@@ -1,5 +1,5 @@
--- A trial asked for objections before it is settled: what the parts would object to once they are settled is asked of each part, settled by its reading, one by
--- one; and which kinds can object. Assumes nothing.
+-- A trial asked for objections before it is settled: what the parts would object to once they are settled is asked of
+-- each part, settled by its reading, one by one; and which kinds can object. Assumes nothing.
 use Prim.Native.Nat.{ℕ}
 use mathlib.Core.Path.{_≡_, refl, ap}
 use mathlib.Core.Bool.{Bool, true, false, true≢false, _||_}
@@ -31,7 +31,8 @@ any-map f g (a ∷ l) = ap (λ (b : Bool). f (g a) || b) (any-map f g l)
 -- so it is asked of the step made
 pub objects-made : (m : Model) (h k : ℕ) → any-objects k (step-made m h) ≡ any-objects-settled k (step-shown m h)
 unfolding any-objects any-objects-settled step-made step-shown all-settled
-objects-made m h k = any-map (objects k) (λ (p : Part). settled (reading0 (step-shown m h .parts) p) p) (step-shown m h .parts)
+objects-made m h k = any-map (objects k) (λ (p : Part). settled (reading0 (step-shown m h .parts) p) p)
+    (step-shown m h .parts)
 
 -- the class that can object, and no other does
 abbrev is-detecting : Class → Bool
@@ -53,6 +54,7 @@ never-objects free h p e = refl
 abbrev pub detects : Kind → Bool
 detects k = is-detecting (class k)
 
-pub passes-trial : (h : ℕ) (ps : List Part) (p : Part) → detects (p .component .kind) ≡ false → objects-settled h ps p ≡ false
+pub passes-trial : (h : ℕ) (ps : List Part) (p : Part) → detects (p .component .kind) ≡ false →
+    objects-settled h ps p ≡ false
 unfolding objects settled
 passes-trial h ps p e = never-objects (class (p .component .kind)) h (settled (reading0 ps p) p) e

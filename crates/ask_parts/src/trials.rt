@@ -36,8 +36,8 @@ fn detects(k: Kind) -> bool
     }
 }
 
-// Whether some part of the trial, once it is settled, objects to the step of `h` that led there. Each part that can is settled by
-// itself and asked.
+// Whether some part of the trial, once it is settled, objects to the step of `h` that led there. Each part that can is
+// settled by itself and asked.
 pub fn any_objects_in(table: &[u64], h: Ticks, trial: &[u64]) -> bool
     requires { ⌜ WordsThere (now table) (now trial) ⌝ }
     requires { ⌜ Settleable (trimmed (model-in (now table) (now trial))) ⌝ }

@@ -1,2 +1,2 @@
--- Laws behind the exported calls.
+-- Laws after the exported calls.
 mod Laws

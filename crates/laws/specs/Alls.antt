@@ -7,7 +7,7 @@ use lib.ListN.{length, getD, set, length-map, List·getD-map}
 use Rattle.machine.specs.Lists.{every, All}
 
 module _ {ℓ} {A : Type ℓ} (P : A → Type 0) where
-  -- where all elements have P, and the default too, so has what stands at any index
+  -- where all elements have P, and the default too, so has what is at any index
   pub all-default : (l : List A) (d : A) (i : ℕ) → All P l → P d → P (getD l i d)
   all-default [] d i h p = p
   all-default (x ∷ xs) d zero h p = h .0
@@ -43,7 +43,7 @@ module _ {ℓ} {A : Type ℓ} (P : A → Type 0) where
   all-added [] a h p = (p, tt)
   all-added (x ∷ xs) a h p = (h .0, all-added xs a (h .1) p)
 
-  -- two lists one behind the other
+  -- two lists one after the other
   pub all-append : (k l : List A) → All P k → All P l → All P (k ++ l)
   all-append [] l h p = p
   all-append (x ∷ xs) l h p = (h .0, all-append xs l (h .1) p)
@@ -54,11 +54,13 @@ module _ {ℓ} {A : Type ℓ} (P : A → Type 0) where
   all-give Q (x ∷ xs) gives h = (gives x (h .0), all-give Q xs gives (h .1))
 
 -- lists that are mapped to the same are of the same length
-pub length-same-map {ℓ κ} : {A : Type ℓ} {B : Type κ} (f : A → B) (k l : List A) → map f k ≡ map f l → length k ≡ length l
+pub length-same-map {ℓ κ} : {A : Type ℓ} {B : Type κ} (f : A → B) (k l : List A) → map f k ≡ map f l →
+    length k ≡ length l
 length-same-map f k l e = sym (length-map k f) ∙ ap length e ∙ length-map l f
 
 -- and their elements at each index are mapped to the same
-pub same-at {ℓ κ} : {A : Type ℓ} {B : Type κ} (f : A → B) (k l : List A) (i : ℕ) (d : A) → map f k ≡ map f l → f (getD k i d) ≡ f (getD l i d)
+pub same-at {ℓ κ} : {A : Type ℓ} {B : Type κ} (f : A → B) (k l : List A) (i : ℕ) (d : A) → map f k ≡ map f l →
+    f (getD k i d) ≡ f (getD l i d)
 same-at f k l i d e = sym (List·getD-map f k i d) ∙ ap (λ x. getD x i (f d)) e ∙ List·getD-map f l i d
 
 module _ {ℓ} {A B : Type ℓ} (f : A → B) where

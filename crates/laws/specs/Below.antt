@@ -1,4 +1,5 @@
--- How many numbers of a list lie below h: no more than the list has, and fewer below a smaller h that is one of them. Assumes nothing.
+-- How many numbers of a list lie below h: no more than the list has, and fewer below a smaller h that is one of them.
+-- Assumes nothing.
 use Prim.Native.Nat.{ℕ, _+_, _≤_, _<_}
 use native.Mathlib.Omega.{arith}
 use mathlib.Core.Bool.{cond}

@@ -70,7 +70,7 @@ pub cond-false {ℓ} : {A : Type ℓ} (b : Bool) (x y : A) → b ≡ false → c
 cond-false true x y h = absurd (true≢false h)
 cond-false false x y h = refl
 
--- two tests, one behind the other, that fail to the same
+-- two tests, one after the other, that fail to the same
 pub cond-both {ℓ} : {A : Type ℓ} (p q : Bool) (x y : A) → p && q ≡ true → cond p (cond q x y) y ≡ x
 cond-both true true x y both = refl
 cond-both true false x y both = absurd (false≢true both)
@@ -82,7 +82,8 @@ cond-either true false x y either = refl
 cond-either false q x y either = refl
 
 -- what holds of both things that a test picks from, of each where it is picked, holds of the thing picked
-pub cond-cases {ℓ κ} : {A : Type ℓ} (P : A → Type κ) (b : Bool) (x y : A) → (b ≡ true → P x) → (b ≡ false → P y) → P (cond b x y)
+pub cond-cases {ℓ κ} : {A : Type ℓ} (P : A → Type κ) (b : Bool) (x y : A) → (b ≡ true → P x) → (b ≡ false → P y) →
+    P (cond b x y)
 cond-cases P true x y on-true on-false = on-true refl
 cond-cases P false x y on-true on-false = on-false refl
 

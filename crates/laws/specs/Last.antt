@@ -27,7 +27,8 @@ module _ {ℓ} {A : Type ℓ} where
   set-last-of-added l a b = rw (length-added l a, sub-one) (set-append-seam l a [] b)
 
   -- the last element, where it was replaced
-  pub last-of-set : (l : List A) (a d : A) → 0 < length l → getD (set l (length l - 1) a) (length (set l (length l - 1) a) - 1) d ≡ a
+  pub last-of-set : (l : List A) (a d : A) → 0 < length l →
+      getD (set l (length l - 1) a) (length (set l (length l - 1) a) - 1) d ≡ a
   last-of-set l a d h =
       let there : length l - 1 < length l = omega arith in
       rw (length-set l (length l - 1) a) (getD-set-same l (length l - 1) a d there)

@@ -1,12 +1,13 @@
--- Laws of lists: `every`, `any`, `member` and `same` as statements, elements of mapped lists, what holds of all elements, and where an element
--- stands. Assumes nothing.
+-- Laws of lists: `every`, `any`, `member` and `same` as statements, elements of mapped lists, what holds of all
+-- elements, and where an element is. Assumes nothing.
 use Prim.Native.Nat.{ℕ, zero, suc, _*_, _≤_, _<_}
 use native.Mathlib.Omega.{arith}
 use native.Mathlib.Nat.{mul-suc}
 use mathlib.Core.Path.{_≡_, refl, ap, ap₂, sym, subst, _∙_}
 use mathlib.Core.Bool.{Bool, true, false, _&&_, false≢true}
 use mathlib.Core.Logic.{_⊎_, inl, inr, ⊎-elim}
-use mathlib.Core.List.{List, [], _∷_, _++_, append-nil, map, flatMap, List·Memᴰ, List·Memᴰ·head, List·Memᴰ·tail, List·Memᴰ·not-nil, List·Memᴰ·cases-cons, List·Memᴰ·eq-of-singleton, List·Memᴰ·append-cases}
+use mathlib.Core.List.{List, [], _∷_, _++_, append-nil, map, flatMap, List·Memᴰ, List·Memᴰ·head, List·Memᴰ·tail}
+use mathlib.Core.List.{List·Memᴰ·not-nil, List·Memᴰ·cases-cons, List·Memᴰ·eq-of-singleton, List·Memᴰ·append-cases}
 use lib.ListN.{length, getD, set, take, length-append}
 use lib.Seq.{append-snoc}
 use lib.Dec.{eqb}
@@ -22,14 +23,16 @@ module _ {ℓ} {A : Type ℓ} where
   every-at f (x ∷ xs) d zero h p = and-left (f x) (every f xs) h
   every-at f (x ∷ xs) d (suc i) h p = every-at f xs d i (and-right (f x) (every f xs) h) (omega arith)
 
-  pub every-intro : (f : A → Bool) (l : List A) (d : A) → ((i : ℕ) → i < length l → f (getD l i d) ≡ true) → every f l ≡ true
+  pub every-intro : (f : A → Bool) (l : List A) (d : A) → ((i : ℕ) → i < length l → f (getD l i d) ≡ true) →
+      every f l ≡ true
   unfolding every
   every-intro f [] d h = refl
   every-intro f (x ∷ xs) d h =
       and-intro (f x) (every f xs) (h 0 (omega arith)) (every-intro f xs d (λ i p. h (suc i) (omega arith)))
 
   -- where `any` is true some element passes the test, and back
-  pub any-one : (f : A → Bool) (l : List A) (d : A) → any f l ≡ true → (i : ℕ) × (i < length l) × (f (getD l i d) ≡ true)
+  pub any-one : (f : A → Bool) (l : List A) (d : A) → any f l ≡ true → (i : ℕ) × (i < length l) ×
+      (f (getD l i d) ≡ true)
   unfolding any
   any-one f [] d h = absurd (false≢true h)
   any-one f (x ∷ xs) d h = at-head-or-later (or-cases (f x) (any f xs) h) (any-one f xs d)
@@ -71,13 +74,15 @@ take-map f (suc n) [] = refl
 take-map f (suc n) (x ∷ xs) = ap (λ t. f x ∷ t) (take-map f n xs)
 
 -- an element replaced in a mapped list
-pub map-set {ℓ ℓ′} : {A : Type ℓ} {B : Type ℓ′} (f : A → B) (l : List A) (i : ℕ) (a : A) → map f (set l i a) ≡ set (map f l) i (f a)
+pub map-set {ℓ ℓ′} : {A : Type ℓ} {B : Type ℓ′} (f : A → B) (l : List A) (i : ℕ) (a : A) →
+    map f (set l i a) ≡ set (map f l) i (f a)
 map-set f [] i a = refl
 map-set f (x ∷ xs) zero a = refl
 map-set f (x ∷ xs) (suc i) a = ap (λ t. f x ∷ t) (map-set f xs i a)
 
 -- a test of a mapped list
-pub every-map {ℓ ℓ′} : {A : Type ℓ} {B : Type ℓ′} (f : B → Bool) (g : A → B) (l : List A) → every f (map g l) ≡ every (λ a. f (g a)) l
+pub every-map {ℓ ℓ′} : {A : Type ℓ} {B : Type ℓ′} (f : B → Bool) (g : A → B) (l : List A) →
+    every f (map g l) ≡ every (λ a. f (g a)) l
 unfolding every
 every-map f g [] = refl
 every-map f g (x ∷ xs) = ap (λ (b : Bool). f (g x) && b) (every-map f g xs)
@@ -99,7 +104,8 @@ same-refl (x ∷ xs) = and-intro (eqb x x) (same xs xs) (eq-eqb x x refl) (same-
 pub equal-same : (xs ys : List ℕ) → xs ≡ ys → same xs ys ≡ true
 equal-same xs ys e = rw e (same-refl ys)
 
--- lists of numbers made of the elements of l, in the second by way of k, are the same where the two numbers of each element are equal
+-- lists of numbers made of the elements of l, in the second by way of k, are the same where the two numbers of each
+-- element are equal
 pub same-map {ℓ ℓ′} : {A : Type ℓ} {B : Type ℓ′} (f : A → ℕ) (g : B → ℕ) (k : A → B) (l : List A) →
     same (map f l) (map g (map k l)) ≡ every (λ a. eqb (f a) (g (k a))) l
 unfolding same every
@@ -112,7 +118,8 @@ unfolding member any
 member-in n [] h = absurd (false≢true h)
 member-in n (x ∷ xs) h = at-head-or-later (or-cases (eqb n x) (member n xs) h) (member-in n xs)
   where
-    at-head-or-later : (eqb n x ≡ true) ⊎ (member n xs ≡ true) → (member n xs ≡ true → List·Memᴰ n xs) → List·Memᴰ n (x ∷ xs)
+    at-head-or-later : (eqb n x ≡ true) ⊎ (member n xs ≡ true) → (member n xs ≡ true → List·Memᴰ n xs) →
+        List·Memᴰ n (x ∷ xs)
     at-head-or-later (inl e) later = List·Memᴰ·head (eqb-true n x e)
     at-head-or-later (inr e) later = List·Memᴰ·tail (later e)
 
@@ -134,7 +141,8 @@ in-or-not k ks = by-test (either (member k ks))
     by-test (inr e) = inr (λ m. false≢true (sym e ∙ in-member k ks m))
 
 -- a list with an element in it splits there
-pub split-in {ℓ} : {A : Type ℓ} {a : A} {l : List A} → List·Memᴰ a l → (front : List A) × (back : List A) × (l ≡ front ++ a ∷ back)
+pub split-in {ℓ} : {A : Type ℓ} {a : A} {l : List A} → List·Memᴰ a l → (front : List A) × (back : List A) ×
+    (l ≡ front ++ a ∷ back)
 split-in (List·Memᴰ·head {xs = xs} e) = ([], xs, ap (λ x. x ∷ xs) (sym e))
 split-in (List·Memᴰ·tail {x = x} m) = let (front, back, e) = split-in m in (x ∷ front, back, ap (λ l. x ∷ l) e)
 
@@ -144,11 +152,13 @@ module _
     (P : ℕ → Type 0)
     (step : (front back : List ℕ) (k : ℕ) → ks ≡ front ++ k ∷ back → ((i : ℕ) → List·Memᴰ i front → P i) → P k) where
   -- from a front of which it holds already, it goes on along what is left of the list
-  along-from : (back front : List ℕ) → ks ≡ front ++ back → ((i : ℕ) → List·Memᴰ i front → P i) → (i : ℕ) → List·Memᴰ i ks → P i
+  along-from : (back front : List ℕ) → ks ≡ front ++ back → ((i : ℕ) → List·Memᴰ i front → P i) → (i : ℕ) →
+      List·Memᴰ i ks → P i
   along-from [] front e before = λ i m. before i (rw (e, append-nil) at m)
   along-from (k ∷ back) front e before =
       along-from back (front ++ (k ∷ [])) (e ∙ sym (append-snoc front k back)) (λ j n.
-      ⊎-elim (before j) (λ o. subst P (sym (List·Memᴰ·eq-of-singleton o)) (step front back k e before)) (List·Memᴰ·append-cases front n))
+      ⊎-elim (before j) (λ o. subst P (sym (List·Memᴰ·eq-of-singleton o)) (step front back k e before))
+      (List·Memᴰ·append-cases front n))
 
   -- from the empty front on
   pub along : (i : ℕ) → List·Memᴰ i ks → P i
@@ -156,7 +166,8 @@ module _
 
 -- lists of at most n numbers for each element of a list are together at most n times as long as it
 pub flatMap-few :
-    {A : Type 0} (f : A → List ℕ) (l : List A) (d : A) (n : ℕ) → ((i : ℕ) → i < length l → length (f (getD l i d)) ≤ n) →
+    {A : Type 0} (f : A → List ℕ) (l : List A) (d : A) (n : ℕ) →
+    ((i : ℕ) → i < length l → length (f (getD l i d)) ≤ n) →
     length (flatMap f l) ≤ n * length l
 unfolding flatMap
 flatMap-few f [] d n few = omega arith

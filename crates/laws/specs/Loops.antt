@@ -1,5 +1,5 @@
--- A loop over a list, by its index i: what a fold or a test comes to over the elements before i, and what a test comes to over those from i on. Each
--- law is a loop's turn, or its end. Assumes nothing.
+-- A loop over a list, by its index i: what a fold or a test comes to over the elements before i, and what a test comes
+-- to over those from i on. Each law is a loop's turn, or its end. Assumes nothing.
 use Prim.Native.Nat.{ℕ, _+_, _≤_, _<_}
 use native.Mathlib.Numerals.{add-one}
 use mathlib.Core.Path.{_≡_}
@@ -11,7 +11,8 @@ use Rattle.machine.specs.Lists.{every, any}
 use Rattle.laws.specs.Bools.{or-false-left, or-false-right}
 
 -- a fold over the elements before i, one element further
-pub foldl-further {ℓ ℓ′} : {A : Type ℓ} {B : Type ℓ′} (f : B → A → B) (b : B) (l : List A) (i : ℕ) (d : A) → i < length l →
+pub foldl-further {ℓ ℓ′} : {A : Type ℓ} {B : Type ℓ′} (f : B → A → B) (b : B) (l : List A) (i : ℕ) (d : A) →
+    i < length l →
     foldl f b (take (i + 1) l) ≡ f (foldl f b (take i l)) (getD l i d)
 foldl-further f b l i d h = rw (add-one i, take-suc l i d h) (foldl-append f b (take i l) (getD l i d ∷ []))
 
@@ -20,7 +21,8 @@ module _ {ℓ} {A : Type ℓ} (f : A → Bool) where
   any-added : (l : List A) (a : A) → any f l ≡ false → f a ≡ false → any f (l ++ (a ∷ [])) ≡ false
   unfolding any
   any-added [] a none more = rw more
-  any-added (x ∷ xs) a none more = rw (or-false-left (f x) (any f xs) none) (any-added xs a (or-false-right (f x) (any f xs) none) more)
+  any-added (x ∷ xs) a none more =
+      rw (or-false-left (f x) (any f xs) none) (any-added xs a (or-false-right (f x) (any f xs) none) more)
 
   -- the same of the elements before i, one element further
   pub any-further :
@@ -28,12 +30,13 @@ module _ {ℓ} {A : Type ℓ} (f : A → Bool) where
       any f (take (i + 1) l) ≡ false
   any-further l i d h none more = rw (add-one i, take-suc l i d h) (any-added (take i l) (getD l i d) none more)
 
-  -- all elements from i on pass the test where the element i does and those behind it
-  pub every-on : (l : List A) (i : ℕ) (d : A) → i < length l → every f (drop i l) ≡ (f (getD l i d) && every f (drop (i + 1) l))
+  -- all elements from i on pass the test where the element i does and those after it
+  pub every-on : (l : List A) (i : ℕ) (d : A) → i < length l →
+      every f (drop i l) ≡ (f (getD l i d) && every f (drop (i + 1) l))
   unfolding every
   every-on l i d h = rw (drop-cons l i d h, add-one)
 
-  -- behind the last element all do
+  -- after the last element all do
   pub every-end : (l : List A) (i : ℕ) → length l ≤ i → every f (drop i l) ≡ true
   unfolding every
   every-end l i h = rw (drop-of-length-le l h)

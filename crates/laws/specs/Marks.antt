@@ -19,7 +19,8 @@ cleared marks [] = marks
 cleared marks (k ∷ ks) = cleared (set marks k false) ks
 
 -- one number more is cleared
-pub cleared-added : (marks : List Bool) (ks : List ℕ) (k : ℕ) → cleared marks (ks ++ (k ∷ [])) ≡ set (cleared marks ks) k false
+pub cleared-added : (marks : List Bool) (ks : List ℕ) (k : ℕ) →
+    cleared marks (ks ++ (k ∷ [])) ≡ set (cleared marks ks) k false
 unfolding cleared
 cleared-added marks [] k = refl
 cleared-added marks (j ∷ ks) k = cleared-added (set marks j false) ks k
@@ -51,7 +52,8 @@ marked-before (b ∷ marks) (suc k) zero e = e
 marked-before (b ∷ marks) (suc k) (suc j) e = marked-before marks k j e
 
 -- a number that is not in the list keeps its mark
-pub cleared-other : (ks : List ℕ) (marks : List Bool) (j : ℕ) → (List·Memᴰ j ks → ⊥) → getD (cleared marks ks) j false ≡ getD marks j false
+pub cleared-other : (ks : List ℕ) (marks : List Bool) (j : ℕ) → (List·Memᴰ j ks → ⊥) →
+    getD (cleared marks ks) j false ≡ getD marks j false
 unfolding cleared
 cleared-other [] marks j out = refl
 cleared-other (k ∷ ks) marks j out =
@@ -59,7 +61,8 @@ cleared-other (k ∷ ks) marks j out =
     getD-set-other marks k j false false (λ e. out (List·Memᴰ·head e))
 
 -- a mark that is left was there before
-pub cleared-marked : (ks : List ℕ) (marks : List Bool) (j : ℕ) → getD (cleared marks ks) j false ≡ true → getD marks j false ≡ true
+pub cleared-marked : (ks : List ℕ) (marks : List Bool) (j : ℕ) → getD (cleared marks ks) j false ≡ true →
+    getD marks j false ≡ true
 unfolding cleared
 cleared-marked [] marks j e = e
 cleared-marked (k ∷ ks) marks j e = marked-before marks k j (cleared-marked ks (set marks k false) j e)

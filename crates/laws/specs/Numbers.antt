@@ -1,7 +1,8 @@
 -- Laws of numbers that are not in the library: of two numbers, and of division. Assumes nothing.
 use Prim.Native.Nat.{ℕ, zero, suc, _+_, _*_, _/_, _≤_, _<_, min, max}
 use native.Mathlib.Omega.{arith}
-use native.Mathlib.Nat.{le-div-iff-mul-le, div-lt-iff-lt-mul, lt-div-mul-add, div-mul-le-self, div-zero, le-mul-of-pos-right, le-trans}
+use native.Mathlib.Nat.{le-div-iff-mul-le, div-lt-iff-lt-mul, lt-div-mul-add, div-mul-le-self, div-zero}
+use native.Mathlib.Nat.{le-mul-of-pos-right, le-trans}
 use mathlib.Core.Path.{_≡_}
 use mathlib.Core.Bool.{true, false, not, _&&_}
 use mathlib.Core.Logic.{_⊎_, inl, inr, ⊎-elim, ⊎-map}
@@ -33,7 +34,8 @@ not-ltb a b = by-test (either (ltb a b))
 pub and-leb : (a b p : ℕ) → (leb a p && leb b p) ≡ leb (max a b) p
 and-leb a b p = by-test (either (leb a p)) (either (leb b p))
   where
-    by-test : (leb a p ≡ true) ⊎ (leb a p ≡ false) → (leb b p ≡ true) ⊎ (leb b p ≡ false) → (leb a p && leb b p) ≡ leb (max a b) p
+    by-test : (leb a p ≡ true) ⊎ (leb a p ≡ false) → (leb b p ≡ true) ⊎ (leb b p ≡ false) →
+        (leb a p && leb b p) ≡ leb (max a b) p
     by-test (inl t) (inl u) = rw (t, u, le-leb (max a b) p (omega (arith, leb-true a p t, leb-true b p u)))
     by-test (inl t) (inr u) = rw (t, u, lt-leb (max a b) p (omega (arith, leb-false b p u)))
     by-test (inr t) other = rw (t, lt-leb (max a b) p (omega (arith, leb-false a p t)))

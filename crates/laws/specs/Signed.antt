@@ -1,6 +1,7 @@
--- Laws of signed numbers: what the code's tests show of one, differences, the absolute values of sums and products, which numbers fit a word, and what values
--- and clamping are by these. A signed number is `pos n` or `negsuc n`, which is −(n + 1), so each law goes by cases on these, and a bound on it is a
--- bound on its absolute value, `natAbs`. Assumes nothing.
+-- Laws of signed numbers: what the code's tests show of one, differences, the absolute values of sums and products,
+-- which numbers fit a word, and what values and clamping are by these. A signed number is `pos n` or `negsuc n`, which
+-- is −(n + 1), so each law goes by cases on these, and a bound on it is a bound on its absolute value, `natAbs`.
+-- Assumes nothing.
 use Prim.Native.Nat.{ℕ, zero, suc, _+_, _-_, _*_, _^_, _≤_, _<_, min}
 use native.Mathlib.Nat.{mul-le-mul, le-trans, le-of-eq}
 use native.Mathlib.Omega.{arith}
@@ -80,7 +81,8 @@ product-absolute (negsuc a) (pos b) = negated-absolute (suc a * b)
 product-absolute (negsuc a) (negsuc b) = refl
 
 -- the product of two numbers of absolute value at most 10^9 has one of at most 10^18
-pub product-most : (a b : ℤ) → natAbs a ≤ largest-value → natAbs b ≤ largest-value → natAbs (a *ℤ b) ≤ 1_000_000_000_000_000_000
+pub product-most : (a b : ℤ) → natAbs a ≤ largest-value → natAbs b ≤ largest-value →
+    natAbs (a *ℤ b) ≤ 1_000_000_000_000_000_000
 product-most a b ha hb = le-trans (le-of-eq (product-absolute a b)) (mul-le-mul ha hb)
 
 -- a number fits a signed word of any width whose half its absolute value is below

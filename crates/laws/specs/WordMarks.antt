@@ -1,5 +1,6 @@
--- The marks of a word: its binary digits as a list of Bools, lowest first; how trailing zeros find the first one, and what clearing one by subtraction
--- comes to. Every law is over the width, the number of digits, by induction on it with a split on the lowest digit. Assumes nothing.
+-- The marks of a word: its binary digits as a list of Bools, lowest first; how trailing zeros find the first one, and
+-- what clearing one by subtraction comes to. Every law is over the width, the number of digits, by induction on it with
+-- a split on the lowest digit. Assumes nothing.
 use Prim.Native.Nat.{ℕ, zero, suc, _-_, _*_, _/_, _%_, _^_, _≤_, _<_}
 use native.Mathlib.Omega.{arith}
 use native.Mathlib.Nat.{pow-suc, mul-comm, one-mul, div-one, div-div-eq-div-mul}
@@ -26,7 +27,7 @@ unfolding marks-of
 length-marks zero w = refl
 length-marks (suc n) w = ap suc (length-marks n (w / 2))
 
--- behind the last digit there is no mark
+-- after the last digit there is no mark
 pub none-behind : (n w k : ℕ) → n ≤ k → getD (marks-of n w) k false ≡ false
 none-behind n w k p = List·getD-eq-default (marks-of n w) false {n = k} (rw length-marks p)
 
@@ -42,7 +43,7 @@ mark-at zero w k p = absurd (omega arith)
 mark-at (suc n) w zero p = rw div-one
 mark-at (suc n) w (suc k) p = rw (pow-suc, mul-comm, ← div-div-eq-div-mul) (mark-at n (w / 2) k (omega arith))
 
--- the first mark of a list stands at t
+-- the first mark of a list is at t
 pub record FirstMark (marks : List Bool) (t : ℕ) : Type 0 where
   pub marked : getD marks t false ≡ true
   pub before : (j : ℕ) → j < t → getD marks j false ≡ false

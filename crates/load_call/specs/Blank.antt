@@ -1,4 +1,5 @@
--- The struct that a refused load answers with: "'No model' is a model of no parts with all else 0", in all of its places. Assumes nothing.
+-- The struct that a refused load answers with: "'No model' is a model of no parts with all else 0", in all of its
+-- places. Assumes nothing.
 use Prim.Native.Nat.{ℕ}
 use mathlib.Core.Path.{_≡_, refl}
 use lib.ListN.{replicate}
@@ -22,7 +23,13 @@ blank-place =
 -- a model with all of it 0
 unfoldable pub blank-model : Model
 blank-model =
-    record { magnitude = 0; count = 0; order = replicate most-parts 0; point = start; parts = replicate most-parts blank-place }
+    record {
+      magnitude = 0;
+      count = 0;
+      order = replicate most-parts 0;
+      point = start;
+      parts = replicate most-parts blank-place;
+    }
 
 -- a refusal with it
 unfoldable pub refused-blank : (number at : ℕ) → Loaded

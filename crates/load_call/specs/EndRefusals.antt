@@ -24,22 +24,25 @@ use Rattle.step_parts.specs.Start.{unfilled}
 use Rattle.load_table.specs.declared.table.TableRead.{TableRead}
 use Rattle.load_table.specs.Concluded.{Ended, concluded, end-loaded, table-read}
 use Rattle.load_call.specs.declared.ending.Ending.{Ending}
-use Rattle.load_call.specs.FirstPlaces.{components-read, components-count, periods-within, periods-by, first-by, first-parts-by}
+use Rattle.load_call.specs.FirstPlaces.{components-read, components-count, periods-within, periods-by, first-by}
+use Rattle.load_call.specs.FirstPlaces.{first-parts-by}
 
 -- the largest number that a usize holds
 abbrev pub last-position : ℕ
 last-position = 18446744073709551615
 
--- "no parts", "some P above 10^18", "a loop exists", in this order, by how many parts there are, whether every P fits, and how many could be placed
+-- "no parts", "some P above 10^18", "a loop exists", in this order, by how many parts there are, whether every P fits,
+-- and how many could be placed
 unfoldable pub end-number : (count : ℕ) → Bool → (placed : ℕ) → ℕ
 end-number count fit placed = cond (eqb count 0) 9 (cond fit (cond (leb count placed) 0 11) 10)
 
--- places for a part order with this one in them, and 0 in those behind
+-- places for a part order with this one in them, and 0 in those after
 pub record OrderPlaces (order places : List ℕ) : Type 0 where
   pub first : take (length order) places ≡ order
   pub rest : drop (length order) places ≡ replicate (most-parts - length order) 0
 
--- what End comes to behind the table that was read: also where it is refused, the part order has all parts that could be placed
+-- what End comes to after the table that was read: also where it is refused, the part order has all parts that could be
+-- placed
 pub record Judged (read : TableRead) (r : Ending) : Type 0 where
   pub number : r .number ≡ end-refusal (table-read read)
   pub magnitude : r .magnitude ≡ magnitude-of (table-read read)
@@ -56,7 +59,8 @@ pub record Acceptable (read : TableRead) (e : Ending) : Type 0 where
   pub within : read .position < last-position
 
 -- what loading comes to where the table was refused before its End, where End refuses it, and where End accepts it
-pub refused-before : (read : TableRead) → (read .number ≡ 0 → ⊥) → concluded read ≡ refused (read .number) (read .position)
+pub refused-before : (read : TableRead) → (read .number ≡ 0 → ⊥) →
+    concluded read ≡ refused (read .number) (read .position)
 unfolding concluded
 refused-before read some = rw (ne-eqb (read .number) 0 some)
 
@@ -92,25 +96,31 @@ module _ (read : TableRead) (few : read .count ≤ length (read .parts)) where
   pub magnitude-small : Ended read → magnitude-of (table-read read) ≤ last-magnitude
   unfolding magnitude-known table-read
   magnitude-small e =
-      let fit = all-every (ComponentFits (read .count)) (component-fits (read .count)) (table-read read .parts) (component-test (read .count)) (e .components) in
-      leb-true (magnitude-of (table-read read)) last-magnitude (known-there (read .count) (table-read read) (e .magnitude) fit)
+      let fit = all-every (ComponentFits (read .count)) (component-fits (read .count)) (table-read read .parts)
+      (component-test (read .count)) (e .components) in
+      leb-true (magnitude-of (table-read read)) last-magnitude
+      (known-there (read .count) (table-read read) (e .magnitude) fit)
 
   -- the number found by the tests of its places is its refusal
   pub judged-number :
       (magnitude : ℕ) (fit : Bool) (placed : Placed) (number : ℕ) → magnitude ≡ magnitude-of (table-read read) →
-      fit ≡ periods-within magnitude (components-read (read .count) (read .parts)) → InOrder (read .parts) (read .count) placed →
+      fit ≡ periods-within magnitude (components-read (read .count) (read .parts)) →
+      InOrder (read .parts) (read .count) placed →
       number ≡ end-number (read .count) fit (placed .count) → number ≡ end-refusal (table-read read)
   unfolding table-read components-read
   judged-number magnitude fit placed number m f p n =
       let periods : fit ≡ periods-fit (table-read read) =
       f ∙ ap (λ (e : ℕ). periods-within e (table-read read .parts)) m ∙ sym (periods-by (table-read read)) in
-      let orders : placed .count ≡ length (part-order (table-read read .parts)) = p .counted ∙ ap length (sym read-order) in
+      let orders : placed .count ≡ length (part-order (table-read read .parts)) = p .counted ∙
+      ap length (sym read-order) in
       n ∙ rw (end-by (table-read read), read-count, periods, orders)
 
   -- the parts that could be placed are in its part order
-  pub judged-places : (placed : Placed) → InOrder (read .parts) (read .count) placed → OrderPlaces (part-order (table-read read .parts)) (placed .order)
+  pub judged-places : (placed : Placed) → InOrder (read .parts) (read .count) placed →
+      OrderPlaces (part-order (table-read read .parts)) (placed .order)
   judged-places placed p =
-      let counted : length (part-order (table-read read .parts)) ≡ placed .count = ap length read-order ∙ sym (p .counted) in
+      let counted : length (part-order (table-read read .parts)) ≡ placed .count = ap length read-order ∙
+      sym (p .counted) in
       record { first = rw counted (p .is ∙ sym read-order); rest = rw counted (p .rest) }
 
   -- where it is not refused, all parts are placed, in its part order
@@ -146,7 +156,8 @@ module _ (read : TableRead) (few : read .count ≤ length (read .parts)) where
   -- the model of its first parts, in its part order, is that of the table before its start point is filled
   pub unfilled-is :
       (e : Ending) (first : List Part) → Acceptable read e →
-      map trimmed-part (take (read .count) first) ≡ map (first-by (e .magnitude)) (components-read (read .count) (read .parts)) →
+      map trimmed-part (take (read .count) first) ≡
+      map (first-by (e .magnitude)) (components-read (read .count) (read .parts)) →
       _≡_ {A = Model}
       (record {
         magnitude = read .magnitude;
@@ -161,7 +172,8 @@ module _ (read : TableRead) (few : read .count ≤ length (read .parts)) where
 
   -- so a table that was read and is not refused can be accepted
   pub acceptable :
-      (r : Ending) → Ended read → read .number ≡ 0 → (concluded read .number ≡ 0 → concluded read .position ≤ last-position) → Judged read r →
+      (r : Ending) → Ended read → read .number ≡ 0 →
+      (concluded read .number ≡ 0 → concluded read .position ≤ last-position) → Judged read r →
       r .number ≡ 0 → Acceptable read r
   unfolding accepted
   acceptable r e ended within j none =

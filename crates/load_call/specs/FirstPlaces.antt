@@ -1,5 +1,5 @@
--- A table whose components stand in the first places of an array: its components and their preferences one by one, as a loop meets them; its periods;
--- and its first parts. Assumes nothing.
+-- A table whose components are in the first places of an array: its components and their preferences one by one, as a
+-- loop meets them; its periods; and its first parts. Assumes nothing.
 use Prim.Native.Nat.{ℕ, _+_, _*_, _≤_, _<_}
 use native.Mathlib.Omega.{arith}
 use mathlib.Core.Path.{_≡_, refl, sym, ap, _∙_}
@@ -40,9 +40,10 @@ periods-within magnitude cs = every (λ (c : Component). leb (c .p * ratio-of ma
 unfoldable pub first-by : ℕ → Component → Part
 first-by magnitude c = record { component = c; ratio = ratio-of magnitude (c .preference); state = first-state c }
 
--- the places for parts with the first parts of the first `count` components in them; those behind are blank
+-- the places for parts with the first parts of the first `count` components in them; those after are blank
 unfoldable pub first-places : (magnitude count : ℕ) → List Component → List Part
-first-places magnitude count parts = map (first-by magnitude) (take count parts) ++ drop count (replicate most-parts blank-place)
+first-places magnitude count parts =
+    map (first-by magnitude) (take count parts) ++ drop count (replicate most-parts blank-place)
 
 -- by a table's own magnitude these are the machine's
 pub periods-by : (t : Table) → periods-fit t ≡ periods-within (magnitude-of t) (t .parts)
@@ -64,7 +65,8 @@ module _ (count : ℕ) (parts : List Component) (few : count ≤ length parts) w
   preferences-count = length-map (components-read count parts) (λ (c : Component). c .preference) ∙ components-count
 
   -- each component is that of its place
-  component-in : (i : ℕ) → i < count → component-at (components-read count parts) i ≡ trimmed-component (component-at parts i)
+  component-in : (i : ℕ) → i < count →
+      component-at (components-read count parts) i ≡ trimmed-component (component-at parts i)
   unfolding components-read
   component-in i h = mapped-at trimmed-component count parts i blank-component blank-component h few
 
@@ -86,7 +88,7 @@ module _ (count : ℕ) (parts : List Component) (few : count ≤ length parts) w
       magnitude-on e (preferences-read count parts) i within ∙
       ap (λ (q : ℕ). master-magnitude (larger e q) (drop (i + 1) (preferences-read count parts))) (preference-in i h)
 
-  -- a loop's turn: the test of the periods from i on asks that of place i and those behind it
+  -- a loop's turn: the test of the periods from i on asks that of place i and those after it
   pub periods-on :
       (magnitude i : ℕ) → i < count →
       periods-within magnitude (drop i (components-read count parts)) ≡
@@ -98,16 +100,19 @@ module _ (count : ℕ) (parts : List Component) (few : count ≤ length parts) w
       every-on _ (components-read count parts) i blank-component within ∙ rw (component-in i h)
 
   -- and its end: all fit
-  pub periods-end : (magnitude i : ℕ) → count ≤ i → periods-within magnitude (drop i (components-read count parts)) ≡ true
+  pub periods-end : (magnitude i : ℕ) → count ≤ i → periods-within magnitude (drop i (components-read count parts)) ≡
+      true
   unfolding periods-within
   periods-end magnitude i h =
       let past : length (components-read count parts) ≤ i = omega (arith, components-count) in
       every-end _ (components-read count parts) i past
 
   -- the first parts of the places are those of the components
-  pub first-stored : (magnitude : ℕ) → map trimmed-part (take count (first-places magnitude count parts)) ≡ map (first-by magnitude) (components-read count parts)
+  pub first-stored : (magnitude : ℕ) → map trimmed-part (take count (first-places magnitude count parts)) ≡
+      map (first-by magnitude) (components-read count parts)
   unfolding first-places components-read trimmed-part first-by trimmed-component first-state
   first-stored magnitude =
       let front = take count parts in
-      ap (map trimmed-part) (mapped-front (first-by magnitude) count parts _ few) ∙ map-map trimmed-part (first-by magnitude) front ∙
+      ap (map trimmed-part) (mapped-front (first-by magnitude) count parts _ few) ∙
+      map-map trimmed-part (first-by magnitude) front ∙
       sym (map-map (first-by magnitude) trimmed-component front)

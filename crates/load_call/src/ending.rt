@@ -1,5 +1,6 @@
-// End: the refusals that it alone decides, in document 01's order, and the model of an accepted table. Its contracts cite `specs/EndRefusals.antt` and `specs/Blank.antt`, the machine's `specs/Load.antt`, and
-// `specs/Concluded.antt` of `table`.
+// End: the refusals that it alone decides, in document 01's order, and the model of an accepted table. Its contracts
+// cite `specs/EndRefusals.antt` and `specs/Blank.antt`, the machine's `specs/Load.antt`, and `specs/Concluded.antt` of
+// `table`.
 use crate::blank::refused;
 use crate::first::first_parts;
 use crate::ratios::master_magnitude;
@@ -25,7 +26,7 @@ ghost use Rattle.load_table.specs.Concluded.{Ended, concluded, table-read};
 ghost use Rattle.load_call.specs.Blank.{blank-model};
 ghost use Rattle.load_call.specs.EndRefusals.{Acceptable, Judged, end-number, last-position};
 
-// The refusal at an End behind `count` parts, by whether every P fits, and how many parts could be placed.
+// The refusal at an End after `count` parts, by whether every P fits, and how many parts could be placed.
 fn end_refusal(count: usize, fit: bool, placed: usize) -> u64
     ensures { λ r. ⌜ r ≡ end-number count fit placed ⌝ }
 {
@@ -42,7 +43,7 @@ struct Ending {
     order: [u16; PARTS],
 }
 
-// What End comes to behind the table that was read.
+// What End comes to after the table that was read.
 fn judged(read: TableRead) -> Ending
     requires { ⌜ Ended read ⌝ }
     ensures { λ r. ⌜ Judged read r ⌝ }
@@ -61,7 +62,8 @@ fn judged(read: TableRead) -> Ending
     }
 }
 
-// The model of a table that was read before its start point is filled, by the master's magnitude and the part order. Free are the bytes of unused places.
+// The model of a table that was read before its start point is filled, by the master's magnitude and the part order.
+// Free are the bytes of unused places.
 fn unfilled_model(read: TableRead, ending: Ending) -> Model
     requires { ⌜ Acceptable read ending ⌝ }
     ensures { λ r. ⌜ trimmed r ≡ unfilled (table-read read) ⌝ }
@@ -93,7 +95,8 @@ fn accept(read: TableRead, ending: Ending) -> Loaded
     }
 }
 
-// What loading comes to, by what reading the table came to. Free are the bytes of unused places of a model; of a refusal not even those are.
+// What loading comes to, by what reading the table came to. Free are the bytes of unused places of a model; of a
+// refusal not even those are.
 pub(crate) fn finished(read: TableRead) -> Loaded
     requires { ⌜ (read .number ≡ 0 → Ended read) ⌝ }
     requires { ⌜ (concluded read .number ≡ 0 → concluded read .position ≤ last-position) ⌝ }

@@ -1,5 +1,5 @@
-// The parts of a table before the start point is filled. Its contracts cite `specs/FirstPlaces.antt`, which goes by the machine's
-// `specs/Fresh.antt`.
+// The parts of a table before the start point is filled. Its contracts cite `specs/FirstPlaces.antt`, which goes by the
+// machine's `specs/Fresh.antt`.
 use crate::blank::blank_part;
 use machine::model::PARTS;
 use machine::part::Component;
@@ -55,7 +55,7 @@ fn first_part(c: Component, magnitude: u8) -> Part
     }
 }
 
-// The first parts of the first `count` components, by the master's magnitude. The places behind them are blank.
+// The first parts of the first `count` components, by the master's magnitude. The places after them are blank.
 pub(crate) fn first_parts(parts: [Component; PARTS], count: usize, magnitude: u8) -> [Part; PARTS]
     requires { ⌜ count ≤ most-parts ⌝ }
     requires { ⌜ magnitude ≤ last-magnitude ⌝ }

@@ -1,4 +1,4 @@
-// The master's magnitude of a table whose components stand in an array, and whether every P is within the time.
+// The master's magnitude of a table whose components are in an array, and whether every P is within the time.
 // Its contracts cite the machine's `specs/Table.antt`, and `specs/FirstPlaces.antt`.
 use machine::model::PARTS;
 use machine::part::Component;

@@ -1,5 +1,5 @@
--- Laws of a Span that is judged by the last part's count of spans and by its last span alone: beside the rows that hold that span, it is document 01's.
--- Assumes nothing.
+-- Laws of a Span that is judged by the last part's count of spans and by its last span alone: with the rows that hold
+-- that span, it is document 01's. Assumes nothing.
 use Prim.Native.Nat.{ℕ, _+_, _-_, _≤_, _<_}
 use native.Mathlib.Omega.{arith}
 use mathlib.Core.Path.{_≡_, ap}
@@ -20,10 +20,12 @@ span-stepped bs at progress last rows =
     unless-refused (span-number (span-count progress) last (word-at bs (at + 1))) at (at + 5)
     (spanned-reading (reading-of progress rows) (last-place progress) (word-at bs (at + 1)))
 
-module _ (progress : Progress) (rows : List (List ℕ)) (last : ℕ) (some : 0 < progress .count) (few : progress .count ≤ length (progress .parts))
+module _ (progress : Progress) (rows : List (List ℕ)) (last : ℕ) (some : 0 < progress .count)
+    (few : progress .count ≤ length (progress .parts))
     (beside : Beside progress rows last) where
   -- the refusal of a Span is the one by the last part's count and last span
-  refusal-as : (v : ℕ) → span-refusal (component-at (reading-of progress rows .table .parts) (last-place progress)) v ≡ span-number (span-count progress) last v
+  refusal-as : (v : ℕ) → span-refusal (component-at (reading-of progress rows .table .parts) (last-place progress)) v ≡
+      span-number (span-count progress) last v
   unfolding with-row span-refusal span-number last-span last-of
   refusal-as v =
       let k = last-place progress in
@@ -42,6 +44,7 @@ module _ (progress : Progress) (rows : List (List ℕ)) (last : ℕ) (some : 0 <
   last-as = ap (λ n. n - 1) (length-reading progress rows few)
 
   -- so that the Span is document 01's
-  pub span-beside-as : (bs : List ℕ) (at : ℕ) → span-stepped bs at progress last rows ≡ span-command bs at (reading-of progress rows)
+  pub span-beside-as : (bs : List ℕ) (at : ℕ) →
+      span-stepped bs at progress last rows ≡ span-command bs at (reading-of progress rows)
   unfolding span-stepped span-command spanned-reading
   span-beside-as bs at = rw (last-as, refusal-as (word-at bs (at + 1)))

@@ -1,4 +1,5 @@
--- What the step of a command means: document 01's turn of reading; and the whole of a step that is a refusal. Assumes nothing.
+-- What the step of a command means: document 01's turn of reading; and the whole of a step that is a refusal. Assumes
+-- nothing.
 use Prim.Native.Nat.{ℕ, _+_, _≤_, _<_}
 use mathlib.Core.Path.{_≡_, ap, refl}
 use mathlib.Core.Bool.{cond}
@@ -22,7 +23,7 @@ step-of rows at r = unless-refused (r .number) at (r .next) (reading-of (r .prog
 unfoldable pub uncut : List ℕ → (at width : ℕ) → Read → Read
 uncut bs at width r = cond (leb (at + width) (length bs)) r (ended (refused cut-number at))
 
--- a refusal of the command at a position: nothing was read behind it, and the progress is as it was
+-- a refusal of the command at a position: nothing was read after it, and the progress is as it was
 abbrev pub refused-step : (number at : ℕ) → Progress → CommandResult
 refused-step number at progress = record { number = number; next = at; progress = progress }
 
@@ -46,21 +47,29 @@ module _ (r : CommandResult) (n at : ℕ) (progress : Progress) (is : r ≡ refu
   refused-left few = rw is (record { few = few; refused = λ some. refl })
 
   -- it is document 01's refusal with this number
-  pub refused-as : (rows : List (List ℕ)) (m next : ℕ) (rd : Reading) → (n ≡ 0 → ⊥) → n ≡ m → step-of rows at r ≡ unless-refused m at next rd
+  pub refused-as : (rows : List (List ℕ)) (m next : ℕ) (rd : Reading) → (n ≡ 0 → ⊥) → n ≡ m →
+      step-of rows at r ≡ unless-refused m at next rd
   unfolding step-of
   refused-as rows m next rd some same = rw (is, ← same, ne-eqb n 0 some)
 
   -- and document 01's cut command, where the stream ends inside it
-  pub cut-as : (bs : List ℕ) (width : ℕ) (rows : List (List ℕ)) (x : Read) → n ≡ cut-number → length bs < at + width → step-of rows at r ≡ uncut bs at width x
+  pub cut-as : (bs : List ℕ) (width : ℕ) (rows : List (List ℕ)) (x : Read) → n ≡ cut-number → length bs < at + width →
+      step-of rows at r ≡ uncut bs at width x
   unfolding step-of uncut
   cut-as bs width rows x same short = rw (is, same, lt-leb (at + width) (length bs) short)
 
 -- a Span whose step leaves that leaves it too, with no span
-pub span-refused-left : (r : CommandResult) (at : ℕ) (progress : Progress) → StepLeft at progress r → SpanLeft at progress (record { span = 0; step = r })
+pub span-refused-left : (r : CommandResult) (at : ℕ) (progress : Progress) → StepLeft at progress r →
+    SpanLeft at progress (record { span = 0; step = r })
 span-refused-left r at progress left =
-    record { few = left .few; refused = λ some. ap (λ (x : CommandResult). record { span = 0; step = x }) (left .refused some) }
+    record {
+      few = left .few;
+      refused =
+          λ some. ap (λ (x : CommandResult). record { span = 0; step = x }) (left .refused some);
+    }
 
--- a refusal comes to the same beside any rows
-pub refused-beside : (r : CommandResult) (at : ℕ) (rows others : List (List ℕ)) → (r .number ≡ 0 → ⊥) → step-of rows at r ≡ step-of others at r
+-- a refusal comes to the same with any rows
+pub refused-beside : (r : CommandResult) (at : ℕ) (rows others : List (List ℕ)) → (r .number ≡ 0 → ⊥) →
+    step-of rows at r ≡ step-of others at r
 unfolding step-of
 refused-beside r at rows others some = rw (ne-eqb (r .number) 0 some)

@@ -1,4 +1,5 @@
--- The component that a Part's operands make, as document 01 reads it, and as it stands in the parts with its eight places for spans. Assumes nothing.
+-- The component that a Part's operands make, as document 01 reads it, and as it is in the parts with its eight places
+-- for spans. Assumes nothing.
 use mathlib.Core.List.{[]}
 use lib.ListN.{replicate}
 use Rattle.machine.specs.declared.part.Source.the-variants.{Unwired}

@@ -1,4 +1,4 @@
--- What a progress and the rows of spans beside it mean: document 01's table as far as it has been read. Assumes nothing.
+-- What a progress and the rows of spans with it mean: document 01's table as far as it has been read. Assumes nothing.
 use Prim.Native.Nat.{ℕ}
 use mathlib.Core.List.{List, [], _∷_}
 use lib.ListN.{take}
@@ -33,5 +33,8 @@ reading-of progress rows =
     record {
       begun = progress .begun;
       spannable = progress .spannable;
-      table = record { magnitude = progress .magnitude; parts = joined (take (progress .count) (progress .parts)) rows };
+      table = record {
+        magnitude = progress .magnitude;
+        parts = joined (take (progress .count) (progress .parts)) rows;
+      };
     }

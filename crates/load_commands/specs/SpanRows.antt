@@ -1,4 +1,5 @@
--- Laws of components with their rows of spans: how many they are, which stands where, one more, and one replaced. Assumes nothing.
+-- Laws of components with their rows of spans: how many they are, which is where, one more, and one replaced. Assumes
+-- nothing.
 use Prim.Native.Nat.{ℕ, zero, suc, _<_, _≤_}
 use native.Mathlib.Omega.{arith}
 use mathlib.Core.Path.{_≡_, refl, ap, _∙_}
@@ -35,13 +36,16 @@ joined-at (c ∷ cs) (row ∷ rows) zero here = refl
 joined-at (c ∷ cs) (row ∷ rows) (suc k) here = joined-at cs rows k (omega arith)
 
 -- the part k of the reading is the progress's own, with its row
-pub reading-at : (progress : Progress) (rows : List (List ℕ)) (k : ℕ) → k < progress .count → progress .count ≤ length (progress .parts) →
-    component-at (reading-of progress rows .table .parts) k ≡ with-row (component-at (progress .parts) k) (getD rows k [])
+pub reading-at : (progress : Progress) (rows : List (List ℕ)) (k : ℕ) → k < progress .count →
+    progress .count ≤ length (progress .parts) →
+    component-at (reading-of progress rows .table .parts) k ≡
+    with-row (component-at (progress .parts) k) (getD rows k [])
 unfolding reading-of
 reading-at progress rows k here few =
     let front = take (progress .count) (progress .parts) in
     let inside : k < length front = rw length-take (omega arith) in
-    joined-at front rows k inside ∙ ap (λ c. with-row c (getD rows k [])) (getD-take (progress .count) (progress .parts) k blank-component here)
+    joined-at front rows k inside ∙
+    ap (λ c. with-row c (getD rows k [])) (getD-take (progress .count) (progress .parts) k blank-component here)
 
 -- one component more
 pub joined-added : (cs : List Component) (c : Component) (rows : List (List ℕ)) →
@@ -63,10 +67,12 @@ joined-set (x ∷ xs) (row ∷ rows) zero c = refl
 joined-set (x ∷ xs) (row ∷ rows) (suc k) c = ap (λ l. with-row x row ∷ l) (joined-set xs rows k c)
 
 -- a component replaced with its row
-pub joined-set-row : (cs : List Component) (rows : List (List ℕ)) (k : ℕ) (c : Component) (row : List ℕ) → k < length rows →
+pub joined-set-row : (cs : List Component) (rows : List (List ℕ)) (k : ℕ) (c : Component) (row : List ℕ) →
+    k < length rows →
     joined (set cs k c) (set rows k row) ≡ set (joined cs rows) k (with-row c row)
 unfolding joined
 joined-set-row [] rows k c row here = refl
 joined-set-row (x ∷ xs) [] k c row here = absurd (omega arith)
 joined-set-row (x ∷ xs) (first ∷ rows) zero c row here = refl
-joined-set-row (x ∷ xs) (first ∷ rows) (suc k) c row here = ap (λ l. with-row x first ∷ l) (joined-set-row xs rows k c row (omega arith))
+joined-set-row (x ∷ xs) (first ∷ rows) (suc k) c row here =
+    ap (λ l. with-row x first ∷ l) (joined-set-row xs rows k c row (omega arith))

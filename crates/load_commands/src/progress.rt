@@ -1,5 +1,5 @@
-// The table as far as it has been read. Spans stand in rows of their own, beside the progress, until End is reached; a component
-// counts its spans. Its contracts cite `specs/Progress.antt`.
+// The table as far as it has been read. Spans are in rows of their own, apart from the progress, until End is reached;
+// a component counts its spans. Its contracts cite `specs/Progress.antt`.
 use load_operands::cursor::signed_of;
 use load_operands::operands::PartOperands;
 use load_operands::refusal::port_refusal;
@@ -19,8 +19,9 @@ ghost use Rattle.load_commands.specs.Progress.{reading-of};
 ghost use Rattle.load_commands.specs.Wired.{wired-reading};
 ghost use Rattle.load_commands.specs.ComponentMade.{component-of, made-component};
 
-// Whether Begin was read, whether a span may follow, the default magnitude, and the parts: the first `count` places are in use. Free in every progress
-// that is answered: the places behind them, and a component's own places for spans, which its row stands for.
+// Whether Begin was read, whether a span may follow, the default magnitude, and the parts: the first `count` places are
+// in use. Free in every progress that is answered: the places after them, and a component's own places for spans, which
+// its row means.
 pub struct Progress {
     pub begun: bool,
     pub spannable: bool,
@@ -53,7 +54,8 @@ fn component_of(o: PartOperands) -> Component
 // The progress with one part more.
 pub(crate) fn with_part(progress: Progress, o: PartOperands) -> Progress
     requires { ⌜ progress .count < most-parts ⌝ }
-    ensures { λ r. ⌜ ((rows : List (List ℕ)) → reading-of r rows ≡ with-part (reading-of progress rows) (component-of o)) ⌝ }
+    ensures { λ r. ⌜ ((rows : List (List ℕ)) →
+        reading-of r rows ≡ with-part (reading-of progress rows) (component-of o)) ⌝ }
     ensures few { λ r. ⌜ r .count ≤ most-parts ⌝ }
 {
     let made = component_of(o);
@@ -70,7 +72,7 @@ pub(crate) fn with_part(progress: Progress, o: PartOperands) -> Progress
     }
 }
 
-// The progress behind a Begin with this magnitude.
+// The progress after a Begin with this magnitude.
 pub(crate) fn with_begin(progress: Progress, e: u8) -> Progress
     ensures { λ r. ⌜ ((rows : List (List ℕ)) → reading-of r rows ≡ begun-with e) ⌝ }
     ensures few { λ r. ⌜ r .count ≤ most-parts ⌝ }
@@ -123,7 +125,8 @@ fn wired_component(c: Component, port: u8, source: u8) -> Component
 // The progress with a port of the part `receiver` wired to a source.
 pub(crate) fn with_wire(progress: Progress, receiver: usize, port: u8, source: u8) -> Progress
     requires { ⌜ (receiver < progress .count) × (progress .count ≤ most-parts) ⌝ }
-    ensures { λ r. ⌜ ((rows : List (List ℕ)) → reading-of r rows ≡ wired-reading (reading-of progress rows) receiver port source) ⌝ }
+    ensures { λ r. ⌜ ((rows : List (List ℕ)) →
+        reading-of r rows ≡ wired-reading (reading-of progress rows) receiver port source) ⌝ }
     ensures few { λ r. ⌜ r .count ≤ most-parts ⌝ }
 {
     let c = progress.parts[receiver];
@@ -139,10 +142,11 @@ pub(crate) fn with_wire(progress: Progress, receiver: usize, port: u8, source: u
     }
 }
 
-// The refusal of a Wire behind this progress.
+// The refusal of a Wire after this progress.
 pub(crate) fn wire_refusal(progress: Progress, source: u8, receiver: u8, port: u8) -> u64
     requires { ⌜ progress .count ≤ most-parts ⌝ }
-    ensures { λ r. ⌜ ((rows : List (List ℕ)) → r ≡ wire-refusal (reading-of progress rows .table .parts) source receiver port) ⌝ }
+    ensures { λ r. ⌜ ((rows : List (List ℕ)) →
+        r ≡ wire-refusal (reading-of progress rows .table .parts) source receiver port) ⌝ }
 {
     let count = progress.count;
     if source as usize >= count {

@@ -35,9 +35,12 @@ pub fn last_span(row: [u32; SPANS], n: usize) -> u32
 
 // The progress with one span more counted at part k.
 pub(crate) fn with_span_counted(progress: Progress, k: usize) -> Progress
-    requires { ⌜ (k < progress .count) × (progress .count ≤ most-parts) × (component-at (progress .parts) k .«span_count» < 8) ⌝ }
-    ensures { λ r. ⌜ ((rows : List (List ℕ)) (v : ℕ) → k < length rows → component-at (progress .parts) k .«span_count» < length (getD rows k []) →
-        reading-of r (row-with rows k (component-at (progress .parts) k .«span_count») v) ≡ spanned-reading (reading-of progress rows) k v) ⌝ }
+    requires { ⌜ (k < progress .count) × (progress .count ≤ most-parts) ×
+        (component-at (progress .parts) k .«span_count» < 8) ⌝ }
+    ensures { λ r. ⌜ ((rows : List (List ℕ)) (v : ℕ) → k < length rows →
+        component-at (progress .parts) k .«span_count» < length (getD rows k []) →
+        reading-of r (row-with rows k (component-at (progress .parts) k .«span_count») v) ≡
+        spanned-reading (reading-of progress rows) k v) ⌝ }
     ensures few { λ r. ⌜ r .count ≤ most-parts ⌝ }
 {
     let mut c = progress.parts[k];

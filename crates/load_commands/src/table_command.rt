@@ -1,4 +1,4 @@
-// The commands: each reads all its operands, then judges them, and answers a refusal's number or the progress behind it.
+// The commands: each reads all its operands, then judges them, and answers a refusal's number or the progress after it.
 // Its contracts cite `specs/CommandSteps.antt`, and the machine's `specs/Load.antt`.
 use crate::progress::Progress;
 use crate::progress::wire_refusal;
@@ -25,7 +25,8 @@ ghost use Prim.Native.Nat.{ℕ, _<_, _≤_};
 ghost use mathlib.Core.Path.{_≡_};
 ghost use mathlib.Core.List.{List};
 ghost use lib.ListN.{length};
-ghost use Rattle.machine.specs.Load.{begin-command, begin-refusal, begun-with, part-command, unless-refused, wire-command, wire-refusal, with-part};
+ghost use Rattle.machine.specs.Load.{begin-command, begin-refusal, begun-with, part-command, unless-refused};
+ghost use Rattle.machine.specs.Load.{wire-command, wire-refusal, with-part};
 ghost use Rattle.machine.specs.Model.{most-parts};
 ghost use Rattle.load_commands.specs.Beside.{span-stepped};
 ghost use Rattle.load_commands.specs.ComponentMade.{component-of};
@@ -35,15 +36,16 @@ ghost use Rattle.load_commands.specs.Spanned.{RowThere, last-place, row-
 ghost use Rattle.load_commands.specs.CommandSteps.{SpanLeft, StepLeft, refused-step, step-of, uncut};
 ghost use Rattle.load_commands.specs.Wired.{wired-reading};
 
-// What a command comes to: its refusal's number, 0 meaning none, and the position and the progress behind it; those of a refusal are the
-// command's own position and the progress before it. Free are the unused places of a progress (`progress.rt`).
+// What a command comes to: its refusal's number, 0 meaning none, and the position and the progress after it; those of a
+// refusal are the command's own position and the progress before it. Free are the unused places of a progress
+// (`progress.rt`).
 pub struct CommandResult {
     pub number: u64,
     pub next: usize,
     pub progress: Progress,
 }
 
-// A refusal of the command at a position: nothing was read behind it, and the progress is as it was.
+// A refusal of the command at a position: nothing was read after it, and the progress is as it was.
 fn refused_step(number: u64, at: usize, progress: Progress) -> CommandResult
     ensures { λ r. ⌜ r ≡ refused-step number at progress ⌝ }
 {
@@ -57,7 +59,8 @@ fn refused_step(number: u64, at: usize, progress: Progress) -> CommandResult
 // A Begin with this magnitude, from a position up to the position `next`.
 fn begin_step(progress: Progress, e: u8, at: usize, next: usize) -> CommandResult
     requires { ⌜ progress .count ≤ most-parts ⌝ }
-    ensures { λ r. ⌜ ((rows : List (List ℕ)) → step-of rows at r ≡ unless-refused (begin-refusal e) at next (begun-with e)) ⌝ }
+    ensures { λ r. ⌜ ((rows : List (List ℕ)) →
+        step-of rows at r ≡ unless-refused (begin-refusal e) at next (begun-with e)) ⌝ }
     ensures left { λ r. ⌜ StepLeft at progress r ⌝ }
 {
     let number = begin_refusal(e);
@@ -75,7 +78,8 @@ fn begin_step(progress: Progress, e: u8, at: usize, next: usize) -> CommandResul
 // The Begin at a position.
 pub fn begin(s: &[u8], at: usize, progress: Progress) -> CommandResult
     requires { ⌜ (at < length (now s)) × (progress .count ≤ most-parts) ⌝ }
-    ensures { λ r. ⌜ ((rows : List (List ℕ)) → step-of rows at r ≡ uncut (now (s .entry)) at 2 (begin-command (now (s .entry)) at)) ⌝ }
+    ensures { λ r. ⌜ ((rows : List (List ℕ)) →
+        step-of rows at r ≡ uncut (now (s .entry)) at 2 (begin-command (now (s .entry)) at)) ⌝ }
     ensures left { λ r. ⌜ StepLeft at progress r ⌝ }
 {
     let ByteRead::Got(e, c) = byte(s, Cursor { at: at + 1 }) else {
@@ -88,7 +92,8 @@ pub fn begin(s: &[u8], at: usize, progress: Progress) -> CommandResult
 fn part_step(progress: Progress, o: PartOperands, at: usize, next: usize) -> CommandResult
     requires { ⌜ progress .count ≤ most-parts ⌝ }
     ensures { λ r. ⌜ ((rows : List (List ℕ)) → step-of rows at r ≡
-        unless-refused (part-number (progress .count) o) at next (with-part (reading-of progress rows) (component-of o))) ⌝ }
+        unless-refused (part-number (progress .count) o) at next
+        (with-part (reading-of progress rows) (component-of o))) ⌝ }
     ensures left { λ r. ⌜ StepLeft at progress r ⌝ }
 {
     let number = part_refusal(progress.count, o);
@@ -120,7 +125,8 @@ pub fn part(s: &[u8], at: usize, progress: Progress) -> CommandResult
 fn wire_step(progress: Progress, o: WireOperands, at: usize, next: usize) -> CommandResult
     requires { ⌜ progress .count ≤ most-parts ⌝ }
     ensures { λ r. ⌜ ((rows : List (List ℕ)) → step-of rows at r ≡
-        unless-refused (wire-refusal (reading-of progress rows .table .parts) (o .source) (o .receiver) (o .port)) at next
+        unless-refused (wire-refusal (reading-of progress rows .table .parts) (o .source) (o .receiver) (o .port))
+        at next
         (wired-reading (reading-of progress rows) (o .receiver) (o .port) (o .source))) ⌝ }
     ensures left { λ r. ⌜ StepLeft at progress r ⌝ }
 {

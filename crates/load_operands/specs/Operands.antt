@@ -1,5 +1,6 @@
--- What the answers of the operand readers mean: document 01's number and values of each of their cases, and the answer that the bytes from a position on
--- give. Behind them what follows by cases, and a law of operands in a row. Assumes nothing.
+-- What the answers of the operand readers mean: document 01's number and values of each of their cases, and the answer
+-- that the bytes from a position on give. After them what follows by cases, and a law of operands in a row. Assumes
+-- nothing.
 use Prim.Native.Nat.{ℕ, _+_, _≤_, _<_}
 use native.Mathlib.Omega.{arith}
 use mathlib.Core.Path.{_≡_, ap, _∙_}
@@ -10,7 +11,8 @@ use lib.ListN.{length}
 use lib.Dec.{leb}
 use borrow.Author.Tests.{le-leb, lt-leb, leb-true, leb-false}
 use Rattle.machine.specs.declared.model.Score.the-variants.{Refused}
-use Rattle.machine.specs.Load.{Reading, ended, refused, want-byte, known-command, command-width, in-place, command-read, byte-at, word-at}
+use Rattle.machine.specs.Load.{Reading, ended, refused, want-byte, known-command, command-width, in-place, command-read}
+use Rattle.machine.specs.Load.{byte-at, word-at}
 use Rattle.machine.specs.Score.{score-command}
 use Rattle.laws.specs.Bools.{either}
 use Rattle.load_operands.specs.declared.cursor.Cursor.{Cursor}
@@ -25,7 +27,7 @@ use Rattle.load_operands.specs.declared.operands.WireOperands.{WireOpera
 use Rattle.load_operands.specs.declared.operands.WireRead.{WireRead}
 use Rattle.load_operands.specs.declared.operands.WireRead.the-variants as wire-read
 
--- what a reader's answer comes to: document 01's number, 0 meaning none, the operands, and the position behind them
+-- what a reader's answer comes to: document 01's number, 0 meaning none, the operands, and the position after them
 pub record OperandRead (A : Type 0) : Type 0 where
   pub number : ℕ
   pub operands : A
@@ -36,16 +38,19 @@ abbrev pub cut-number : ℕ
 cut-number = 1
 
 -- which is the one that loading refuses a command with that the stream's end cuts, and the score a wanted step
-pub cut-loads : (bs : List ℕ) (at : ℕ) (rd : Reading) (b : ℕ) → known-command b ≡ true → in-place rd b ≡ true → length bs < at + command-width b →
+pub cut-loads : (bs : List ℕ) (at : ℕ) (rd : Reading) (b : ℕ) → known-command b ≡ true → in-place rd b ≡ true →
+    length bs < at + command-width b →
     command-read bs at rd b ≡ ended (refused cut-number at)
 unfolding command-read
 cut-loads bs at rd b known here short = rw (known, here, lt-leb (at + command-width b) (length bs) short)
 
-pub cut-scores : (bs : List ℕ) (at : ℕ) → length bs < at + command-width want-byte → score-command bs at want-byte ≡ Refused cut-number at
+pub cut-scores : (bs : List ℕ) (at : ℕ) → length bs < at + command-width want-byte →
+    score-command bs at want-byte ≡ Refused cut-number at
 unfolding score-command known-command
 cut-scores bs at short = rw (lt-leb (at + command-width want-byte) (length bs) short)
 
--- the two cases of every reader: operands with the cursor behind them, which is no refusal; or cut, where 0 stands for the operands and the position
+-- the two cases of every reader: operands with the cursor after them, which is no refusal; or cut, where 0 means the
+-- operands and the position
 abbrev pub got : {A : Type 0} → A → Cursor → OperandRead A
 got v c = record { number = 0; operands = v; next = c .at }
 
@@ -75,7 +80,7 @@ word-answer word-read.Cut = cut 0
 pub record WordMeant (bs : List ℕ) (at : ℕ) (r : WordRead) : Type 0 where
   pub is : word-answer r ≡ operands-at bs at 4 (word-at bs at) 0
 
--- the operands of a Part, from the byte behind its command byte on; and none
+-- the operands of a Part, from the byte after its command byte on; and none
 abbrev pub part-operands-at : List ℕ → ℕ → PartOperands
 part-operands-at bs at =
     record {
@@ -110,7 +115,7 @@ wire-answer wire-read.Cut = cut no-wire
 pub record WireMeant (bs : List ℕ) (at : ℕ) (r : WireRead) : Type 0 where
   pub is : wire-answer r ≡ operands-at bs at 3 (wire-operands-at bs at) no-wire
 
--- so many bytes are there from a position on, and the cursor stands behind them
+-- so many bytes are there from a position on, and the cursor is after them
 pub record Behind (bs : List ℕ) (at width : ℕ) (c : Cursor) : Type 0 where
   pub whole : at + width ≤ length bs
   pub next : c .at ≡ at + width
@@ -121,10 +126,13 @@ module _ {A : Type 0} (bs : List ℕ) (at width : ℕ) (v none : A) where
   unfolding operands-at
   read-whole w c h = by-test (either (leb (at + width) (length bs)))
     where
-      by-test : (leb (at + width) (length bs) ≡ true) ⊎ (leb (at + width) (length bs) ≡ false) → Behind bs at width c × (w ≡ v)
+      by-test : (leb (at + width) (length bs) ≡ true) ⊎ (leb (at + width) (length bs) ≡ false) → Behind bs at width c ×
+          (w ≡ v)
       by-test (inl e) =
-          let same : got w c ≡ record { number = 0; operands = v; next = at + width } = rw e at h in
-          (record { whole = leb-true (at + width) (length bs) e; next = ap (λ (x : OperandRead A). x .next) same }, ap (λ (x : OperandRead A). x .operands) same)
+          let same : got w c ≡ record { number = 0; operands = v; next = at + width } = rw e at h in (
+            record { whole = leb-true (at + width) (length bs) e; next = ap (λ (x : OperandRead A). x .next) same },
+            ap (λ (x : OperandRead A). x .operands) same,
+          )
       by-test (inr e) =
           let wrong : got w c ≡ record { number = 1; operands = none; next = 0 } = rw e at h in
           absurd (omega (arith, ap (λ (x : OperandRead A). x .number) wrong))
@@ -181,7 +189,7 @@ pub wire-cases : {bs : List ℕ} {at : ℕ} {r : WireRead} → WireMeant bs at r
 wire-cases {bs} {at} {r = wire-read.Got o c} h = read-whole bs at 3 (wire-operands-at bs at) no-wire o c (h .is)
 wire-cases {bs} {at} {r = wire-read.Cut} h = read-cut bs at 3 (wire-operands-at bs at) no-wire (h .is)
 
--- v is what f reads from a position so many bytes behind the first, and the cursor stands behind the operand's own bytes
+-- v is what f reads from a position so many bytes after the first, and the cursor is after the operand's own bytes
 abbrev pub ReadAt : (f : List ℕ → ℕ → ℕ) (bs : List ℕ) (at before width : ℕ) → ℕ → Cursor → Type 0
 ReadAt f bs at before width v c = Behind bs at (before + width) c × (v ≡ f bs (at + before))
 

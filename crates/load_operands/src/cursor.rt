@@ -1,22 +1,22 @@
 // Operands read from a stream: one byte, and four little-endian. Each reader answers the operand and the
-// cursor behind it, or that the stream is cut, which is refused with 1. Its contracts cite `specs/Operands.antt`.
+// cursor after it, or that the stream is cut, which is refused with 1. Its contracts cite `specs/Operands.antt`.
 ghost use Prim.Native.Nat.{_<_};
 ghost use mathlib.Core.Path.{_≡_};
 ghost use Rattle.machine.specs.Load.{signed};
 ghost use Rattle.load_operands.specs.Operands.{ByteMeant, WordMeant};
 
-// Where reading stands in a stream.
+// Where reading is in a stream.
 pub struct Cursor {
     pub at: usize,
 }
 
-// A byte and the cursor behind it, or that the stream ends before.
+// A byte and the cursor after it, or that the stream ends before.
 pub enum ByteRead {
     Got(u8, Cursor),
     Cut,
 }
 
-// Four bytes as a number and the cursor behind them, or that the stream ends before.
+// Four bytes as a number and the cursor after them, or that the stream ends before.
 pub enum WordRead {
     Got(u32, Cursor),
     Cut,

@@ -1,5 +1,6 @@
-// The operands of each command, all of them read before any is judged. A reader starts behind the command byte and answers
-// the operands and the cursor behind them, or that the stream is cut inside the command. Its contracts cite `specs/Operands.antt`.
+// The operands of each command, all of them read before any is judged. A reader starts after the command byte and
+// answers the operands and the cursor after them, or that the stream is cut inside the command. Its contracts cite
+// `specs/Operands.antt`.
 use crate::cursor::ByteRead;
 use crate::cursor::Cursor;
 use crate::cursor::WordRead;
@@ -7,7 +8,7 @@ use crate::cursor::byte;
 use crate::cursor::u32_at;
 ghost use Rattle.load_operands.specs.Operands.{PartMeant, WireMeant};
 
-// The operands of a Part, the signed ones still as they stand in the stream.
+// The operands of a Part, the signed ones still as they are in the stream.
 pub struct PartOperands {
     pub kind: u8,
     pub preference: u8,
@@ -23,13 +24,13 @@ pub struct WireOperands {
     pub port: u8,
 }
 
-// A Part's operands and the cursor behind them, or that the stream ends before.
+// A Part's operands and the cursor after them, or that the stream ends before.
 pub enum PartRead {
     Got(PartOperands, Cursor),
     Cut,
 }
 
-// A Wire's operands and the cursor behind them, or that the stream ends before.
+// A Wire's operands and the cursor after them, or that the stream ends before.
 pub enum WireRead {
     Got(WireOperands, Cursor),
     Cut,

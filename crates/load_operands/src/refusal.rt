@@ -27,9 +27,11 @@ ghost use mathlib.Core.Path.{_≡_};
 ghost use mathlib.Core.Bool.{cond};
 ghost use lib.Dec.{eqb};
 ghost use Rattle.machine.specs.Load.{begin-refusal, known-command};
-ghost use Rattle.load_operands.specs.Refusals.{command-number, operands-number, part-number, in-its-place, port-number, span-number};
+ghost use Rattle.load_operands.specs.Refusals.{command-number, operands-number, part-number, in-its-place};
+ghost use Rattle.load_operands.specs.Refusals.{port-number, span-number};
 
-// The bytes of Begin, Part, Span, Wire, End and a wanted step. A Wire's is the one left where the others are told apart.
+// The bytes of Begin, Part, Span, Wire, End and a wanted step. A Wire's is the one left where the others are told
+// apart.
 pub const BEGIN_BYTE: u8 = 0x01;
 
 pub const PART_BYTE: u8 = 0x02;
@@ -66,7 +68,7 @@ fn operands_refusal(o: PartOperands) -> u64
     refusal(!fit, OUT_OF_RANGE)
 }
 
-// The refusal of a Part behind so many.
+// The refusal of a Part after so many.
 pub fn part_refusal(count: usize, o: PartOperands) -> u64
     ensures { λ r. ⌜ r ≡ part-number count o ⌝ }
 {
@@ -75,7 +77,7 @@ pub fn part_refusal(count: usize, o: PartOperands) -> u64
     first_of(room, range)
 }
 
-// The refusal of a Span with the value v behind so many, the last of them given.
+// The refusal of a Span with the value v after so many, the last of them given.
 pub fn span_refusal(count: usize, last: u32, v: u32) -> u64
     ensures { λ r. ⌜ r ≡ span-number count last v ⌝ }
 {
@@ -115,7 +117,7 @@ fn known_command(b: u8) -> bool
     b <= WANT_BYTE
 }
 
-// Whether a command byte stands where it may.
+// Whether a command byte is where it may.
 fn in_place(begun: bool, spannable: bool, b: u8) -> bool
     ensures { λ r. ⌜ r ≡ in-its-place begun spannable b ⌝ }
 {

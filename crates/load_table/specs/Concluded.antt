@@ -1,4 +1,5 @@
--- What reading a table up to its End concludes: document 01's loading, where End is still to be judged. Assumes nothing.
+-- What reading a table up to its End concludes: document 01's loading, where End is still to be judged. Assumes
+-- nothing.
 use Prim.Native.Nat.{ℕ, _≤_, _<_}
 use mathlib.Core.Path.{_≡_}
 use mathlib.Core.Bool.{true, cond}
@@ -15,11 +16,12 @@ use Rattle.machine.specs.Lists.{All}
 use Rattle.machine.specs.Time.{magnitude-known}
 use Rattle.machine.specs.Model.{most-parts, most-spans, trimmed-component}
 use Rattle.machine.specs.Table.{Table}
-use Rattle.machine.specs.Load.{Reading, onward, nothing-read, accepted, byte-at, end-byte, end-refusal, read-turn, refused}
+use Rattle.machine.specs.Load.{Reading, onward, nothing-read, accepted, byte-at, end-byte, end-refusal, read-turn}
+use Rattle.machine.specs.Load.{refused}
 use Rattle.sound_laws.specs.Facts.{ComponentFits}
 use Rattle.load_table.specs.declared.table.TableRead.{TableRead}
 
--- End at a position, behind this table
+-- End at a position, after this table
 unfoldable pub end-loaded : ℕ → Table → Loaded
 end-loaded at t = cond (eqb (end-refusal t) 0) (accepted at t) (refused (end-refusal t) at)
 
@@ -51,7 +53,7 @@ unfoldable pub refused-table : (number at : ℕ) → TableRead
 refused-table number at =
     record { number = number; position = at; magnitude = 0; count = 0; parts = replicate most-parts empty-component }
 
--- End was reached at this position, behind this table
+-- End was reached at this position, after this table
 pub record EndedRead (at : ℕ) (t : Table) (r : TableRead) : Type 0 where
   pub number : r .number ≡ 0
   pub position : r .position ≡ at
@@ -68,15 +70,17 @@ pub record Ended (r : TableRead) : Type 0 where
 -- what reading leads to from the start, turn by turn: each position and reading that a turn goes on at
 pub data Reached (bs : List ℕ) : ℕ → Reading → Type 0 where
   at-start : Reached bs 0 nothing-read
-  turned-on : (at next : ℕ) (rd then : Reading) → Reached bs at rd → read-turn bs at rd ≡ onward next then → Reached bs next then
+  turned-on : (at next : ℕ) (rd then : Reading) → Reached bs at rd → read-turn bs at rd ≡ onward next then →
+      Reached bs next then
 
--- End stands at a position, and may
+-- End is at a position, and may
 pub record EndHere (bs : List ℕ) (at : ℕ) (rd : Reading) : Type 0 where
   pub here : at < length bs
   pub byte : byte-at bs at ≡ end-byte
   pub begun : rd .begun ≡ true
 
--- where reading a table stopped, and what it answers there: at its End the table read so far; else, before any End, a refusal
+-- where reading a table stopped, and what it answers there: at its End the table read so far; else, before any End, a
+-- refusal
 pub record Stopped (bs : List ℕ) (r : TableRead) : Type 0 where
   pub at : ℕ
   pub reading : Reading
@@ -92,7 +96,7 @@ pub refused-concluded : (n at : ℕ) (r : TableRead) → (n ≡ 0 → ⊥) → r
 unfolding concluded refused-table
 refused-concluded n at r some h = rw (h, ne-eqb n 0 some)
 
--- End is judged behind the table that was read
+-- End is judged after the table that was read
 pub ended-concluded : (at : ℕ) (t : Table) (r : TableRead) → EndedRead at t r → concluded r ≡ end-loaded at t
 unfolding concluded
 ended-concluded at t r h = rw (h .table, h .number, h .position)

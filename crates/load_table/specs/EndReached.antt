@@ -1,4 +1,5 @@
--- Laws of End: it is judged behind the table that was read, and what reading keeps holds of that table; and of where reading stops. Assumes nothing.
+-- Laws of End: it is judged after the table that was read, and what reading keeps holds of that table; and of where
+-- reading stops. Assumes nothing.
 use Prim.Native.Nat.{ℕ, _+_, _≤_, _<_}
 use native.Mathlib.Omega.{arith}
 use mathlib.Core.Path.{_≡_, refl, sym, ap, _∙_}
@@ -21,8 +22,9 @@ ends : (accept : Bool) (x y : Loaded) → cond accept (ended x) (ended y) ≡ en
 ends true x y = refl
 ends false x y = refl
 
--- End is judged behind the table
-pub end-judged : (bs : List ℕ) (at : ℕ) (rd : Reading) (b : ℕ) → at < length bs → b ≡ 5 → sized-command bs at rd b ≡ ended (end-loaded at (rd .table))
+-- End is judged after the table
+pub end-judged : (bs : List ℕ) (at : ℕ) (rd : Reading) (b : ℕ) → at < length bs → b ≡ 5 →
+    sized-command bs at rd b ≡ ended (end-loaded at (rd .table))
 unfolding sized-command command-width whole-command end-command end-loaded
 end-judged bs at rd b here e =
     let whole : at + 1 ≤ length bs = omega arith in
@@ -42,8 +44,9 @@ kept-ended at rd r kept h =
       components = rw (h .table, ← h .counted) (kept .components);
     }
 
--- where reading stopped: at an End, with the table behind it ..
-pub stopped-ended : (bs : List ℕ) (at : ℕ) (rd : Reading) (r : TableRead) → Stands bs at rd → EndHere bs at rd → EndedRead at (rd .table) r → Stopped bs r
+-- where reading stopped: at an End, with the table after it ..
+pub stopped-ended : (bs : List ℕ) (at : ℕ) (rd : Reading) (r : TableRead) → Stands bs at rd → EndHere bs at rd →
+    EndedRead at (rd .table) r → Stopped bs r
 stopped-ended bs at rd r stands here read =
     record {
       at = at;
@@ -57,7 +60,8 @@ stopped-ended bs at rd r stands here read =
     }
 
 -- .. or at a refusal, which is not End's
-pub stopped-refused : (bs : List ℕ) (at : ℕ) (rd : Reading) (r : TableRead) (n position : ℕ) → Stands bs at rd → (EndHere bs at rd → ⊥) → (n ≡ 0 → ⊥) →
+pub stopped-refused : (bs : List ℕ) (at : ℕ) (rd : Reading) (r : TableRead) (n position : ℕ) → Stands bs at rd →
+    (EndHere bs at rd → ⊥) → (n ≡ 0 → ⊥) →
     r ≡ refused-table n position → Stopped bs r
 unfolding refused-table
 stopped-refused bs at rd r n position stands other some is =

@@ -1,5 +1,5 @@
--- Laws of a turn: the byte of a command that is known and in place, what the answer of a turn means by its cases, and the place that is left
--- for a Span. Assumes nothing.
+-- Laws of a turn: the byte of a command that is known and in place, what the answer of a turn means by its cases, and
+-- the place that is left for a Span. Assumes nothing.
 use Prim.Native.Nat.{ℕ, _+_, _-_, _≤_, _<_}
 use native.Mathlib.Omega.{arith}
 use mathlib.Core.Path.{_≡_, _∙_, refl, sym, ap}
@@ -12,7 +12,8 @@ use borrow.Author.Tests.{eqb-true, eqb-false, eq-eqb, ne-eqb, leb-true}
 use Rattle.machine.specs.declared.part.Component.{Component}
 use Rattle.machine.specs.Model.{blank-component}
 use Rattle.machine.specs.Table.{component-at}
-use Rattle.machine.specs.Load.{Reading, Read, onward, ended, refused, unless-refused, byte-at, word-at, known-command, last-part, span-refusal, span-command, command-width, whole-command, read-turn}
+use Rattle.machine.specs.Load.{Reading, Read, onward, ended, refused, unless-refused, byte-at, word-at, known-command}
+use Rattle.machine.specs.Load.{last-part, span-refusal, span-command, command-width, whole-command, read-turn}
 use Rattle.laws.specs.Bools.{either}
 use Rattle.laws.specs.ListLaws.{all-at}
 use Rattle.sound_laws.specs.Facts.{ComponentFits}
@@ -35,7 +36,8 @@ pub command-byte : (begun spannable : Bool) (b : ℕ) → command-number begun s
 unfolding command-number in-its-place known-command
 command-byte begun spannable b h = by-tests (either (known-command b)) (either (eqb b 6))
   where
-    by-tests : (known-command b ≡ true) ⊎ (known-command b ≡ false) → (eqb b 6 ≡ true) ⊎ (eqb b 6 ≡ false) → (0 < b) × (b ≤ 5)
+    by-tests : (known-command b ≡ true) ⊎ (known-command b ≡ false) → (eqb b 6 ≡ true) ⊎ (eqb b 6 ≡ false) → (0 < b) ×
+        (b ≤ 5)
     by-tests (inr e) t = absurd (omega (arith, rw e at h))
     by-tests (inl e) (inl t) = absurd (omega (arith, rw (eqb-true b 6 t) at h))
     by-tests (inl e) (inr t) =
@@ -57,18 +59,22 @@ end-begun true spannable b e none = refl
 end-begun false spannable b e none = absurd (omega (arith, rw e at none))
 
 -- a command that is unknown or out of place is refused
-pub judged-refused : (bs : List ℕ) (at : ℕ) (progress : Progress) (rows : List (List ℕ)) (b n : ℕ) → at < length bs → b ≡ byte-at bs at →
-    n ≡ command-number (progress .begun) (progress .spannable) b → (n ≡ 0 → ⊥) → read-turn bs at (reading-of progress rows) ≡ ended (refused n at)
+pub judged-refused : (bs : List ℕ) (at : ℕ) (progress : Progress) (rows : List (List ℕ)) (b n : ℕ) → at < length bs →
+    b ≡ byte-at bs at →
+    n ≡ command-number (progress .begun) (progress .spannable) b → (n ≡ 0 → ⊥) →
+    read-turn bs at (reading-of progress rows) ≡ ended (refused n at)
 unfolding reading-of
 judged-refused bs at progress rows b n here byte same some =
     turn-judged bs at (reading-of progress rows) here ∙ rw (← byte, ← same, ne-eqb n 0 some)
 
 -- any other is as its width allows
-pub judged-placed : (bs : List ℕ) (at : ℕ) (progress : Progress) (rows : List (List ℕ)) (b : ℕ) → at < length bs → b ≡ byte-at bs at →
+pub judged-placed : (bs : List ℕ) (at : ℕ) (progress : Progress) (rows : List (List ℕ)) (b : ℕ) → at < length bs →
+    b ≡ byte-at bs at →
     command-number (progress .begun) (progress .spannable) b ≡ 0 →
     read-turn bs at (reading-of progress rows) ≡ sized-command bs at (reading-of progress rows) b
 unfolding reading-of
-judged-placed bs at progress rows b here byte none = turn-judged bs at (reading-of progress rows) here ∙ rw (← byte, none)
+judged-placed bs at progress rows b here byte none = turn-judged bs at (reading-of progress rows) here ∙
+    rw (← byte, none)
 
 module _ (at : ℕ) (progress : Progress) (rows : List (List ℕ)) (r : CommandRead) where
   -- a turn that is refused
@@ -77,18 +83,21 @@ module _ (at : ℕ) (progress : Progress) (rows : List (List ℕ)) (r : CommandR
   turn-refused some = rw (ne-eqb (r .number) 0 some)
 
   -- a turn that is End's
-  pub turn-ended : r .number ≡ 0 → r .byte ≡ 5 → turn-of at progress rows r ≡ ended (end-loaded at (reading-of progress rows .table))
+  pub turn-ended : r .number ≡ 0 → r .byte ≡ 5 →
+      turn-of at progress rows r ≡ ended (end-loaded at (reading-of progress rows .table))
   unfolding turn-of
   turn-ended none end = rw (eq-eqb (r .number) 0 none, eq-eqb (r .byte) 5 end)
 
-  -- a turn that reading goes on behind
+  -- a turn that reading goes on after
   pub turn-onward : r .number ≡ 0 → (r .byte ≡ 5 → ⊥) →
-      turn-of at progress rows r ≡ onward (r .position) (reading-of (r .progress) (rows-behind (r .byte) progress rows (r .span)))
+      turn-of at progress rows r ≡
+      onward (r .position) (reading-of (r .progress) (rows-behind (r .byte) progress rows (r .span)))
   unfolding turn-of
   turn-onward none other = rw (eq-eqb (r .number) 0 none, ne-eqb (r .byte) 5 other)
 
 -- reading goes on where there is no refusal
-goes-on : (n at next : ℕ) (rd : Reading) (further : ℕ) (then : Reading) → unless-refused n at next rd ≡ onward further then → n ≡ 0
+goes-on : (n at next : ℕ) (rd : Reading) (further : ℕ) (then : Reading) →
+    unless-refused n at next rd ≡ onward further then → n ≡ 0
 goes-on n at next rd further then h = by-test (either (eqb n 0))
   where
     by-test : (eqb n 0 ≡ true) ⊎ (eqb n 0 ≡ false) → n ≡ 0
@@ -96,7 +105,8 @@ goes-on n at next rd further then h = by-test (either (eqb n 0))
     by-test (inr e) = let wrong : ended (refused n at) ≡ onward further then = rw e at h in cc
 
 -- and where the command is whole
-goes-whole : (whole : Bool) (x : Read) (n at further : ℕ) (then : Reading) → cond whole x (ended (refused n at)) ≡ onward further then → x ≡ onward further then
+goes-whole : (whole : Bool) (x : Read) (n at further : ℕ) (then : Reading) →
+    cond whole x (ended (refused n at)) ≡ onward further then → x ≡ onward further then
 goes-whole true x n at further then h = h
 goes-whole false x n at further then h = cc
 
@@ -105,16 +115,18 @@ span-left : (c : Component) (v : ℕ) → span-refusal c v ≡ 0 → length (c .
 unfolding span-refusal
 span-left c v h = room-left 8 (length (c .spans)) _ h
 
--- a Span that reading goes on behind finds fewer than eight spans at the last part
-span-goes-on : (bs : List ℕ) (at : ℕ) (rd : Reading) (further : ℕ) (then : Reading) → sized-command bs at rd 3 ≡ onward further then →
+-- a Span that reading goes on after finds fewer than eight spans at the last part
+span-goes-on : (bs : List ℕ) (at : ℕ) (rd : Reading) (further : ℕ) (then : Reading) →
+    sized-command bs at rd 3 ≡ onward further then →
     length (component-at (rd .table .parts) (last-part (rd .table .parts)) .spans) < 8
 unfolding sized-command command-width whole-command span-command
 span-goes-on bs at rd further then h =
     let c = component-at (rd .table .parts) (last-part (rd .table .parts)) in
     let v = word-at bs (at + 1) in
-    span-left c v (goes-on (span-refusal c v) at (at + 5) _ further then (goes-whole (leb (at + 5) (length bs)) _ 1 at further then h))
+    span-left c v (goes-on (span-refusal c v) at (at + 5) _ further then
+    (goes-whole (leb (at + 5) (length bs)) _ 1 at further then h))
 
--- so that there is a place left beside the progress
+-- so that there is a place left with the progress
 span-room : (bs : List ℕ) (at : ℕ) (progress : Progress) (rows : List (List ℕ)) (further : ℕ) (then : Reading) →
     progress .count ≤ length (progress .parts) → Readable (reading-of progress rows) → 0 < progress .count →
     sized-command bs at (reading-of progress rows) 3 ≡ onward further then → Room progress
@@ -138,5 +150,6 @@ pub placed-room : (bs : List ℕ) (at : ℕ) (progress : Progress) (rows : List 
 placed-room bs at progress rows b r few kept asked p none e =
     let byte : b ≡ 3 = sym (p .byte) ∙ e in
     let other : r .byte ≡ 5 → ⊥ = λ five. omega arith in
-    let on : sized-command bs at (reading-of progress rows) 3 ≡ _ = rw byte at (p .is) ∙ turn-onward at progress rows r none other in
+    let on : sized-command bs at (reading-of progress rows) 3 ≡ _ = rw byte at (p .is) ∙
+    turn-onward at progress rows r none other in
     span-room bs at progress rows _ _ few kept (asked byte .some) on

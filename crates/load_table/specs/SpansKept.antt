@@ -26,7 +26,8 @@ span-placed true false b e h = absurd (omega (arith, rw e at h))
 span-placed false spannable b e h = absurd (omega (arith, rw e at h))
 
 -- the last part counts as many spans as in the reading
-pub counts-as : (progress : Progress) (rows : List (List ℕ)) → 0 < progress .count → progress .count ≤ length (progress .parts) →
+pub counts-as : (progress : Progress) (rows : List (List ℕ)) → 0 < progress .count →
+    progress .count ≤ length (progress .parts) →
     component-at (reading-of progress rows .table .parts) (last-place progress) .«span_count» ≡ span-count progress
 unfolding with-row
 counts-as progress rows some few =
@@ -39,7 +40,8 @@ places-most true n h = h
 places-most false n h = omega arith
 
 -- what a Span asks for holds where it is in place
-pub span-asked : (progress : Progress) (rows : List (List ℕ)) (b : ℕ) → progress .count ≤ length (progress .parts) → Readable (reading-of progress rows) →
+pub span-asked : (progress : Progress) (rows : List (List ℕ)) (b : ℕ) → progress .count ≤ length (progress .parts) →
+    Readable (reading-of progress rows) →
     command-number (progress .begun) (progress .spannable) b ≡ 0 → b ≡ 3 → Spannable progress
 unfolding reading-of
 span-asked progress rows b few kept none e =

@@ -1,4 +1,4 @@
--- Where the reading of a stream stands between two commands, and what a turn leads to. Assumes nothing.
+-- Where the reading of a stream is between two commands, and what a turn leads to. Assumes nothing.
 use Prim.Native.Nat.{ℕ, suc, _+_, _≤_, _<_}
 use native.Mathlib.Omega.{arith}
 use mathlib.Core.Path.{_≡_, refl, ap, _∙_}
@@ -8,7 +8,8 @@ use lib.ListN.{length}
 use lib.Dec.{eqb}
 use borrow.Author.Tests.{lt-ltb, le-ltb}
 use Rattle.machine.specs.declared.model.Loaded.{Loaded}
-use Rattle.machine.specs.Load.{Reading, Read, onward, ended, refused, nothing-read, byte-at, known-command, in-place, command-read, read-turn, read-on, read-from, load}
+use Rattle.machine.specs.Load.{Reading, Read, onward, ended, refused, nothing-read, byte-at, known-command, in-place}
+use Rattle.machine.specs.Load.{command-read, read-turn, read-on, read-from, load}
 use Rattle.sound_laws.specs.Accepted.{Readable, Keeps, kept-nothing, kept-turn}
 use Rattle.sound_laws.specs.ReadFuel.{Later, turn-later, read-unrolled}
 use Rattle.load_operands.specs.Refusals.{command-number, in-its-place}
@@ -27,20 +28,24 @@ unfolding load
 stands-first bs rd e = rw e (record { same = refl; kept = kept-nothing; reached = at-start })
 
 -- a turn that ends is what loading comes to
-pub stands-ended : (bs : List ℕ) (at : ℕ) (rd : Reading) (r : Loaded) → Stands bs at rd → read-turn bs at rd ≡ ended r → load bs ≡ r
+pub stands-ended : (bs : List ℕ) (at : ℕ) (rd : Reading) (r : Loaded) → Stands bs at rd → read-turn bs at rd ≡ ended r →
+    load bs ≡ r
 stands-ended bs at rd r s e =
     let enough : length bs < at + suc (length bs) = omega arith in
-    s .same ∙ read-unrolled (suc (length bs)) bs at rd enough ∙ ap (λ (t : Read). read-on t (read-from (suc (length bs)) bs)) e
+    s .same ∙ read-unrolled (suc (length bs)) bs at rd enough ∙
+    ap (λ (t : Read). read-on t (read-from (suc (length bs)) bs)) e
 
--- a turn that goes on stands further
-pub stands-on : (bs : List ℕ) (at next : ℕ) (rd then : Reading) → Stands bs at rd → read-turn bs at rd ≡ onward next then →
+-- a turn that goes on is further
+pub stands-on : (bs : List ℕ) (at next : ℕ) (rd then : Reading) → Stands bs at rd →
+    read-turn bs at rd ≡ onward next then →
     Stands bs next then × (at < next)
 stands-on bs at next rd then s e =
     let enough : length bs < at + suc (length bs) = omega arith in
     let kept : Keeps (onward next then) = rw e at (kept-turn bs at rd (s .kept)) in
     let later : Later at (onward next then) = rw e at (turn-later bs at rd) in (
       record {
-        same = s .same ∙ read-unrolled (suc (length bs)) bs at rd enough ∙ ap (λ (t : Read). read-on t (read-from (suc (length bs)) bs)) e;
+        same = s .same ∙ read-unrolled (suc (length bs)) bs at rd enough ∙
+            ap (λ (t : Read). read-on t (read-from (suc (length bs)) bs)) e;
         kept = kept;
         reached = turned-on at next rd then (s .reached) e;
       },
@@ -48,7 +53,8 @@ stands-on bs at next rd then s e =
     )
 
 -- past the last byte the stream is cut
-pub turn-cut : (bs : List ℕ) (at : ℕ) (rd : Reading) → length bs ≤ at → read-turn bs at rd ≡ ended (refused 1 (length bs))
+pub turn-cut : (bs : List ℕ) (at : ℕ) (rd : Reading) → length bs ≤ at →
+    read-turn bs at rd ≡ ended (refused 1 (length bs))
 unfolding read-turn
 turn-cut bs at rd past = rw (le-ltb at (length bs) past)
 

@@ -13,7 +13,7 @@ use Rattle.load_table.specs.declared.turn.CommandRead.{CommandRead}
 use Rattle.load_table.specs.Concluded.{EndHere, end-loaded}
 use Rattle.load_table.specs.Turning.{Room, rows-behind, sized-command}
 
--- the turn is refused, or is End's, or reading goes on behind the command
+-- the turn is refused, or is End's, or reading goes on after the command
 unfoldable pub turn-of : ℕ → Progress → List (List ℕ) → CommandRead → Read
 turn-of at progress rows r =
     cond (eqb (r .number) 0)
@@ -27,8 +27,10 @@ abbrev pub still-turn : (number position byte : ℕ) → Progress → CommandRea
 still-turn number position byte progress =
     record { number = number; position = position; byte = byte; span = 0; progress = progress }
 
--- the answer to the command with byte b, which is known and in place. It is settled whole: a refusal and End move nothing, and only a Span has a span
-pub record PlacedTurn (bs : List ℕ) (at : ℕ) (progress : Progress) (rows : List (List ℕ)) (b : ℕ) (r : CommandRead) : Type 0 where
+-- the answer to the command with byte b, which is known and in place. It is settled whole: a refusal and End move
+-- nothing, and only a Span has a span
+pub record PlacedTurn (bs : List ℕ) (at : ℕ) (progress : Progress) (rows : List (List ℕ)) (b : ℕ)
+    (r : CommandRead) : Type 0 where
   pub is : sized-command bs at (reading-of progress rows) b ≡ turn-of at progress rows r
   pub byte : r .byte ≡ b
   pub few : r .progress .count ≤ most-parts
@@ -36,8 +38,8 @@ pub record PlacedTurn (bs : List ℕ) (at : ℕ) (progress : Progress) (rows : L
   pub end : b ≡ end-byte → r ≡ still-turn 0 at b progress
   pub span : (b ≡ span-byte → ⊥) → r .span ≡ 0
 
--- the answer of a turn, settled likewise; its byte is the one at the position, 0 past the stream's end. Where it is not refused there is a byte, and a Span's
--- place is left
+-- the answer of a turn, settled likewise; its byte is the one at the position, 0 past the stream's end. Where it is not
+-- refused there is a byte, and a Span's place is left
 pub record Turned (bs : List ℕ) (at : ℕ) (progress : Progress) (rows : List (List ℕ)) (r : CommandRead) : Type 0 where
   pub is : read-turn bs at (reading-of progress rows) ≡ turn-of at progress rows r
   pub here : r .number ≡ 0 → at < length bs

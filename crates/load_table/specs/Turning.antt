@@ -21,15 +21,17 @@ pub record Room (progress : Progress) : Type 0 where
   pub some : 0 < progress .count
   pub left : span-count progress < 8
 
--- the rows behind a command with byte b: a Span's value is in the last part's row
+-- the rows after a command with byte b: a Span's value is in the last part's row
 unfoldable pub rows-behind : ℕ → Progress → List (List ℕ) → ℕ → List (List ℕ)
-rows-behind b progress rows v = cond (eqb b span-byte) (row-with rows (last-place progress) (span-count progress) v) rows
+rows-behind b progress rows v =
+    cond (eqb b span-byte) (row-with rows (last-place progress) (span-count progress) v) rows
 
 -- a command that is known and in place
 unfoldable pub sized-command : List ℕ → ℕ → Reading → ℕ → Read
-sized-command bs at rd b = cond (leb (at + command-width b) (length bs)) (whole-command bs at rd b) (ended (refused 1 at))
+sized-command bs at rd b =
+    cond (leb (at + command-width b) (length bs)) (whole-command bs at rd b) (ended (refused 1 at))
 
--- what a command with byte b leaves: what a Span does, and no span behind any other
+-- what a command with byte b leaves: what a Span does, and no span after any other
 pub record CommandLeft (at : ℕ) (progress : Progress) (b : ℕ) (r : SpanResult) : Type 0 where
   pub left : SpanLeft at progress r
   pub span : (b ≡ span-byte → ⊥) → r .span ≡ 0

@@ -74,8 +74,8 @@ fn with_rows(parts: [Component; PARTS], rows: [[u32; SPANS]; PARTS]) -> [Compone
     next
 }
 
-// What reading comes to. Number 0: End was reached, at the position, and the parts hold their spans; otherwise document 01's number and
-// position of a refusal, no parts, and all else 0.
+// What reading comes to. Number 0: End was reached, at the position, and the parts hold their spans; otherwise document
+// 01's number and position of a refusal, no parts, and all else 0.
 pub struct TableRead {
     pub number: u64,
     pub position: usize,
@@ -99,7 +99,7 @@ fn refused_read(number: u64, at: usize) -> TableRead
     }
 }
 
-// End at a position, behind the progress and its rows. Free are the bytes of unused places.
+// End at a position, after the progress and its rows. Free are the bytes of unused places.
 fn ended_read(at: usize, progress: Progress, rows: [[u32; SPANS]; PARTS]) -> TableRead
     requires { ⌜ progress .count ≤ most-parts ⌝ }
     ensures { λ r. ⌜ EndedRead at (reading-of progress rows .table) r ⌝ }
@@ -115,7 +115,8 @@ fn ended_read(at: usize, progress: Progress, rows: [[u32; SPANS]; PARTS]) -> Tab
     }
 }
 
-// The table at the start of a stream, read up to its End or to a refusal. Free are the bytes of unused places alone, where End was reached.
+// The table at the start of a stream, read up to its End or to a refusal. Free are the bytes of unused places alone,
+// where End was reached.
 pub fn read_table(s: &[u8]) -> TableRead
     ensures { λ r. ⌜ load (now (s .entry)) ≡ concluded r ⌝ }
     ensures stopped { λ r. ⌜ Stopped (now (s .entry)) r ⌝ }

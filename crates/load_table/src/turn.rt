@@ -1,4 +1,5 @@
-// One command of a table in its turn, behind the progress and the rows of spans beside it. Its contracts cite `specs/Turning.antt` and `specs/Turned.antt`.
+// One command of a table in its turn, after the progress and the rows of spans with it. Its contracts cite
+// `specs/Turning.antt` and `specs/Turned.antt`.
 use load_commands::progress::Progress;
 use load_commands::rows::last_span;
 use load_commands::rows::with_span;
@@ -27,7 +28,7 @@ ghost use Rattle.sound_laws.specs.Accepted.{Readable};
 ghost use Rattle.load_table.specs.Turned.{PlacedTurn, Turned};
 ghost use Rattle.load_table.specs.Turning.{CommandLeft, Room, Spannable, rows-behind, sized-command};
 
-// The Span at a position, behind the progress and its rows.
+// The Span at a position, after the progress and its rows.
 fn span_beside(s: &[u8], at: usize, progress: Progress, rows: [[u32; SPANS]; PARTS]) -> SpanResult
     requires { ⌜ (at < length (now s)) × (progress .count ≤ most-parts) × Spannable progress ⌝ }
     ensures { λ r. ⌜ step-of (row-with rows (last-place progress) (span-count progress) (r .span)) at (r .step) ≡
@@ -41,7 +42,7 @@ fn span_beside(s: &[u8], at: usize, progress: Progress, rows: [[u32; SPANS]; PAR
     span(s, at, progress, last)
 }
 
-// The command with byte b at a position, behind the progress and its rows: any but End and a wanted step.
+// The command with byte b at a position, after the progress and its rows: any but End and a wanted step.
 fn command(
     s: &[u8],
     at: usize,
@@ -49,7 +50,8 @@ fn command(
     rows: [[u32; SPANS]; PARTS],
     b: u8,
 ) -> SpanResult
-    requires { ⌜ (at < length (now s)) × (progress .count ≤ most-parts) × (0 < b) × (b < 5) × (b ≡ 3 → Spannable progress) ⌝ }
+    requires { ⌜ (at < length (now s)) × (progress .count ≤ most-parts) × (0 < b) × (b < 5) ×
+        (b ≡ 3 → Spannable progress) ⌝ }
     ensures { λ r. ⌜ step-of (rows-behind b progress rows (r .span)) at (r .step) ≡
         sized-command (now (s .entry)) at (reading-of progress rows) b ⌝ }
     ensures left { λ r. ⌜ CommandLeft at progress b r ⌝ }
@@ -78,7 +80,7 @@ fn command(
     }
 }
 
-// The rows behind a command with byte b: a Span's value is in the last part's row.
+// The rows after a command with byte b: a Span's value is in the last part's row.
 pub(crate) fn rows_behind(
     rows: [[u32; SPANS]; PARTS],
     progress: Progress,
@@ -96,9 +98,9 @@ pub(crate) fn rows_behind(
     with_span(rows, k, c.span_count, v)
 }
 
-// What a turn of reading comes to: a refusal's number, 0 meaning none, and its position; the byte at the turn's own position, 0 where there is none;
-// behind any command but End the position and the progress, and the span that goes into the last part's row. A refusal and End move nothing: the
-// progress is the one before, and the span 0.
+// What a turn of reading comes to: a refusal's number, 0 meaning none, and its position; the byte at the turn's own
+// position, 0 where there is none; after any command but End the position and the progress, and the span that goes into
+// the last part's row. A refusal and End move nothing: the progress is the one before, and the span 0.
 pub struct CommandRead {
     pub number: u64,
     pub position: usize,
@@ -115,7 +117,8 @@ fn placed(
     rows: [[u32; SPANS]; PARTS],
     b: u8,
 ) -> CommandRead
-    requires { ⌜ (at < length (now s)) × (progress .count ≤ most-parts) × (0 < b) × (b ≤ 5) × (b ≡ 3 → Spannable progress) ⌝ }
+    requires { ⌜ (at < length (now s)) × (progress .count ≤ most-parts) × (0 < b) × (b ≤ 5) ×
+        (b ≡ 3 → Spannable progress) ⌝ }
     ensures { λ r. ⌜ PlacedTurn (now (s .entry)) at progress rows b r ⌝ }
 {
     if b == END_BYTE {
@@ -148,7 +151,7 @@ fn placed(
     }
 }
 
-// The turn at a position, behind the progress and its rows.
+// The turn at a position, after the progress and its rows.
 pub(crate) fn command_at(
     s: &[u8],
     at: usize,

@@ -1,5 +1,5 @@
--- The machine's own calls, two of the example that is revised, form a chain, and so do a preview and an advance of it: what `Chain` and `MixedChain` ask can be
--- met. Assumes nothing.
+-- The machine's own calls, two of the example that is revised, form a chain, and so do a preview and an advance of it:
+-- what `Chain` and `MixedChain` ask can be met. Assumes nothing.
 use Prim.Native.Nat.{ℕ, zero, suc, _<_}
 use mathlib.Core.Path.{_≡_, refl}
 use mathlib.Core.List.{[], _∷_}
@@ -58,6 +58,10 @@ chained = (refl, first-call, (refl, second-call, tt))
 
 -- so do a preview and then the first call, which is given the model that the preview was given
 pub previewed-chain : MixedChain crossing
-    (Previewing (record { given = crossing; wanted = 8; returned = record { given = crossing; answer = advance crossing 8 } }) ∷
+    (Previewing (record {
+      given = crossing;
+      wanted = 8;
+      returned = record { given = crossing; answer = advance crossing 8 };
+    }) ∷
     Advancing (record { given = crossing; wanted = 8; answer = advance crossing 8 }) ∷ [])
 previewed-chain = (refl, record { unchanged = refl; answer = first-call }, (refl, first-call, tt))

@@ -1,5 +1,5 @@
--- The law of a clapper's motion, by induction on the steps: one of one local tick adds x to the speed and then the new speed to the position, and
--- k(k + 1)/2 grows by k + 1. The other rows compute. Assumes nothing.
+-- The law of a clapper's motion, by induction on the steps: one of one local tick adds x to the speed and then the new
+-- speed to the position, and k(k + 1)/2 grows by k + 1. The other rows compute. Assumes nothing.
 use Prim.Native.Nat.{ℕ, zero, suc, _+_, _*_, _/_, _<_}
 use native.Mathlib.Nat.{add-div-right, add-mul-div-right, mul-suc, suc-mul}
 use native.Mathlib.Omega.{arith}
@@ -43,7 +43,8 @@ exchanged c d e = sym (+ℤ-assoc c d e) ∙ ap (λ v. v +ℤ e) (+ℤ-comm c d)
 
 regrouped : (a b c d e : ℤ) → ((a +ℤ b) +ℤ c) +ℤ (d +ℤ e) ≡ (a +ℤ (b +ℤ d)) +ℤ (c +ℤ e)
 regrouped a b c d e =
-    +ℤ-assoc (a +ℤ b) c (d +ℤ e) ∙ ap (λ v. (a +ℤ b) +ℤ v) (exchanged c d e) ∙ sym (+ℤ-assoc (a +ℤ b) d (c +ℤ e)) ∙ ap (λ v. v +ℤ (c +ℤ e)) (+ℤ-assoc a b d)
+    +ℤ-assoc (a +ℤ b) c (d +ℤ e) ∙ ap (λ v. (a +ℤ b) +ℤ v) (exchanged c d e) ∙ sym (+ℤ-assoc (a +ℤ b) d (c +ℤ e)) ∙
+    ap (λ v. v +ℤ (c +ℤ e)) (+ℤ-assoc a b d)
 
 -- the speed after one step more, and the position
 next-speed : (b x : ℤ) (k : ℕ) → speed-after b x k +ℤ x ≡ speed-after b x (suc k)
@@ -72,7 +73,8 @@ record Swung (t r : ℕ) (x : ℤ) (p : Part) : Type 0 where
   held : moved t r (Value x) p .state .held ≡ p .state .held +ℤ (p .state .speed +ℤ x)
   local : moved t r (Value x) p .state .local .0 ≡ local-count (t + r) r .0
 
-once-swung : (t r : ℕ) (x : ℤ) (p : Part) → p .component .kind ≡ Clapper → p .ratio ≡ r → 0 < r → p .state .local .0 ≡ local-count t r .0 →
+once-swung : (t r : ℕ) (x : ℤ) (p : Part) → p .component .kind ≡ Clapper → p .ratio ≡ r → 0 < r →
+    p .state .local .0 ≡ local-count t r .0 →
     is-value (p .state .speed +ℤ x) ≡ true → is-value (p .state .held +ℤ (p .state .speed +ℤ x)) ≡ true → Swung t r x p
 unfolding moved moved-held moved-speed rate local-count
 once-swung t r x p kind e above local fast far =
@@ -93,7 +95,7 @@ no-way : (a b x : ℤ) → a ≡ position-after a b x 0
 unfolding position-after
 no-way a b x = rw (zero-*ℤ b, zero-*ℤ x, +ℤ-idr a, +ℤ-idr a) refl
 
--- what stands after k steps
+-- what is after k steps
 record Stood (k t : ℕ) (x : ℤ) (p : Part) : Type 0 where
   kind : swung k t (Value x) p .component .kind ≡ p .component .kind
   ratio : swung k t (Value x) p .ratio ≡ p .ratio
@@ -101,24 +103,38 @@ record Stood (k t : ℕ) (x : ℤ) (p : Part) : Type 0 where
   speed : swung k t (Value x) p .state .speed ≡ speed-after (p .state .speed) x k
   held : swung k t (Value x) p .state .held ≡ position-after (p .state .held) (p .state .speed) x k
 
-after-steps : (k t : ℕ) (x : ℤ) (p : Part) → p .component .kind ≡ Clapper → 0 < p .ratio → p .state .local .0 ≡ local-count t (p .ratio) .0 →
+after-steps : (k t : ℕ) (x : ℤ) (p : Part) → p .component .kind ≡ Clapper → 0 < p .ratio →
+    p .state .local .0 ≡ local-count t (p .ratio) .0 →
     Unclamped (p .state .held) (p .state .speed) x k → Stood k t x p
 unfolding swung moved
 after-steps zero t x p kind above local free =
     let none : t + 0 * p .ratio ≡ t = omega arith in
-    record { kind = refl; ratio = refl; local = rw none local; speed = no-speed (p .state .speed) x; held = no-way (p .state .held) (p .state .speed) x }
+    record {
+      kind = refl;
+      ratio = refl;
+      local = rw none local;
+      speed = no-speed (p .state .speed) x;
+      held = no-way (p .state .held) (p .state .speed) x;
+    }
 after-steps (suc k) t x p kind above local free =
     let a = p .state .held in
     let b = p .state .speed in
     let here = swung k t (Value x) p in
-    let sooner : Unclamped a b x k = record { speeds = λ j few. free .speeds j (omega (arith, few)); positions = λ j few. free .positions j (omega (arith, few)) } in
+    let sooner : Unclamped a b x k = record {
+      speeds = λ j few. free .speeds j (omega (arith, few));
+      positions =
+          λ j few. free .positions j (omega (arith, few));
+    } in
     let before = after-steps k t x p kind above local sooner in
     let faster = ap (λ v. v +ℤ x) (before .speed) ∙ next-speed b x k in
     let farther =
-    ap (λ v. v +ℤ (here .state .speed +ℤ x)) (before .held) ∙ ap (λ v. position-after a b x k +ℤ v) faster ∙ next-position a b x k in
+    ap (λ v. v +ℤ (here .state .speed +ℤ x)) (before .held) ∙ ap (λ v. position-after a b x k +ℤ v) faster ∙
+    next-position a b x k in
     let fast : is-value (here .state .speed +ℤ x) ≡ true = rw faster (free .speeds (suc k) (omega arith)) in
-    let far : is-value (here .state .held +ℤ (here .state .speed +ℤ x)) ≡ true = rw farther (free .positions (suc k) (omega arith)) in
-    let step = once-swung (t + k * p .ratio) (p .ratio) x here (before .kind ∙ kind) (before .ratio) above (before .local) fast far in
+    let far : is-value (here .state .held +ℤ (here .state .speed +ℤ x)) ≡ true =
+    rw farther (free .positions (suc k) (omega arith)) in
+    let step = once-swung (t + k * p .ratio) (p .ratio) x here (before .kind ∙
+    kind) (before .ratio) above (before .local) fast far in
     let later : t + k * p .ratio + p .ratio ≡ t + suc k * p .ratio = rw (suc-mul k (p .ratio)) (omega arith) in
     record {
       kind = before .kind;
@@ -133,7 +149,8 @@ pub clappers : Clappers
 unfolding computing swung
 clappers =
     record {
-      law = λ k t x p kind above local free. let stood = after-steps k t x p kind above local free in (stood .speed, stood .held);
+      law = λ k t x p kind above local free. let stood = after-steps k t x p kind above local free in
+          (stood .speed, stood .held);
       one-step = λ q. (refl, refl, refl, refl);
       coarse = λ q. (refl, refl);
     }

@@ -1,5 +1,6 @@
--- Zeros leave no trace at a zero-crossing detector. Zero and an absent input keep the side, and a side that stays sets no mark; so a run of them passes without
--- a trace, by induction on the list, and what stands behind it is seen from the side before it. Assumes nothing.
+-- Zeros leave no trace at a zero-crossing detector. Zero and an absent input keep the side, and a side that stays sets
+-- no mark; so a run of them passes without a trace, by induction on the list, and what is after it is seen from the
+-- side before it. Assumes nothing.
 use Prim.Native.Nat.{ℕ, zero, suc}
 use native.Mathlib.Omega.{arith}
 use mathlib.Core.Path.{_≡_, refl, ap}
@@ -33,30 +34,34 @@ rested s (Value (negsuc n)) e = absurd (false≢true e)
 
 -- at each point of a list
 at-each : (s : Side) (xs : List Signal) →
-    All (λ (e : Sighting). zero-or-absent (e .input) ≡ true → (e .after ≡ e .before) × (e .mark ≡ Clear)) (sightings s xs)
+    All (λ (e : Sighting). zero-or-absent (e .input) ≡ true → (e .after ≡ e .before) ×
+    (e .mark ≡ Clear)) (sightings s xs)
 unfolding sightings
 at-each s [] = tt
 at-each s (x ∷ xs) = (rested s x, at-each (side-after s x) xs)
 
 -- left out, they change nothing at the others
 without-zeros : (s : Side) (xs : List Signal) →
-    selected (λ (e : Sighting). not (zero-or-absent (e .input))) (sightings s xs) ≡ sightings s (selected (λ (x : Signal). not (zero-or-absent x)) xs)
+    selected (λ (e : Sighting). not (zero-or-absent (e .input))) (sightings s xs) ≡
+    sightings s (selected (λ (x : Signal). not (zero-or-absent x)) xs)
 unfolding selected sightings side-after
 without-zeros s [] = refl
 without-zeros s (Absent ∷ xs) = without-zeros s xs
 without-zeros s (Value (pos zero) ∷ xs) = without-zeros s xs
-without-zeros s (Value (pos (suc n)) ∷ xs) = rw (above-zero n) (ap (λ es. sighted s (Value (pos (suc n))) ∷ es) (without-zeros Positive xs))
+without-zeros s (Value (pos (suc n)) ∷ xs) =
+    rw (above-zero n) (ap (λ es. sighted s (Value (pos (suc n))) ∷ es) (without-zeros Positive xs))
 without-zeros s (Value (negsuc n) ∷ xs) = ap (λ es. sighted s (Value (negsuc n)) ∷ es) (without-zeros Negative xs)
 
--- behind a run of them, what follows is seen from the side before it
-behind : (s : Side) (rest later : List Signal) → every zero-or-absent rest ≡ true → marks s (rest ++ later) ≡ unmarked rest ++ marks s later
+-- after a run of them, what follows is seen from the side before it
+behind : (s : Side) (rest later : List Signal) → every zero-or-absent rest ≡ true →
+    marks s (rest ++ later) ≡ unmarked rest ++ marks s later
 unfolding every marks sightings
 behind s [] later e = refl
 behind s (x ∷ rest) later e =
     let (first, others) = and-eq-true-iff (zero-or-absent x) (every zero-or-absent rest) .0 e in
     rw (rested s x first .0, rested s x first .1) (ap (λ ms. Clear ∷ ms) (behind s rest later others))
 
--- the rows: by the laws above, and by computing what the first value behind a run does
+-- the rows: by the laws above, and by computing what the first value after a run does
 pub crossings : Crossings
 unfolding marks sightings side-after mark-after settled-as
 crossings =

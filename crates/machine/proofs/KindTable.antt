@@ -1,5 +1,6 @@
--- The table of kinds holds of the definitions, line by line. Most rows compute; those that speak of every value, kind or side go by cases on it, and by two
--- small laws: a value is what clamping makes of it, and an absent input integrates to nothing. Assumes nothing.
+-- The table of kinds holds of the definitions, line by line. Most rows compute; those that speak of every value, kind
+-- or side go by cases on it, and by two small laws: a value is what clamping makes of it, and an absent input
+-- integrates to nothing. Assumes nothing.
 use Prim.Native.Nat.{ℕ, suc, _+_, _-_, _*_, _<_, min}
 use native.Mathlib.Omega.{arith}
 use mathlib.Core.Path.{_≡_, refl, ap}
@@ -10,7 +11,9 @@ use lib.IntN.{ℤ, pos, negsuc}
 use borrow.Author.Tests.{leb-true, lt-ltb, ne-eqb}
 use Rattle.machine.specs.declared.signal.Signal.the-variants.{Absent, Value}
 use Rattle.machine.specs.declared.part.Kind.{Kind}
-use Rattle.machine.specs.declared.part.Kind.the-variants.{Constant, Gain, Adder, Square, Pulse, Delay, Integrator, ResetIntegrator, Detector, Hold, Sampler, Drive, Clapper}
+use Rattle.machine.specs.declared.part.Kind.the-variants.{Constant, Gain, Adder, Square, Pulse, Delay, Integrator}
+use Rattle.machine.specs.declared.part.Kind.the-variants.{ResetIntegrator, Detector, Hold, Sampler, Drive}
+use Rattle.machine.specs.declared.part.Kind.the-variants.{Clapper}
 use Rattle.machine.specs.declared.part.Side.{Side}
 use Rattle.machine.specs.declared.part.Side.the-variants.{Unset, Negative, Positive}
 use Rattle.machine.specs.declared.part.Mark.the-variants.{Clear}
@@ -23,7 +26,8 @@ use Rattle.machine.proofs.Computing.{computing}
 -- a value is what clamping makes of it
 pub clamp-of-value : (v : ℤ) → is-value v ≡ true → clamp v ≡ v
 unfolding clamp is-value
-clamp-of-value (pos n) e = let most = leb-true n 1_000_000_000 e in let same : min n 1_000_000_000 ≡ n = omega arith in ap pos same
+clamp-of-value (pos n) e = let most = leb-true n 1_000_000_000 e in let same : min n 1_000_000_000 ≡ n = omega arith in
+    ap pos same
 clamp-of-value (negsuc n) e =
     let most = leb-true (suc n) 1_000_000_000 e in
     let same : min n 999_999_999 ≡ n = omega arith in ap negsuc same
@@ -79,7 +83,10 @@ kind-table =
       integrator = λ a held s q now x y before. (refl, refl);
       starting = λ a c. (refl, refl, refl);
       moving = λ k s q e none. (rw (e, none) refl, rw (e, none) refl);
-      resting = λ k held s x d q e. (λ none. rw none (alike (integrates k) (integral held Absent d) held held (integral-absent held d e) refl), λ none. rw none refl);
+      resting = λ k held s x d q e. (
+        λ none. rw none (alike (integrates k) (integral held Absent d) held held (integral-absent held d e) refl),
+        λ none. rw none refl,
+      );
       reset = λ a held v s q now x before. (refl, refl);
       reset-held = λ a v q now next x before other last. refl;
       detector = λ side held s q now x y before. (refl, refl, refl);
@@ -96,5 +103,12 @@ kind-table =
       clapper-clamped = λ r q. (refl, refl, refl, refl);
       clapper-ends = λ r q. (refl, refl);
       clapper-free = λ a b r q now x y before h. (refl, refl, refl, inr (refl, tt));
-      clapper-sound = λ k n v. (λ none. (rw (none, ne-eqb (suc n) 0 (λ e. omega arith)) refl, rw none refl, rw none refl), refl);
+      clapper-sound = λ k n v. (
+        λ none. (
+          rw (none, ne-eqb (suc n) 0 (λ e. omega arith)) refl,
+          rw none refl,
+          rw none refl,
+        ),
+        refl,
+      );
     }

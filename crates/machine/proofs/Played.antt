@@ -1,4 +1,5 @@
--- The ten marked cases of document 01's "Played examples" hold of its machine: each side computes to the other. Assumes nothing.
+-- The ten marked cases of document 01's "Played examples" hold of its machine: each side computes to the other. Assumes
+-- nothing.
 use mathlib.Core.Path.{refl}
 use Rattle.machine.specs.Played.{Played}
 use Rattle.machine.proofs.Computing.{computing}

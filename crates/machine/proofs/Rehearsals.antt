@@ -1,4 +1,5 @@
--- What `rehearse` prints of refused and of long streams: the streams given compute to their lines, and taking 65,536 bytes of no more is taking all. Assumes nothing.
+-- What `rehearse` prints of refused and of long streams: the streams given compute to their lines, and taking 65,536
+-- bytes of no more is taking all. Assumes nothing.
 use Prim.Native.Nat.{ℕ, _≤_}
 use native.Mathlib.Omega.{arith}
 use mathlib.Core.Path.{_≡_, refl}

@@ -1,5 +1,6 @@
--- Document 01, "Which steps a part accepts": which parts are due, which steps a part accepts, as a statement, and the longest of them up to h,
--- as a function. All take one part, the point, and the reading x of the part's port 0. Assumes nothing.
+-- Document 01, "Which steps a part accepts": which parts are due, which steps a part accepts, as a statement, and the
+-- longest of them up to h, as a function. All take one part, the point, and the reading x of the part's port 0. Assumes
+-- nothing.
 use Prim.Native.Nat.{ℕ, _+_, _-_, _*_, _/_, _%_, _≤_, min, max}
 use mathlib.Core.Path.{_≡_}
 use mathlib.Core.Bool.{Bool, false, cond, _||_}
@@ -9,7 +10,9 @@ use lib.Dec.{eqb, ltb}
 use Rattle.machine.specs.declared.time.Point.{Point}
 use Rattle.machine.specs.declared.signal.Signal.{Signal}
 use Rattle.machine.specs.declared.part.Kind.{Kind}
-use Rattle.machine.specs.declared.part.Kind.the-variants.{Constant, Gain, Adder, Square, Pulse, Delay, Integrator, ResetIntegrator, Detector, Hold, Sampler, Drive, Clapper}
+use Rattle.machine.specs.declared.part.Kind.the-variants.{Constant, Gain, Adder, Square, Pulse, Delay, Integrator}
+use Rattle.machine.specs.declared.part.Kind.the-variants.{ResetIntegrator, Detector, Hold, Sampler, Drive}
+use Rattle.machine.specs.declared.part.Kind.the-variants.{Clapper}
 use Rattle.machine.specs.declared.part.Part.{Part}
 use Rattle.machine.specs.Lists.{member}
 use Rattle.machine.specs.Time.{tick}
@@ -17,7 +20,8 @@ use Rattle.machine.specs.Signal.{present}
 use Rattle.machine.specs.Kind.{period, at-multiple, marked}
 use Rattle.machine.specs.Step.{gain-of}
 
--- how the kinds differ in what they accept: those that wait for a multiple of P, delays, detectors, drives, and those that accept every step
+-- how the kinds differ in what they accept: those that wait for a multiple of P, delays, detectors, drives, and those
+-- that accept every step
 pub data Class : Type 0 where
   waiting delaying detecting driving free : Class
 
@@ -41,7 +45,8 @@ class Clapper = free
 abbrev pub class-of : Part → Class
 class-of p = class (p .component .kind)
 
--- "A part is due if it is a square or pulse at (k × P, 0), k ≥ 1; a delay with its input present; or a detector with a mark"
+-- "A part is due if it is a square or pulse at (k × P, 0), k ≥ 1; a delay with its input present; or a detector with a
+-- mark"
 unfoldable pub due-as : Class → Part → Point → Signal → Bool
 due-as waiting p now x = at-multiple (period p) now
 due-as delaying p now x = present x
@@ -57,8 +62,8 @@ due p = due-as (class-of p) p
 unfoldable pub next-multiple : ℕ → ℕ → ℕ
 next-multiple P t = (t / P + 1) * P
 
--- what a part that is not due accepts: "a square or pulse accepts up to the next multiple of P after t. A drive accepts h if d is 0 or one of its
--- spans. The others accept all"
+-- what a part that is not due accepts: "a square or pulse accepts up to the next multiple of P after t. A drive accepts
+-- h if d is 0 or one of its spans. The others accept all"
 unfoldable pub AcceptsAs : Class → Part → ℕ → ℕ → Type 0
 AcceptsAs waiting p t h = t + h ≤ next-multiple (period p) t
 AcceptsAs delaying p t h = Unit {0}

@@ -1,5 +1,5 @@
--- Calls of advance, and chains of them: what `advance` promises, and what a list of calls is of which document 01's third demand speaks.
--- Assumes nothing.
+-- Calls of advance, and chains of them: what `advance` promises, and what a list of calls is of which document 01's
+-- third demand speaks. Assumes nothing.
 use Prim.Native.Nat.{ℕ}
 use mathlib.Core.Path.{_≡_}
 use mathlib.Core.Bool.{cond}
@@ -12,8 +12,8 @@ use Rattle.machine.specs.Time.{led-to}
 use Rattle.machine.specs.Model.{trimmed, trimmed-answer, SameUnused}
 use Rattle.machine.specs.Advance.{advance}
 
--- what the call `advance` promises of its answer r, for every model m and wanted step w: the machine's answer, trimmed; the very model handed in where
--- it is refused; and where it is committed, the same bytes in unused places
+-- what the call `advance` promises of its answer r, for every model m and wanted step w: the machine's answer, trimmed;
+-- the very model handed in where it is refused; and where it is committed, the same bytes in unused places
 pub record Advanced (m : Model) (w : ℕ) (r : Answer) : Type 0 where
   pub machine : trimmed-answer r ≡ advance (trimmed m) w
   pub unchanged : (r .number ≡ 0 → ⊥) → r .model ≡ m
@@ -53,4 +53,5 @@ visited m cs = m .point ∷ points-led-to cs
 -- the machine's own calls from a model, one for each wanted step
 unfoldable pub machine-calls : Model → List ℕ → List Call
 machine-calls m [] = []
-machine-calls m (w ∷ ws) = record { given = m; wanted = w; answer = advance m w } ∷ machine-calls (advance m w .model) ws
+machine-calls m (w ∷ ws) =
+    record { given = m; wanted = w; answer = advance m w } ∷ machine-calls (advance m w .model) ws

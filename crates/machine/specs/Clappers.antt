@@ -1,5 +1,6 @@
--- Request 2, "Clapper with mass": the law of its motion under a constant input, and what a single step makes of it. What the definitions take from the
--- request's sentences one by one is in the table of kinds. A single statement; each row has its words above it. Assumes nothing.
+-- Request 2, "Clapper with mass": the law of its motion under a constant input, and what a single step makes of it.
+-- What the definitions take from the request's sentences one by one is in the table of kinds. A single statement; each
+-- row has its words above it. Assumes nothing.
 use Prim.Native.Nat.{ℕ, zero, suc, _+_, _*_, _/_, _≤_, _<_}
 use mathlib.Core.Path.{_≡_}
 use mathlib.Core.Bool.{true}
@@ -13,7 +14,7 @@ use Rattle.machine.specs.Signal.{is-value}
 use Rattle.machine.specs.Step.{moved}
 use Rattle.machine.specs.KindTable.{clapper}
 
--- a part that stood at tick t, after k steps of one local tick each, with the reading x at its port 0 all the while
+-- a part that was at tick t, after k steps of one local tick each, with the reading x at its port 0 all the while
 unfoldable pub swung : ℕ → ℕ → Signal → Part → Part
 swung zero t x p = p
 swung (suc k) t x p = moved (t + k * p .ratio) (p .ratio) x (swung k t x p)
@@ -33,14 +34,16 @@ pub record Unclamped (a b x : ℤ) (k : ℕ) : Type 0 where
 
 -- the statement
 pub record Clappers : Type 0 where
-  -- the law: under a constant pull x, after k steps of one local tick each and while nothing is clamped, the speed is b + k·x and the position
-  -- a + k·b + x·k(k + 1)/2, a and b being what they were at tick t
+  -- the law: under a constant pull x, after k steps of one local tick each and while nothing is clamped, the speed is b
+  -- + k·x and the position a + k·b + x·k(k + 1)/2, a and b being what they were at tick t
   pub law :
-      (k t : ℕ) (x : ℤ) (p : Part) → p .component .kind ≡ Clapper → 0 < p .ratio → p .state .local .0 ≡ local-count t (p .ratio) .0 →
+      (k t : ℕ) (x : ℤ) (p : Part) → p .component .kind ≡ Clapper → 0 < p .ratio →
+      p .state .local .0 ≡ local-count t (p .ratio) .0 →
       Unclamped (p .state .held) (p .state .speed) x k →
       (swung k t (Value x) p .state .speed ≡ speed-after (p .state .speed) x k) ×
       (swung k t (Value x) p .state .held ≡ position-after (p .state .held) (p .state .speed) x k)
-  -- no hidden sub-steps: pulled by 1 from rest at 0, one step of 2 leads to 4, and two of 1 to 3; the speed is 2 in both
+  -- no hidden sub-steps: pulled by 1 from rest at 0, one step of 2 leads to 4, and two of 1 to 3; the speed is 2 in
+  -- both
   pub one-step :
       (q : Part) →
       (moved 0 2 (Value (pos 1)) (clapper (pos 0) (pos 0) 1 q) .state .held ≡ pos 4) ×

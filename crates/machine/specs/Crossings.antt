@@ -1,5 +1,6 @@
--- Request 1, "The trade now counts zero as the side held before": what a zero-crossing detector makes of a whole list of inputs, one a point. Zeros leave no
--- trace, as absent inputs leave none. A single statement; each row has the words above it that it says of every side and list. Assumes nothing.
+-- Request 1, "The trade now counts zero as the side held before": what a zero-crossing detector makes of a whole list
+-- of inputs, one a point. Zeros leave no trace, as absent inputs leave none. A single statement; each row has the words
+-- above it that it says of every side and list. Assumes nothing.
 use Prim.Native.Nat.{ℕ, suc}
 use mathlib.Core.Path.{_≡_}
 use mathlib.Core.Bool.{Bool, true, not}
@@ -28,7 +29,7 @@ pub record Sighting : Type 0 where
 abbrev pub sighted : Side → Signal → Sighting
 sighted s x = record { before = s; input = x; after = side-after s x; mark = mark-after s x }
 
--- a list of inputs at a detector whose first side is s, each behind the side that the one before left
+-- a list of inputs at a detector whose first side is s, each after the side that the one before left
 unfoldable pub sightings : Side → List Signal → List Sighting
 sightings s [] = []
 sightings s (x ∷ xs) = sighted s x ∷ sightings (side-after s x) xs
@@ -48,18 +49,23 @@ unmarked xs = map (λ (x : Signal). Clear) xs
 
 -- the statement
 pub record Crossings : Type 0 where
-  -- "detectors take mark and side": those of the input are what a detector's state takes as it settles, whatever else it holds
+  -- "detectors take mark and side": those of the input are what a detector's state takes as it settles, whatever else
+  -- it holds
   pub taken :
       (x : Signal) (s : State) →
-      (settled-as Detector x s .side ≡ sighted (s .side) x .after) × (settled-as Detector x s .mark ≡ sighted (s .side) x .mark)
-  -- zeros leave no trace: at the other inputs, sides before and after and marks are those of the list without its zeros and absent inputs
+      (settled-as Detector x s .side ≡ sighted (s .side) x .after) ×
+      (settled-as Detector x s .mark ≡ sighted (s .side) x .mark)
+  -- zeros leave no trace: at the other inputs, sides before and after and marks are those of the list without its zeros
+  -- and absent inputs
   pub untraced :
       (s : Side) (xs : List Signal) →
-      selected (λ (e : Sighting). not (zero-or-absent (e .input))) (sightings s xs) ≡ sightings s (selected (λ (x : Signal). not (zero-or-absent x)) xs)
+      selected (λ (e : Sighting). not (zero-or-absent (e .input))) (sightings s xs) ≡
+      sightings s (selected (λ (x : Signal). not (zero-or-absent x)) xs)
   -- and at each point left out there is no mark and the side stays, be it unset or not
   pub at-rest :
       (s : Side) (xs : List Signal) →
-      All (λ (e : Sighting). zero-or-absent (e .input) ≡ true → (e .after ≡ e .before) × (e .mark ≡ Clear)) (sightings s xs)
+      All (λ (e : Sighting). zero-or-absent (e .input) ≡ true → (e .after ≡ e .before) ×
+      (e .mark ≡ Clear)) (sightings s xs)
   -- a touch of zero from either side, however long the input rests there, sets no mark
   pub touch :
       (n : ℕ) (rest later : List Signal) → every zero-or-absent rest ≡ true →
@@ -70,7 +76,8 @@ pub record Crossings : Type 0 where
       (n : ℕ) (rest later : List Signal) → every zero-or-absent rest ≡ true →
       (marks Negative (rest ++ (Value (pos (suc n)) ∷ later)) ≡ unmarked rest ++ (Rising ∷ marks Positive later)) ×
       (marks Positive (rest ++ (Value (negsuc n) ∷ later)) ≡ unmarked rest ++ (Falling ∷ marks Negative later))
-  -- "A detector whose side is unset stays unset at zero": the first value other than zero is the first that sets a side, and "sets no mark"
+  -- "A detector whose side is unset stays unset at zero": the first value other than zero is the first that sets a
+  -- side, and "sets no mark"
   pub first-side :
       (n : ℕ) (rest later : List Signal) → every zero-or-absent rest ≡ true →
       (marks Unset (rest ++ (Value (negsuc n) ∷ later)) ≡ unmarked rest ++ (Clear ∷ marks Negative later)) ×

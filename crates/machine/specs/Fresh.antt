@@ -1,5 +1,5 @@
--- Document 01, "Kinds of part", with request 2: the fresh model of a table, at the start point. "The same rules fill the start point."
--- Assumes nothing.
+-- Document 01, "Kinds of part", with request 2: the fresh model of a table, at the start point. "The same rules fill
+-- the start point." Assumes nothing.
 use mathlib.Core.Bool.{cond}
 use mathlib.Core.List.{List, [], map}
 use lib.ListN.{length}
@@ -16,8 +16,8 @@ use Rattle.machine.specs.Kind.{integrates, has-mass}
 use Rattle.machine.specs.Table.{Table, component-ratio, part-order}
 use Rattle.machine.specs.Step.{filled, all-settled}
 
--- "a local count, 0 at the start"; "held number, starting at a"; a "speed (starting at b)"; the held signal "at first absent";
--- "The side is unset until a first value"
+-- "a local count, 0 at the start"; "held number, starting at a"; a "speed (starting at b)"; the held signal "at first
+-- absent"; "The side is unset until a first value"
 unfoldable pub first-state : Component → State
 first-state c =
     record {
@@ -38,7 +38,7 @@ first-part t c = record { component = c; ratio = component-ratio t c; state = fi
 unfoldable pub first-parts : Table → List Part
 first-parts t = map (first-part t) (t .parts)
 
--- the fresh model; there is no point before the start point, so no parts stand there
+-- the fresh model; there is no point before the start point, so no parts are there
 unfoldable pub fresh : Table → Model
 fresh t =
     record {

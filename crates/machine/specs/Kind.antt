@@ -1,5 +1,6 @@
--- Document 01, "Kinds of part", with requests 1 and 2: numbers, ports, direct ports, operands; the output of each kind at a point; what sides and marks become.
--- Document 01's own terms, a mark, a side and a direct port, are explained where they are defined. Assumes nothing.
+-- Document 01, "Kinds of part", with requests 1 and 2: numbers, ports, direct ports, operands; the output of each kind
+-- at a point; what sides and marks become. Document 01's own terms, a mark, a side and a direct port, are explained
+-- where they are defined. Assumes nothing.
 use Prim.Native.Nat.{ℕ, zero, suc, _-_, _*_, _/_, _%_}
 use mathlib.Core.Bool.{Bool, true, false, cond, _&&_}
 use mathlib.Core.List.{List, [], _∷_}
@@ -10,7 +11,9 @@ use Rattle.machine.specs.declared.time.Point.{Point}
 use Rattle.machine.specs.declared.signal.Signal.{Signal}
 use Rattle.machine.specs.declared.signal.Signal.the-variants.{Absent, Value}
 use Rattle.machine.specs.declared.part.Kind.{Kind}
-use Rattle.machine.specs.declared.part.Kind.the-variants.{Constant, Gain, Adder, Square, Pulse, Delay, Integrator, ResetIntegrator, Detector, Hold, Sampler, Drive, Clapper}
+use Rattle.machine.specs.declared.part.Kind.the-variants.{Constant, Gain, Adder, Square, Pulse, Delay, Integrator}
+use Rattle.machine.specs.declared.part.Kind.the-variants.{ResetIntegrator, Detector, Hold, Sampler, Drive}
+use Rattle.machine.specs.declared.part.Kind.the-variants.{Clapper}
 use Rattle.machine.specs.declared.part.Side.{Side}
 use Rattle.machine.specs.declared.part.Side.the-variants.{Unset, Negative, Positive}
 use Rattle.machine.specs.declared.part.Mark.{Mark}
@@ -38,7 +41,8 @@ kind-number Clapper = 12
 -- the kinds in the order of their numbers
 abbrev pub kinds : List Kind
 kinds =
-    Constant ∷ Gain ∷ Adder ∷ Square ∷ Pulse ∷ Delay ∷ Integrator ∷ ResetIntegrator ∷ Detector ∷ Hold ∷ Sampler ∷ Drive ∷ Clapper ∷ []
+    Constant ∷ Gain ∷ Adder ∷ Square ∷ Pulse ∷ Delay ∷ Integrator ∷ ResetIntegrator ∷ Detector ∷ Hold ∷ Sampler ∷
+    Drive ∷ Clapper ∷ []
 
 -- there is a kind with this number; another is "unknown"
 unfoldable pub kind-known : ℕ → Bool
@@ -96,8 +100,8 @@ direct1 Sampler = true
 direct1 Drive = false
 direct1 Clapper = false
 
--- whether a kind's line names the operand a; a drive is "as 6", and names it as an integrator does. Request 2: a clapper's position "starting at a", and its
--- "speed (starting at b)"
+-- whether a kind's line names the operand a; a drive is "as 6", and names it as an integrator does. Request 2: a
+-- clapper's position "starting at a", and its "speed (starting at b)"
 abbrev pub names-a : Kind → Bool
 names-a Constant = true
 names-a Gain = true
@@ -157,7 +161,8 @@ is-zero (negsuc n) = false
 -- "An operand that a kind doesn't name must be 0; p, where named, is 1 to 10^9; a and b are values"
 unfoldable pub operands-fit : Kind → ℤ → ℤ → ℕ → Bool
 operands-fit k a b p =
-    cond (names-a k) (is-value a) (is-zero a) && cond (names-b k) (is-value b) (is-zero b) && cond (names-p k) (is-positive p) (eqb p 0)
+    cond (names-a k) (is-value a) (is-zero a) && cond (names-b k) (is-value b) (is-zero b) &&
+    cond (names-p k) (is-positive p) (eqb p 0)
 
 -- "P means p × r", in master ticks; 0 for a part whose kind names no p
 abbrev pub period : Part → ℕ
@@ -195,8 +200,9 @@ marked Clear = false
 marked Rising = true
 marked Falling = true
 
--- the column "Output" of the table of kinds, for a part p at the point now: x and y are the readings of ports 0 and 1 at that point, `before` that of port 0 at
--- the point before; the part's record holds the held number and signal, and the mark set at the point before
+-- the column "Output" of the table of kinds, for a part p at the point now: x and y are the readings of ports 0 and 1
+-- at that point, `before` that of port 0 at the point before; the part's record holds the held number and signal, and
+-- the mark set at the point before
 unfoldable pub output-as : Kind → Part → Point → (x y before : Signal) → Signal
 output-as Constant p now x y before = Value (p .component .a)
 output-as Gain p now x y before = product (p .component .a) x
@@ -216,8 +222,8 @@ output-as Clapper p now x y before = Value (p .state .held)
 unfoldable pub output : Part → Point → (x y before : Signal) → Signal
 output p = output-as (p .component .kind) p
 
--- "On a step, kinds 6, 7, 11 take held := clamp(held + x × d)", and request 2's clapper "clamp(position + new speed × d)": the kinds that hold a number,
--- which starts at a
+-- "On a step, kinds 6, 7, 11 take held := clamp(held + x × d)", and request 2's clapper "clamp(position + new speed ×
+-- d)": the kinds that hold a number, which starts at a
 abbrev pub integrates : Kind → Bool
 integrates Constant = false
 integrates Gain = false
@@ -249,15 +255,17 @@ has-mass Sampler = false
 has-mass Drive = false
 has-mass Clapper = true
 
--- a side: "A detector sees its input as negative or not negative", and "Its side then becomes the input's; an absent input keeps it". Request 1: "The trade now
--- counts zero as the side held before. A detector whose side is unset stays unset at zero." So zero keeps the side too, and not negative is positive
+-- a side: "A detector sees its input as negative or not negative", and "Its side then becomes the input's; an absent
+-- input keeps it". Request 1: "The trade now counts zero as the side held before. A detector whose side is unset stays
+-- unset at zero." So zero keeps the side too, and not negative is positive
 unfoldable pub side-after : Side → Signal → Side
 side-after s Absent = s
 side-after s (Value (negsuc n)) = Negative
 side-after s (Value (pos zero)) = s
 side-after s (Value (pos (suc n))) = Positive
 
--- the mark, by the sides before and after: 1 (now "not negative": positive), −1, or none where they are the same or either is unset
+-- the mark, by the sides before and after: 1 (now "not negative": positive), −1, or none where they are the same or
+-- either is unset
 abbrev pub mark-between : Side → Side → Mark
 mark-between Unset s = Clear
 mark-between Negative Unset = Clear

@@ -1,5 +1,6 @@
--- Document 01's machine as definitions, in files by its sections, to be read from top to bottom, with the requests of document 02 that are in force named
--- where they changed it. They compute: together they are an executable machine. The promise of every public call cites them, and none of them is taken from code.
+-- Document 01's machine as definitions, in files by its sections, to be read from top to bottom, with the requests of
+-- document 02 that are in force named where they changed it. They compute: together they are an executable machine. The
+-- promise of every public call cites them, and none of them is taken from code.
 pub mod Lists
 pub mod Time
 pub mod Signal

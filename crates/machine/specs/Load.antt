@@ -1,6 +1,6 @@
--- Document 01, "The table's bytes": the commands, what a table's bytes load to, every refusal with its number and position.
--- Commands are read in turn; within one the order is 2, 3, 1, 6, 5, 12, 7, 8, then 9, 10, 11 at End. A stream is a list of bytes.
--- Assumes nothing.
+-- Document 01, "The table's bytes": the commands, what a table's bytes load to, every refusal with its number and
+-- position. Commands are read in turn; within one the order is 2, 3, 1, 6, 5, 12, 7, 8, then 9, 10, 11 at End. A stream
+-- is a list of bytes. Assumes nothing.
 use Prim.Native.Nat.{ℕ, zero, suc, _+_, _-_, _*_}
 use mathlib.Core.Bool.{Bool, true, false, cond, not, _&&_, _||_}
 use mathlib.Core.List.{List, [], _∷_, _++_}
@@ -63,7 +63,8 @@ word-at bs at =
 unfoldable pub signed : ℕ → ℤ
 signed v = cond (ltb v 2147483648) (pos v) (negsuc (4294967296 - suc v))
 
--- the table as far as it has been read: whether Begin was, and whether a span may follow, that is, the command before is a drive's Part or a Span
+-- the table as far as it has been read: whether Begin was, and whether a span may follow, that is, the command before
+-- is a drive's Part or a Span
 pub record Reading : Type 0 where
   pub begun : Bool
   pub spannable : Bool
@@ -73,7 +74,8 @@ pub record Reading : Type 0 where
 abbrev pub nothing-read : Reading
 nothing-read = record { begun = false; spannable = false; table = record { magnitude = 0; parts = [] } }
 
--- "Begin .. stands first and once"; a Span "follows a drive or that drive's earlier span"; 06h is out of place before End
+-- "Begin .. stands first and once"; a Span "follows a drive or that drive's earlier span"; 06h is out of place before
+-- End
 unfoldable pub in-place : Reading → ℕ → Bool
 in-place rd b =
     cond (eqb b begin-byte) (not (rd .begun))
@@ -130,7 +132,7 @@ part-refusal cs kind c =
 unfoldable pub is-drive : Kind → Bool
 is-drive k = eqb (kind-number k) 11
 
--- "Parts number from 0": the part is put behind those read before it
+-- "Parts number from 0": the part is put after those read before it
 unfoldable pub with-part : Reading → Component → Reading
 with-part rd c =
     record {
@@ -217,7 +219,8 @@ accepted at t = record { number = 0; position = at + 1; model = fresh t }
 
 -- the commands, each with all its operands there, at position `at`: Begin
 unfoldable pub begin-command : List ℕ → ℕ → Read
-begin-command bs at = unless-refused (begin-refusal (byte-at bs (at + 1))) at (at + 2) (begun-with (byte-at bs (at + 1)))
+begin-command bs at = unless-refused (begin-refusal (byte-at bs (at + 1))) at (at + 2)
+    (begun-with (byte-at bs (at + 1)))
 
 -- Part
 unfoldable pub part-command : List ℕ → ℕ → Reading → Read
@@ -257,7 +260,8 @@ whole-command bs at rd b =
     (cond (eqb b span-byte) (span-command bs at rd)
     (cond (eqb b wire-byte) (wire-command bs at rd) (end-command at rd))))
 
--- the command with byte b at position `at`: unknown 2, out of place 3, "stream ends .. inside a command" 1, before any operand is judged
+-- the command with byte b at position `at`: unknown 2, out of place 3, "stream ends .. inside a command" 1, before any
+-- operand is judged
 unfoldable pub command-read : List ℕ → ℕ → Reading → ℕ → Read
 command-read bs at rd b =
     cond (known-command b)
@@ -275,7 +279,8 @@ abbrev pub read-on : Read → (ℕ → Reading → Loaded) → Loaded
 read-on (onward at rd) on = on at rd
 read-on (ended r) on = r
 
--- reading for at most n turns; each turn that goes on takes a byte or more, so that as many turns as there are bytes, and one, are never all taken without an end
+-- reading for at most n turns; each turn that goes on takes a byte or more, so that as many turns as there are bytes,
+-- and one, are never all taken without an end
 unfoldable pub read-from : ℕ → List ℕ → ℕ → Reading → Loaded
 read-from zero bs at rd = refused 1 (length bs)
 read-from (suc n) bs at rd = read-on (read-turn bs at rd) (read-from n bs)

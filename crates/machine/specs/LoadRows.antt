@@ -189,7 +189,7 @@ pub record LoadRows : Type 0 where
   pub name-first :
       (load (after-begin (bare 1 ++ (wire 0 0 0 ++ wire 9 0 0))) ≡ refused 7 21) ×
       (load (take 20 (after-begin (bare 1 ++ wire 9 9 9))) ≡ refused 1 17)
-  -- "Then 9, 10, 11": a gain wired to itself beside a pulse whose P is too large
+  -- "Then 9, 10, 11": a gain wired to itself, and a pulse whose P is too large
   pub period-first :
       load (0x01 ∷ 0x0F ∷ (part-with 4 5 bytes-0 bytes-0 bytes-highest ++ (bare 1 ++ (wire 1 1 0 ++ (0x05 ∷ []))))) ≡
       refused 10 36

@@ -1,7 +1,7 @@
--- The records of a model, as the definitions read and write them. Document 01 fixes what a model is: its table, ratios, part order and point, and
--- what its parts keep. The declared struct `Model` has room for more parts and spans than are in use; `trimmed` cuts that room away, so that two
--- models are equal, in document 01's sense, when they are equal trimmed. Every definition of the machine is about trimmed models.
--- Assumes nothing.
+-- The records of a model, as the definitions read and write them. Document 01 fixes what a model is: its table, ratios,
+-- part order and point, and what its parts keep. The declared struct `Model` has room for more parts and spans than are
+-- in use; `trimmed` cuts that room away, so that two models are equal, in document 01's sense, when they are equal
+-- trimmed. Every definition of the machine is about trimmed models. Assumes nothing.
 use Prim.Native.Nat.{ℕ, _<_}
 use mathlib.Core.Path.{_≡_}
 use mathlib.Core.List.{List, [], map}
@@ -30,13 +30,31 @@ most-parts = 32
 abbrev pub most-spans : ℕ
 most-spans = 8
 
--- a part with all of it 0, which stands where a list has no such part
+-- a part with all of it 0, which is where a list has no such part
 abbrev pub blank-component : Component
 blank-component =
-    record { kind = Constant; preference = 0; a = pos 0; b = pos 0; p = 0; «span_count» = 0; spans = []; port0 = Unwired; port1 = Unwired }
+    record {
+      kind = Constant;
+      preference = 0;
+      a = pos 0;
+      b = pos 0;
+      p = 0;
+      «span_count» = 0;
+      spans = [];
+      port0 = Unwired;
+      port1 = Unwired;
+    }
 
 abbrev pub blank-state : State
-blank-state = record { local = record { 0 = 0 }; held = pos 0; speed = pos 0; signal = Absent; output = Absent; side = Unset; mark = Clear }
+blank-state = record {
+  local = record { 0 = 0 };
+  held = pos 0;
+  speed = pos 0;
+  signal = Absent;
+  output = Absent;
+  side = Unset;
+  mark = Clear;
+}
 
 abbrev pub blank-part : Part
 blank-part = record { component = blank-component; ratio = 0; state = blank-state }

@@ -1,5 +1,6 @@
--- What the program `rehearse` prints, beside the marked example: streams that are refused, and where a long one is cut. Document 01, "Played examples":
--- "a load or score refusal is `refused N at POSITION`"; it "reads the first 65,536 bytes .. and stops at a bad byte". Assumes nothing.
+-- What the program `rehearse` prints, besides the marked example: streams that are refused, and where a long one is
+-- cut. Document 01, "Played examples": "a load or score refusal is `refused N at POSITION`"; it "reads the first 65,536
+-- bytes .. and stops at a bad byte". Assumes nothing.
 use Prim.Native.Nat.{ℕ, _≤_}
 use mathlib.Core.Path.{_≡_}
 use mathlib.Core.List.{List, [], _∷_, _++_}
@@ -7,7 +8,7 @@ use lib.ListN.{length, replicate}
 use Rattle.machine.specs.Load.{load}
 use Rattle.machine.specs.Rehearse.{loaded-lines, rehearsed}
 
--- Begin, and a part that is cut behind its preference: "stream ends .. inside a command", 1 at 2
+-- Begin, and a part that is cut after its preference: "stream ends .. inside a command", 1 at 2
 abbrev pub cut-part : List ℕ
 cut-part = 0x01 ∷ 0x00 ∷ 0x02 ∷ 0x00 ∷ 0xFF ∷ []
 
@@ -15,7 +16,7 @@ cut-part = 0x01 ∷ 0x00 ∷ 0x02 ∷ 0x00 ∷ 0xFF ∷ []
 abbrev pub one-constant : List ℕ
 one-constant = 0x01 ∷ 0x00 ∷ 0x02 ∷ 0x00 ∷ 0xFF ∷ 0x01 ∷ replicate 11 0x00
 
--- Begin stands "first and once": the second one is out of place, 3 at 17
+-- Begin is "first and once": the second one is out of place, 3 at 17
 abbrev pub begun-twice : List ℕ
 begun-twice = one-constant ++ (0x01 ∷ 0x00 ∷ 0x05 ∷ [])
 
@@ -28,7 +29,8 @@ pub record Rehearsals : Type 0 where
   -- it prints `refused 1 at 2`
   pub cut : rehearsed cut-part ≡ 114 ∷ 101 ∷ 102 ∷ 117 ∷ 115 ∷ 101 ∷ 100 ∷ 32 ∷ 49 ∷ 32 ∷ 97 ∷ 116 ∷ 32 ∷ 50 ∷ 10 ∷ []
   -- it prints `refused 3 at 17`
-  pub twice : rehearsed begun-twice ≡ 114 ∷ 101 ∷ 102 ∷ 117 ∷ 115 ∷ 101 ∷ 100 ∷ 32 ∷ 51 ∷ 32 ∷ 97 ∷ 116 ∷ 32 ∷ 49 ∷ 55 ∷ 10 ∷ []
+  pub twice : rehearsed begun-twice ≡ 114 ∷ 101 ∷ 102 ∷ 117 ∷ 115 ∷ 101 ∷ 100 ∷ 32 ∷ 51 ∷ 32 ∷ 97 ∷ 116 ∷ 32 ∷ 49 ∷ 55 ∷
+      10 ∷ []
   -- it prints `3 0 3 1 0 1` and `refused 3 at 23`
   pub stopped :
       rehearsed ended-twice ≡

@@ -77,19 +77,22 @@ refused-line number = refused-text ++ (decimal number ++ (line-feed ∷ []))
 
 -- "a load or score refusal is `refused N at POSITION`"
 unfoldable pub refused-at-line : ℕ → ℕ → List ℕ
-refused-at-line number position = refused-text ++ (decimal number ++ (at-text ++ (decimal position ++ (line-feed ∷ []))))
+refused-at-line number position =
+    refused-text ++ (decimal number ++ (at-text ++ (decimal position ++ (line-feed ∷ []))))
 
 -- the line of an answer
 unfoldable pub answer-line : Answer → List ℕ
 answer-line r = cond (eqb (r .number) 0) (committed-line r) (refused-line (r .number))
 
--- the lines from a score's position on: "a line per score command, and stops at a bad byte". `on` prints what follows a command
+-- the lines from a score's position on: "a line per score command, and stops at a bad byte". `on` prints what follows a
+-- command
 abbrev pub score-lines : Score → (Answer → ℕ → List ℕ) → (ℕ → Answer) → List ℕ
 score-lines End on call = []
 score-lines (Wanted w next) on call = answer-line (call w) ++ on (call w) next
 score-lines (Refused number position) on call = refused-at-line number position
 
--- the lines of at most n score commands; each takes a byte or more, so that as many as there are bytes, and one, are never all taken without an end
+-- the lines of at most n score commands; each takes a byte or more, so that as many as there are bytes, and one, are
+-- never all taken without an end
 unfoldable pub lines-from : ℕ → List ℕ → ℕ → Model → List ℕ
 lines-from zero bs at m = []
 lines-from (suc n) bs at m = score-lines (score-at bs at) (λ r next. lines-from n bs next (r .model)) (advance m)

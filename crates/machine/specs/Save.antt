@@ -1,4 +1,5 @@
--- Document 02, request 4, "Save the table": the bytes of a model, what refuses a save, and what is claimed of the bytes of every sound model. Assumes nothing.
+-- Document 02, request 4, "Save the table": the bytes of a model, what refuses a save, and what is claimed of the bytes
+-- of every sound model. Assumes nothing.
 use Prim.Native.Nat.{ℕ, _+_, _*_, _≤_, _<_}
 use mathlib.Core.Path.{_≡_}
 use mathlib.Core.Bool.{true, cond}
@@ -32,8 +33,13 @@ pub record SavedModel (m : Model) : Type 0 where
   pub octets : All (λ (b : ℕ). b < 256) (saved-bytes m)
   pub short : length (saved-bytes m) ≤ longest-table
   -- "Loading those bytes yields the fresh model of the same table": they are accepted, up to their end
-  pub loads : load (saved-bytes m) ≡ record { number = 0; position = length (saved-bytes m); model = fresh (table-of m) }
-  -- "Two sound models have equal bytes exactly when their tables are equal": so nothing but the table counts, neither the point nor what the parts keep
+  pub loads : load (saved-bytes m) ≡ record {
+    number = 0;
+    position = length (saved-bytes m);
+    model = fresh (table-of m);
+  }
+  -- "Two sound models have equal bytes exactly when their tables are equal": so nothing but the table counts, neither
+  -- the point nor what the parts keep
   pub apart : (other : Model) → sound other ≡ true → (saved-bytes m ≡ saved-bytes other) ↔ (table-of m ≡ table-of other)
   -- the model that they load to is sound, and has the same bytes
   pub again : sound (load (saved-bytes m) .model) ≡ true

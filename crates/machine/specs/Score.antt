@@ -1,4 +1,4 @@
--- Document 01, "The table's bytes": the score behind End, "06h with a 4-byte wanted step, repeated". Assumes nothing.
+-- Document 01, "The table's bytes": the score after End, "06h with a 4-byte wanted step, repeated". Assumes nothing.
 use Prim.Native.Nat.{ℕ, _+_}
 use mathlib.Core.Bool.{cond}
 use mathlib.Core.List.{List}

@@ -1,4 +1,5 @@
--- Document 02, request 5, "Print the rehearsal": what a sheet line shows of an answer, the line itself, what refuses it, and a reader of such lines. Assumes nothing.
+-- Document 02, request 5, "Print the rehearsal": what a sheet line shows of an answer, the line itself, what refuses
+-- it, and a reader of such lines. Assumes nothing.
 use Prim.Native.Nat.{ℕ, zero, suc, _+_, _-_, _*_, _≤_, _<_}
 use mathlib.Core.Path.{_≡_}
 use mathlib.Core.Bool.{Bool, true, cond, _&&_}
@@ -38,13 +39,15 @@ output-width = 11
 -- the widths of the fields, from left to right
 abbrev pub sheet-widths : List ℕ
 sheet-widths =
-    tick-width ∷ microstep-width ∷ step-width ∷ rounds-width ∷ revisions-width ∷ output-width ∷ output-width ∷ output-width ∷ []
+    tick-width ∷ microstep-width ∷ step-width ∷ rounds-width ∷ revisions-width ∷ output-width ∷ output-width ∷
+    output-width ∷ []
 
 -- "A sheet line has 78 columns and a line feed"
 abbrev pub sheet-columns : ℕ
 sheet-columns = 78
 
--- what a line shows of an answer: of a committed one t, n, step, rounds, revisions and the three chosen outputs, of a refused one its number
+-- what a line shows of an answer: of a committed one t, n, step, rounds, revisions and the three chosen outputs, of a
+-- refused one its number
 pub data Shown : Type 0 where
   ShownStep : (t n step rounds revisions : ℕ) → (first second third : Signal) → Shown
   ShownRefusal : ℕ → Shown
@@ -58,7 +61,8 @@ unfoldable pub shown : Answer → (a b c : ℕ) → Shown
 shown r a b c =
     let m = r .model in
     cond (eqb (r .number) 0)
-    (ShownStep (tick (m .point)) (m .point .n) (r .step) (r .rounds) (r .revisions) (output-of m a) (output-of m b) (output-of m c))
+    (ShownStep (tick (m .point)) (m .point .n) (r .step) (r .rounds) (r .revisions) (output-of m a) (output-of m b)
+    (output-of m c))
     (ShownRefusal (r .number))
 
 -- "Fields are right-aligned"
@@ -69,7 +73,7 @@ right-aligned width text = replicate (width - length text) blank ++ text
 unfoldable pub filled-up : ℕ → List ℕ → List ℕ
 filled-up width text = text ++ replicate (width - length text) blank
 
--- what stands behind a field, by the widths of those that follow it: "one blank between", and the line feed behind the last
+-- what is after a field, by the widths of those that follow it: "one blank between", and the line feed after the last
 abbrev pub behind-field : List ℕ → ℕ
 behind-field [] = line-feed
 behind-field (w ∷ ws) = blank
@@ -89,7 +93,8 @@ texts-fit (w ∷ ws) (t ∷ ts) = leb (length t) w && texts-fit ws ts
 -- the texts of a committed answer's fields: numbers in base ten; "Absent is a single -"
 unfoldable pub field-texts : (t n step rounds revisions : ℕ) → (first second third : Signal) → List (List ℕ)
 field-texts t n step rounds revisions x y z =
-    decimal t ∷ decimal n ∷ decimal step ∷ decimal rounds ∷ decimal revisions ∷ signal-text x ∷ signal-text y ∷ signal-text z ∷ []
+    decimal t ∷ decimal n ∷ decimal step ∷ decimal rounds ∷ decimal revisions ∷ signal-text x ∷ signal-text y ∷
+    signal-text z ∷ []
 
 -- "A refused advance is `refused N` filled with blanks to 78"
 unfoldable pub refused-row : ℕ → List ℕ
@@ -102,7 +107,8 @@ shown-line (ShownRefusal number) = refused-row number
 
 -- "a committed answer handed in has a number wider than its field": it has not
 unfoldable pub shown-fits : Shown → Bool
-shown-fits (ShownStep t n step rounds revisions x y z) = texts-fit sheet-widths (field-texts t n step rounds revisions x y z)
+shown-fits (ShownStep t n step rounds revisions x y z) =
+    texts-fit sheet-widths (field-texts t n step rounds revisions x y z)
 shown-fits (ShownRefusal number) = true
 
 -- the model has a part of that number
@@ -113,17 +119,18 @@ has-part m k = ltb k (length (m .parts))
 unfoldable pub sheet-line : Answer → (a b c : ℕ) → List ℕ
 sheet-line r a b c = shown-line (shown r a b c)
 
--- what refuses it before 25 is tested: 24, "the answer's model" is not sound; then "26, if a chosen part doesn't exist, or a committed answer handed in has a
--- number wider than its field"
+-- what refuses it before 25 is tested: 24, "the answer's model" is not sound; then "26, if a chosen part doesn't exist,
+-- or a committed answer handed in has a number wider than its field"
 unfoldable pub sheet-refusal : Answer → (a b c : ℕ) → ℕ
 sheet-refusal r a b c =
-    cond (sound (r .model)) (cond (has-part (r .model) a && has-part (r .model) b && has-part (r .model) c && shown-fits (shown r a b c)) 0 26) 24
+    cond (sound (r .model)) (cond (has-part (r .model) a && has-part (r .model) b && has-part (r .model) c &&
+    shown-fits (shown r a b c)) 0 26) 24
 
 -- A reader of sheet lines. The character is a digit
 unfoldable pub is-digit : ℕ → Bool
 is-digit c = leb 48 c && leb c 57
 
--- the number that the digits of a text spell, in base ten, behind those that spell n
+-- the number that the digits of a text spell, in base ten, after those that spell n
 unfoldable pub digits-read : ℕ → List ℕ → ℕ
 digits-read n [] = n
 digits-read n (c ∷ cs) = digits-read (cond (is-digit c) (10 * n + (c - 48)) n) cs
@@ -139,14 +146,15 @@ opposite (suc n) = negsuc n
 
 -- the signal in a field: absent where it has no digit, negative where it has a hyphen
 unfoldable pub signal-read : List ℕ → Signal
-signal-read cs = cond (any is-digit cs) (Value (cond (member hyphen cs) (opposite (number-read cs)) (pos (number-read cs)))) Absent
+signal-read cs = cond (any is-digit cs)
+    (Value (cond (member hyphen cs) (opposite (number-read cs)) (pos (number-read cs)))) Absent
 
--- the fields of a line, by their widths: behind each stands one character more
+-- the fields of a line, by their widths: after each is one character more
 unfoldable pub fields-of : (widths : List ℕ) → List ℕ → List (List ℕ)
 fields-of [] line = []
 fields-of (w ∷ ws) line = take w line ∷ fields-of ws (drop (suc w) line)
 
--- what stands in field k
+-- what is in field k
 unfoldable pub ordered-part : List (List ℕ) → ℕ → ℕ
 ordered-part fs k = number-read (getD fs k [])
 
@@ -156,12 +164,14 @@ signal-at fs k = signal-read (getD fs k [])
 -- what fields show
 unfoldable pub fields-read : List (List ℕ) → Shown
 fields-read fs =
-    ShownStep (ordered-part fs 0) (ordered-part fs 1) (ordered-part fs 2) (ordered-part fs 3) (ordered-part fs 4) (signal-at fs 5) (signal-at fs 6) (signal-at fs 7)
+    ShownStep (ordered-part fs 0) (ordered-part fs 1) (ordered-part fs 2) (ordered-part fs 3) (ordered-part fs 4)
+    (signal-at fs 5) (signal-at fs 6) (signal-at fs 7)
 
 -- what a line shows: a refusal where it begins with the r of `refused `, else its fields
 unfoldable pub sheet-read : List ℕ → Shown
 sheet-read line =
-    cond (eqb (getD line 0 0) 114) (ShownRefusal (number-read (drop (length refused-text) line))) (fields-read (fields-of sheet-widths line))
+    cond (eqb (getD line 0 0) 114) (ShownRefusal (number-read (drop (length refused-text) line)))
+    (fields-read (fields-of sheet-widths line))
 
 -- the refused numbers that a call can be handed: those of 64 bits
 abbrev pub number-taken : Shown → Type 0
@@ -178,4 +188,5 @@ pub record SheetLine (s : Shown) : Type 0 where
   -- field by field it reads back as what is shown ..
   pub reads : sheet-read (shown-line s) ≡ s
   -- .. so that no line that shows something else is the same
-  pub apart : (other : Shown) → shown-fits other ≡ true → number-taken other → shown-line s ≡ shown-line other → s ≡ other
+  pub apart : (other : Shown) → shown-fits other ≡ true → number-taken other → shown-line s ≡ shown-line other →
+      s ≡ other

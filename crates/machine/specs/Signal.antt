@@ -1,5 +1,5 @@
--- Document 01, "Signals", with request 2: values and clamping, and the arithmetic that the kinds' rows use. A signal is the declared enum `Signal`.
--- Assumes nothing.
+-- Document 01, "Signals", with request 2: values and clamping, and the arithmetic that the kinds' rows use. A signal is
+-- the declared enum `Signal`. Assumes nothing.
 use Prim.Native.Nat.{ℕ, min}
 use mathlib.Core.Bool.{Bool, true, false}
 use lib.Dec.{leb}
@@ -30,7 +30,8 @@ unfoldable pub is-signal : Signal → Bool
 is-signal Absent = true
 is-signal (Value v) = is-value v
 
--- "Absent counts as 0 only where an integrator or drive integrates it", and request 2 of a clapper: "absent counts as 0"
+-- "Absent counts as 0 only where an integrator or drive integrates it", and request 2 of a clapper: "absent counts as
+-- 0"
 abbrev pub integrated : Signal → ℤ
 integrated Absent = pos 0
 integrated (Value v) = v
@@ -47,7 +48,8 @@ total Absent (Value w) = Value (clamp w)
 total (Value v) Absent = Value (clamp v)
 total (Value v) (Value w) = Value (clamp (v +ℤ w))
 
--- x "if present", else y: kind 7, reset integrator, takes port 1 or else the held number, and kind 9, hold, its input or else the held signal
+-- x "if present", else y: kind 7, reset integrator, takes port 1 or else the held number, and kind 9, hold, its input
+-- or else the held signal
 abbrev pub first-present : Signal → Signal → Signal
 first-present Absent y = y
 first-present (Value v) y = Value v
@@ -57,6 +59,7 @@ abbrev pub sampled : Signal → Signal → Signal
 sampled x Absent = Absent
 sampled x (Value w) = x
 
--- kinds 6, 7, 11 on a step: "held := clamp(held + x × d)"; of request 2's kind 12 the speed likewise, and then the position by it
+-- kinds 6, 7, 11 on a step: "held := clamp(held + x × d)"; of request 2's kind 12 the speed likewise, and then the
+-- position by it
 unfoldable pub integral : ℤ → Signal → ℕ → ℤ
 integral held x d = clamp (held +ℤ (integrated x *ℤ pos d))

@@ -1,5 +1,5 @@
--- Document 01, "The table's bytes", with request 2: when a model is sound, and refused with 24 otherwise. Asked of a trimmed model.
--- Assumes nothing.
+-- Document 01, "The table's bytes", with request 2: when a model is sound, and refused with 24 otherwise. Asked of a
+-- trimmed model. Assumes nothing.
 use Prim.Native.Nat.{ℕ}
 use mathlib.Core.Bool.{Bool, true, cond, _&&_}
 use mathlib.Core.List.{List, [], _∷_, map}
@@ -20,7 +20,8 @@ use Rattle.machine.specs.Model.{most-parts, most-spans}
 use Rattle.machine.specs.Table.{Table, table-of, ratios, periods-fit, part-order, ordered}
 use Rattle.machine.specs.Load.{preference-known, is-drive}
 
--- a source that loading could have wired to the port with this number, of a part with so many ports, in a table of so many parts
+-- a source that loading could have wired to the port with this number, of a part with so many ports, in a table of so
+-- many parts
 unfoldable pub source-fits : (parts port-count port : ℕ) → Source → Bool
 source-fits n m port Unwired = true
 source-fits n m port (From k) = ltb port m && ltb k n
@@ -55,13 +56,16 @@ table-fits t =
 unfoldable pub speed-fits : Kind → ℤ → Bool
 speed-fits k v = cond (has-mass k) (is-value v) (is-zero v)
 
--- "each local count floor(t / r); every held number a value; every held signal and output a value or absent". Sides and marks can be no others
+-- "each local count floor(t / r); every held number a value; every held signal and output a value or absent". Sides and
+-- marks can be no others
 unfoldable pub state-fits : ℕ → Part → Bool
 state-fits t p =
-    eqb (p .state .local .0) (local-count t (p .ratio) .0) && is-value (p .state .held) && speed-fits (p .component .kind) (p .state .speed) &&
+    eqb (p .state .local .0) (local-count t (p .ratio) .0) && is-value (p .state .held) &&
+    speed-fits (p .component .kind) (p .state .speed) &&
     is-signal (p .state .signal) && is-signal (p .state .output)
 
--- "Sound means: a table that loading accepts, with the ratios and part order that it gives; t and n in range"; and as many parts as the model says
+-- "Sound means: a table that loading accepts, with the ratios and part order that it gives; t and n in range"; and as
+-- many parts as the model says
 unfoldable pub sound : Model → Bool
 sound m =
     eqb (m .count) (length (m .parts)) && table-fits (table-of m) &&

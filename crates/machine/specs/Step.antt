@@ -1,5 +1,5 @@
--- Document 01, "Kinds of part" and "One advance", with request 2: a step made. No part is asked, and there is no trial, round or ceiling: this file imports
--- nothing of acceptance or advancing. Assumes nothing.
+-- Document 01, "Kinds of part" and "One advance", with request 2: a step made. No part is asked, and there is no trial,
+-- round or ceiling: this file imports nothing of acceptance or advancing. Assumes nothing.
 use Prim.Native.Nat.{ℕ, _+_}
 use mathlib.Core.Bool.{cond}
 use mathlib.Core.List.{List, [], _∷_, map}
@@ -9,7 +9,9 @@ use Rattle.machine.specs.declared.time.Point.{Point}
 use Rattle.machine.specs.declared.signal.Signal.{Signal}
 use Rattle.machine.specs.declared.signal.Signal.the-variants.{Value}
 use Rattle.machine.specs.declared.part.Kind.{Kind}
-use Rattle.machine.specs.declared.part.Kind.the-variants.{Constant, Gain, Adder, Square, Pulse, Delay, Integrator, ResetIntegrator, Detector, Hold, Sampler, Drive, Clapper}
+use Rattle.machine.specs.declared.part.Kind.the-variants.{Constant, Gain, Adder, Square, Pulse, Delay, Integrator}
+use Rattle.machine.specs.declared.part.Kind.the-variants.{ResetIntegrator, Detector, Hold, Sampler, Drive}
+use Rattle.machine.specs.declared.part.Kind.the-variants.{Clapper}
 use Rattle.machine.specs.declared.part.State.{State}
 use Rattle.machine.specs.declared.part.Part.{Part}
 use Rattle.machine.specs.declared.model.Model.{Model}
@@ -22,7 +24,8 @@ use Rattle.machine.specs.Model.{part-at, with-state, with-parts, reading
 unfoldable pub gain-of : ℕ → ℕ → Part → ℕ
 gain-of t h p = gained t (p .ratio) (p .state .local) h .0
 
--- request 2, "speed becomes clamp(speed + x × d) .. Here x is port 0 at the old point, and absent counts as 0"; of the other kinds it stays
+-- request 2, "speed becomes clamp(speed + x × d) .. Here x is port 0 at the old point, and absent counts as 0"; of the
+-- other kinds it stays
 unfoldable pub moved-speed : Part → Signal → ℕ → ℤ
 moved-speed p x d = cond (has-mass (p .component .kind)) (integral (p .state .speed) x d) (p .state .speed)
 
@@ -30,7 +33,8 @@ moved-speed p x d = cond (has-mass (p .component .kind)) (integral (p .state .sp
 unfoldable pub rate : Part → Signal → ℕ → Signal
 rate p x d = cond (has-mass (p .component .kind)) (Value (moved-speed p x d)) x
 
--- "Held numbers move as their kinds say, by d and port 0 at the old point", which reads x; "and then position becomes clamp(position + new speed × d)"
+-- "Held numbers move as their kinds say, by d and port 0 at the old point", which reads x; "and then position becomes
+-- clamp(position + new speed × d)"
 unfoldable pub moved-held : Part → Signal → ℕ → ℤ
 moved-held p x d = cond (integrates (p .component .kind)) (integral (p .state .held) (rate p x d) d) (p .state .held)
 
@@ -62,11 +66,12 @@ with-output p out =
       mark = p .state .mark;
     })
 
--- the part p of the parts ps with its output at the point now; the parts `old` stand at the point before
+-- the part p of the parts ps with its output at the point now; the parts `old` are at the point before
 unfoldable pub shown : List Part → Point → List Part → Part → Part
 shown old now ps p = with-output p (output p now (reading0 ps p) (reading1 ps p) (reading0 old p))
 
--- "All outputs there follow, in the part order that loading gave; delays read the old point, and detectors show the mark set there"
+-- "All outputs there follow, in the part order that loading gave; delays read the old point, and detectors show the
+-- mark set there"
 unfoldable pub filled : List Part → Point → List ℕ → List Part → List Part
 filled old now [] ps = ps
 filled old now (k ∷ ks) ps = filled old now ks (set ps k (shown old now ps (part-at ps k)))
@@ -81,7 +86,15 @@ settled-as Pulse x s = s
 settled-as Delay x s = s
 settled-as Integrator x s = s
 settled-as ResetIntegrator x s =
-    record { local = s .local; held = integrated (s .output); speed = s .speed; signal = s .signal; output = s .output; side = s .side; mark = s .mark }
+    record {
+      local = s .local;
+      held = integrated (s .output);
+      speed = s .speed;
+      signal = s .signal;
+      output = s .output;
+      side = s .side;
+      mark = s .mark;
+    }
 settled-as Detector x s =
     record {
       local = s .local;
@@ -93,7 +106,15 @@ settled-as Detector x s =
       mark = mark-after (s .side) x;
     }
 settled-as Hold x s =
-    record { local = s .local; held = s .held; speed = s .speed; signal = s .output; output = s .output; side = s .side; mark = s .mark }
+    record {
+      local = s .local;
+      held = s .held;
+      speed = s .speed;
+      signal = s .output;
+      output = s .output;
+      side = s .side;
+      mark = s .mark;
+    }
 settled-as Sampler x s = s
 settled-as Drive x s = s
 settled-as Clapper x s = s

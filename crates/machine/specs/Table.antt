@@ -1,4 +1,5 @@
--- Document 01, "Time" and "Kinds of part", of a whole table: its ratios, what P comes to, the order of its parts, and loops. Assumes nothing.
+-- Document 01, "Time" and "Kinds of part", of a whole table: its ratios, what P comes to, the order of its parts, and
+-- loops. Assumes nothing.
 use Prim.Native.Nat.{ℕ, zero, suc, _*_, _<_}
 use mathlib.Core.Path.{_≡_}
 use mathlib.Core.Bool.{Bool, true, false, cond, not, _&&_, _||_}
@@ -17,7 +18,8 @@ use Rattle.machine.specs.Time.{last-tick, master-magnitude, ratio-of}
 use Rattle.machine.specs.Kind.{direct0, direct1}
 use Rattle.machine.specs.Model.{blank-component}
 
--- a table: its default magnitude and, by part number, each part's component, which is its kind, preference, operands, spans and the source of each port
+-- a table: its default magnitude and, by part number, each part's component, which is its kind, preference, operands,
+-- spans and the source of each port
 pub record Table : Type 0 where
   pub magnitude : ℕ
   pub parts : List Component
@@ -46,7 +48,8 @@ ratios t = map (component-ratio t) (t .parts)
 unfoldable pub periods-fit : Table → Bool
 periods-fit t = every (λ (c : Component). leb (c .p * component-ratio t c) last-tick) (t .parts)
 
--- "those still unplaced are marks": a list of marks, by part number, true where the part is unplaced. A source is placed where its mark is clear
+-- "those still unplaced are marks": a list of marks, by part number, true where the part is unplaced. A source is
+-- placed where its mark is clear
 unfoldable pub source-placed : List Bool → Source → Bool
 source-placed marks Unwired = true
 source-placed marks (From k) = not (getD marks k false)
@@ -54,9 +57,11 @@ source-placed marks (From k) = not (getD marks k false)
 -- the direct sources of a component are placed
 unfoldable pub ready : List Bool → Component → Bool
 ready marks c =
-    (not (direct0 (c .kind)) || source-placed marks (c .port0)) && (not (direct1 (c .kind)) || source-placed marks (c .port1))
+    (not (direct0 (c .kind)) || source-placed marks (c .port0)) &&
+    (not (direct1 (c .kind)) || source-placed marks (c .port1))
 
--- "the lowest mark whose direct sources are placed": the lowest such part from number k on, cs being the components from k on
+-- "the lowest mark whose direct sources are placed": the lowest such part from number k on, cs being the components
+-- from k on
 unfoldable pub lowest-ready : List Bool → ℕ → List Component → Option ℕ
 lowest-ready marks k [] = none
 lowest-ready marks k (c ∷ cs) =

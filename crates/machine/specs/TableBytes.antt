@@ -1,5 +1,6 @@
--- Document 02, request 4: the bytes of a table, which are the commands that load it, in document 01's widths. "Begin with the default magnitude, each part with
--- its spans, the wires by receiving part and then port, and End". Assumes nothing.
+-- Document 02, request 4: the bytes of a table, which are the commands that load it, in document 01's widths. "Begin
+-- with the default magnitude, each part with its spans, the wires by receiving part and then port, and End". Assumes
+-- nothing.
 use Prim.Native.Nat.{ℕ, suc, _-_, _/_, _%_}
 use mathlib.Core.List.{List, [], _∷_, _++_}
 use lib.IntN.{ℤ, pos, negsuc}
@@ -30,7 +31,7 @@ unfoldable pub spans-bytes : List ℕ → List ℕ
 spans-bytes [] = []
 spans-bytes (v ∷ vs) = span-byte ∷ (operand-bytes v ++ spans-bytes vs)
 
--- the parts, by number, each with its spans behind it
+-- the parts, by number, each with its spans after it
 unfoldable pub parts-bytes : List Component → List ℕ
 parts-bytes [] = []
 parts-bytes (c ∷ cs) = part-bytes c ++ (spans-bytes (c .spans) ++ parts-bytes cs)

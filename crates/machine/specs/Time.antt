@@ -80,7 +80,8 @@ master-magnitude e (q ∷ qs) = master-magnitude (larger e q) qs
 unfoldable pub ratio-of : ℕ → ℕ → ℕ
 ratio-of magnitude preference = cond (eqb preference no-preference) 1 (10 ^ (magnitude - preference))
 
--- floor(t / r), as local ticks: the ratio conversion. No local count goes back to master ticks; a drive's span does, as a plain number (`last-adding`, Accept.antt)
+-- floor(t / r), as local ticks: the ratio conversion. No local count goes back to master ticks; a drive's span does, as
+-- a plain number (`last-adding`, Accept.antt)
 unfoldable pub local-count : ℕ → ℕ → LocalTicks
 local-count t r = record { 0 = t / r }
 

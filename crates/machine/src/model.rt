@@ -32,7 +32,8 @@ pub struct Answer {
     pub ceiling: u64,
 }
 
-// How a call ends: document 01's number (0: committed) and the counts. Where the model is in lent words, this is the answer.
+// How a call ends: document 01's number (0: committed) and the counts. Where the model is in lent words, this is the
+// answer.
 pub struct Outcome {
     pub number: u64,
     pub step: u64,
@@ -47,7 +48,8 @@ pub struct Preview {
     pub answer: Answer,
 }
 
-// What a call that writes into a lent buffer answers: its number (0: written) and its length, which with 25 is the one that the buffer needs.
+// What a call that writes into a lent buffer answers: its number (0: written) and its length, which with 25 is the one
+// that the buffer needs.
 pub struct Written {
     pub number: u64,
     pub length: usize,

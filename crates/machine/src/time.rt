@@ -20,7 +20,7 @@ pub struct Point {
     pub n: u64,
 }
 
-// How one point stands to another, in the order by t, then n.
+// How one point compares with another, in the order by t, then n.
 pub enum Comparison {
     Earlier,
     Same,
@@ -70,7 +70,7 @@ impl Point {
         Point::LAST
     }
 
-    // How this point stands to `other`.
+    // How this point compares with `other`.
     pub fn compare(self, other: Point) -> Comparison
         ensures { λ r. ⌜ r ≡ compared self other ⌝ }
     {

@@ -1,7 +1,7 @@
--- What filling a point's outputs means, without an order: every stored output is the row of its part's kind, for the outputs that are stored
--- (`Filling`). Filling in a complete order gives such parts, since a part's direct sources are filled before it and no output is written twice;
--- and there are no others, by induction along the order.
--- Assumes nothing.
+-- What filling a point's outputs means, without an order: every stored output is the row of its part's kind, for the
+-- outputs that are stored (`Filling`). Filling in a complete order gives such parts, since a part's direct sources are
+-- filled before it and no output is written twice; and there are no others, by induction along the order. Assumes
+-- nothing.
 use Prim.Native.Nat.{ℕ, _<_}
 use native.Mathlib.Omega.{arith}
 use mathlib.Core.Path.{_≡_, refl, ap, ap₂, sym, _∙_}
@@ -20,7 +20,8 @@ use Rattle.laws.specs.Once.{Once, once-apart, once-rest}
 use Rattle.order_laws.specs.Order.{CompleteOrder}
 use Rattle.order_laws.specs.Row.{unshown, row, stored, row-kept, components, components-length, row-at}
 
--- the parts qs are the parts ps with their outputs filled at the point now: nothing else is changed, and every stored output is its row
+-- the parts qs are the parts ps with their outputs filled at the point now: nothing else is changed, and every stored
+-- output is its row
 pub record Filling (old : List Part) (now : Point) (ps qs : List Part) : Type 0 where
   pub kept : map unshown qs ≡ map unshown ps
   pub rows : (i : ℕ) → i < length ps → stored qs i ≡ row old now qs (part-at ps i)
@@ -30,13 +31,15 @@ kept-length : (ps qs : List Part) → map unshown qs ≡ map unshown ps → leng
 kept-length ps qs e = length-same-map unshown qs ps e
 
 -- each of them is kept
-kept-at : (ps qs : List Part) → map unshown qs ≡ map unshown ps → (i : ℕ) → unshown (part-at qs i) ≡ unshown (part-at ps i)
+kept-at : (ps qs : List Part) → map unshown qs ≡ map unshown ps → (i : ℕ) →
+    unshown (part-at qs i) ≡ unshown (part-at ps i)
 kept-at ps qs e i = same-at unshown qs ps i blank-part e
 
 -- and so are the components
 kept-components : (ps qs : List Part) → map unshown qs ≡ map unshown ps → components qs ≡ components ps
 kept-components ps qs e =
-    sym (map-map (λ (p : Part). p .component) unshown qs) ∙ (ap components e ∙ map-map (λ (p : Part). p .component) unshown ps)
+    sym (map-map (λ (p : Part). p .component) unshown qs) ∙
+    (ap components e ∙ map-map (λ (p : Part). p .component) unshown ps)
 
 module _ (old : List Part) (now : Point) where
   -- filling in an order changes nothing but stored outputs
@@ -48,7 +51,8 @@ module _ (old : List Part) (now : Point) where
       map-set-same unshown ps k (shown old now ps (part-at ps k)) blank-part refl
 
   -- a part that is not in the order is not changed
-  filled-other : (ks : List ℕ) (ps : List Part) (i : ℕ) → (List·Memᴰ i ks → ⊥) → part-at (filled old now ks ps) i ≡ part-at ps i
+  filled-other : (ks : List ℕ) (ps : List Part) (i : ℕ) → (List·Memᴰ i ks → ⊥) →
+      part-at (filled old now ks ps) i ≡ part-at ps i
   unfolding filled
   filled-other [] ps i out = refl
   filled-other (k ∷ ks) ps i out =
@@ -56,7 +60,8 @@ module _ (old : List Part) (now : Point) where
       getD-set-other ps k i (shown old now ps (part-at ps k)) blank-part (λ e. out (List·Memᴰ·head e))
 
   -- filling goes on from what was filled
-  pub filled-append : (front ks : List ℕ) (ps : List Part) → filled old now (front ++ ks) ps ≡ filled old now ks (filled old now front ps)
+  pub filled-append : (front ks : List ℕ) (ps : List Part) →
+      filled old now (front ++ ks) ps ≡ filled old now ks (filled old now front ps)
   unfolding filled
   filled-append [] ks ps = refl
   filled-append (k ∷ front) ks ps = filled-append front ks (set ps k (shown old now ps (part-at ps k)))
@@ -67,10 +72,12 @@ module _ (old : List Part) (now : Point) where
   unfolding filled shown
   filled-first k ks ps h out =
       ap (λ (p : Part). p .state .output)
-      (filled-other ks (set ps k (shown old now ps (part-at ps k))) k out ∙ getD-set-same ps k (shown old now ps (part-at ps k)) blank-part h)
+      (filled-other ks (set ps k (shown old now ps (part-at ps k))) k out ∙
+      getD-set-same ps k (shown old now ps (part-at ps k)) blank-part h)
 
   module _ (ps : List Part) (ks : List ℕ) (complete : CompleteOrder (components ps) ks) where
-    -- what a direct source of a part stores when the part's turn comes it stores at the end: it was filled before, and no output is written twice
+    -- what a direct source of a part stores when the part's turn comes it stores at the end: it was filled before, and
+    -- no output is written twice
     pub source-filled : (front back : List ℕ) (i j : ℕ) → ks ≡ front ++ i ∷ back → DirectWire (components ps) j i →
         stored (filled old now front ps) j ≡ stored (filled old now ks ps) j
     source-filled front back i j e wire =
@@ -86,9 +93,12 @@ module _ (old : List Part) (now : Point) where
     filled-row : (front back : List ℕ) (i : ℕ) → ks ≡ front ++ i ∷ back → i < length ps →
         stored (filled old now ks ps) i ≡ row old now (filled old now ks ps) (part-at ps i)
     filled-row front back i e h =
-        ap (λ (qs : List Part). stored qs i) (ap (λ (l : List ℕ). filled old now l ps) e ∙ filled-append front (i ∷ back) ps) ∙
-        (filled-first i back half (omega (arith, kept-length ps half (filled-kept front ps))) (once-rest front (i ∷ back) once .0) ∙
-        (ap (row old now half) (filled-other front ps i (λ m. once-apart front (i ∷ back) i once m (List·Memᴰ·head refl))) ∙
+        ap (λ (qs : List Part). stored qs i) (ap (λ (l : List ℕ). filled old now l ps) e ∙
+        filled-append front (i ∷ back) ps) ∙
+        (filled-first i back half (omega (arith, kept-length ps half (filled-kept front ps)))
+        (once-rest front (i ∷ back) once .0) ∙
+        (ap (row old now half) (filled-other front ps i
+        (λ m. once-apart front (i ∷ back) i once m (List·Memᴰ·head refl))) ∙
         row-at old now ps half (filled old now ks ps) i h (λ j wire. source-filled front back i j e wire)))
       where
         half : List Part
@@ -108,16 +118,19 @@ module _ (old : List Part) (now : Point) where
         }
 
     -- a number that is not in the order is no part's
-    beyond : (rs : List Part) → map unshown rs ≡ map unshown ps → (j : ℕ) → (List·Memᴰ j ks → ⊥) → part-at rs j ≡ blank-part
+    beyond : (rs : List Part) → map unshown rs ≡ map unshown ps → (j : ℕ) → (List·Memᴰ j ks → ⊥) →
+        part-at rs j ≡ blank-part
     beyond rs e j out =
         let none : j < length (components ps) → ⊥ = λ h. out (complete .all j h) in
         List·getD-eq-default rs blank-part (omega (arith, kept-length ps rs e, components-length ps))
 
     -- in two fillings each part shows the same, since its direct sources do
-    filling-same : (qs qs′ : List Part) → Filling old now ps qs → Filling old now ps qs′ → (i : ℕ) → List·Memᴰ i ks → stored qs i ≡ stored qs′ i
+    filling-same : (qs qs′ : List Part) → Filling old now ps qs → Filling old now ps qs′ → (i : ℕ) → List·Memᴰ i ks →
+        stored qs i ≡ stored qs′ i
     filling-same qs qs′ f f′ = along ks (λ i. stored qs i ≡ stored qs′ i) step
       where
-        step : (front back : List ℕ) (k : ℕ) → ks ≡ front ++ k ∷ back → ((i : ℕ) → List·Memᴰ i front → stored qs i ≡ stored qs′ i) →
+        step : (front back : List ℕ) (k : ℕ) → ks ≡ front ++ k ∷ back →
+            ((i : ℕ) → List·Memᴰ i front → stored qs i ≡ stored qs′ i) →
             stored qs k ≡ stored qs′ k
         step front back k e before =
             let among : List·Memᴰ k ks = rw e (Memᴰ·append-right front (List·Memᴰ·head refl)) in
@@ -126,7 +139,8 @@ module _ (old : List Part) (now : Point) where
             (row-at old now ps qs qs′ k there
             (λ j wire.
             ⊎-elim (λ m. before j (complete .after front back j k e wire (complete .below j m)))
-            (λ out. ap (λ (p : Part). p .state .output) (beyond qs (f .kept) j out ∙ sym (beyond qs′ (f′ .kept) j out))) (in-or-not j ks)) ∙
+            (λ out. ap (λ (p : Part). p .state .output) (beyond qs (f .kept) j out ∙ sym (beyond qs′ (f′ .kept) j out)))
+            (in-or-not j ks)) ∙
             sym (f′ .rows k there))
 
     -- so a filling is the only one
@@ -135,10 +149,12 @@ module _ (old : List Part) (now : Point) where
         ext-getD blank-part qs qs′ (kept-length ps qs (f .kept) ∙ sym (kept-length ps qs′ (f′ .kept)))
         (λ i h.
         let there : i < length (components ps) = omega (arith, kept-length ps qs (f .kept), components-length ps) in
-        ap₂ with-output (kept-at ps qs (f .kept) i ∙ sym (kept-at ps qs′ (f′ .kept) i)) (filling-same qs qs′ f f′ i (complete .all i there)))
+        ap₂ with-output (kept-at ps qs (f .kept) i ∙ sym (kept-at ps qs′ (f′ .kept) i))
+        (filling-same qs qs′ f f′ i (complete .all i there)))
 
   -- a filling of parts is one of parts that agree with them but for their stored outputs
-  filling-anyway : (ps ps′ qs : List Part) → map unshown ps′ ≡ map unshown ps → Filling old now ps′ qs → Filling old now ps qs
+  filling-anyway : (ps ps′ qs : List Part) → map unshown ps′ ≡ map unshown ps → Filling old now ps′ qs →
+      Filling old now ps qs
   filling-anyway ps ps′ qs e f =
       record {
         kept = f .kept ∙ e;
@@ -148,7 +164,8 @@ module _ (old : List Part) (now : Point) where
       }
 
   -- so filling gives the same whatever outputs were stored before
-  pub filled-anyway : (ps ps′ : List Part) (ks : List ℕ) → CompleteOrder (components ps) ks → map unshown ps′ ≡ map unshown ps →
+  pub filled-anyway : (ps ps′ : List Part) (ks : List ℕ) → CompleteOrder (components ps) ks →
+      map unshown ps′ ≡ map unshown ps →
       filled old now ks ps′ ≡ filled old now ks ps
   filled-anyway ps ps′ ks complete e =
       only-filling ps ks complete (filled old now ks ps′) (filled old now ks ps)

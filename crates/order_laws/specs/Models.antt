@@ -1,7 +1,7 @@
--- The outputs that a model stores after a step, and a fresh model stores: each is the row of its part's kind, for the outputs that are stored,
--- the part being as the step moved it, or as it is first. Settling changes no stored output, so this holds before it and after. And neither model
--- depends on the outputs that the parts held before theirs were written into them.
--- Assumes nothing.
+-- The outputs that a model stores after a step, and a fresh model stores: each is the row of its part's kind, for the
+-- outputs that are stored, the part being as the step moved it, or as it is first. Settling changes no stored output,
+-- so this holds before it and after. And neither model depends on the outputs that the parts held before theirs were
+-- written into them. Assumes nothing.
 use Prim.Native.Nat.{ℕ, _<_}
 use mathlib.Core.Path.{_≡_, refl, sym, ap, _∙_}
 use mathlib.Core.Bool.{true}
@@ -10,7 +10,8 @@ use lib.ListN.{length, length-map}
 use Rattle.machine.specs.declared.time.Point.{Point}
 use Rattle.machine.specs.declared.signal.Signal.{Signal}
 use Rattle.machine.specs.declared.part.Kind.{Kind}
-use Rattle.machine.specs.declared.part.Kind.the-variants.{Constant, Gain, Adder, Square, Pulse, Delay, Integrator, ResetIntegrator, Detector, Hold, Sampler, Drive, Clapper}
+use Rattle.machine.specs.declared.part.Kind.the-variants.{Constant, Gain, Adder, Square, Pulse, Delay, Integrator}
+use Rattle.machine.specs.declared.part.Kind.the-variants.{ResetIntegrator, Detector, Hold, Sampler, Drive, Clapper}
 use Rattle.machine.specs.declared.part.State.{State}
 use Rattle.machine.specs.declared.part.Part.{Part}
 use Rattle.machine.specs.declared.model.Model.{Model}
@@ -49,11 +50,13 @@ stored-settled qs i =
     (map-kept (λ (p : Part). p .state .output) (λ (p : Part). settled (reading0 qs p) p) qs
     (λ p. settled-as-output (p .component .kind) (reading0 qs p) (p .state)))
 
--- so where parts are filled, their stored outputs after settling are still the rows, for the outputs stored after settling
+-- so where parts are filled, their stored outputs after settling are still the rows, for the outputs stored after
+-- settling
 settled-rows : (old : List Part) (now : Point) (ps qs : List Part) → Filling old now ps qs → (i : ℕ) → i < length ps →
     stored (all-settled qs) i ≡ row old now (all-settled qs) (part-at ps i)
 settled-rows old now ps qs f i h =
-    stored-settled qs i ∙ (f .rows i h ∙ sym (row-direct old now (all-settled qs) qs (part-at ps i) (λ j feeds. stored-settled qs j)))
+    stored-settled qs i ∙ (f .rows i h ∙
+    sym (row-direct old now (all-settled qs) qs (part-at ps i) (λ j feeds. stored-settled qs j)))
 
 -- a step moves parts and keeps their components
 pub moved-components : (t h : ℕ) (ps : List Part) → components (all-moved t h ps) ≡ components ps
@@ -67,24 +70,29 @@ module _
     (order : m .order ≡ part-order (components (m .parts))) where
   -- the order is complete for the moved parts
   moved-complete : CompleteOrder (components (all-moved (tick (m .point)) h (m .parts))) (m .order)
-  moved-complete = rw (moved-components (tick (m .point)) h (m .parts), order) (order-complete (components (m .parts)) full)
+  moved-complete = rw (moved-components (tick (m .point)) h (m .parts), order)
+      (order-complete (components (m .parts)) full)
 
   -- before settling: a step fills the moved parts
   step-filling :
       Filling (m .parts) (led-to (m .point) h) (all-moved (tick (m .point)) h (m .parts))
       (filled (m .parts) (led-to (m .point) h) (m .order) (all-moved (tick (m .point)) h (m .parts)))
-  step-filling = filled-filling (m .parts) (led-to (m .point) h) (all-moved (tick (m .point)) h (m .parts)) (m .order) moved-complete
+  step-filling = filled-filling (m .parts) (led-to (m .point) h) (all-moved (tick (m .point)) h (m .parts))
+      (m .order) moved-complete
 
-  -- request 6, "Each call keeps its answers, whatever outputs those records held before": the step made is that of any parts that agree with the moved ones
-  -- but for their stored outputs
+  -- request 6, "Each call keeps its answers, whatever outputs those records held before": the step made is that of any
+  -- parts that agree with the moved ones but for their stored outputs
   pub step-anyway : (ps : List Part) → map unshown ps ≡ map unshown (all-moved (tick (m .point)) h (m .parts)) →
-      with-parts m (led-to (m .point) h) (all-settled (filled (m .parts) (led-to (m .point) h) (m .order) ps)) ≡ step-made m h
+      with-parts m (led-to (m .point) h) (all-settled (filled (m .parts) (led-to (m .point) h) (m .order) ps)) ≡
+      step-made m h
   unfolding step-made
   step-anyway ps e =
       ap (λ (qs : List Part). with-parts m (led-to (m .point) h) (all-settled qs))
-      (filled-anyway (m .parts) (led-to (m .point) h) (all-moved (tick (m .point)) h (m .parts)) ps (m .order) moved-complete e)
+      (filled-anyway (m .parts) (led-to (m .point) h) (all-moved (tick (m .point)) h (m .parts)) ps
+      (m .order) moved-complete e)
 
-  -- after settling: each stored output is the row of the moved part, its sources' outputs being those stored now, and `before` the model's
+  -- after settling: each stored output is the row of the moved part, its sources' outputs being those stored now, and
+  -- `before` the model's
   pub step-rows : (i : ℕ) → i < length (m .parts) →
       stored (step-made m h .parts) i ≡
       row (m .parts) (led-to (m .point) h) (step-made m h .parts) (part-at (all-moved (tick (m .point)) h (m .parts)) i)
@@ -116,8 +124,10 @@ module _ (t : Table) (full : ordered (t .parts) ≡ true) where
       ap (λ (qs : List Part). with-parts (fresh t) start (all-settled qs))
       (filled-anyway [] start (first-parts t) ps (part-order (t .parts)) first-complete e)
 
-  -- after settling: each stored output is the row of the first part, its sources' outputs being those stored now; there is no point before
-  pub fresh-rows : (i : ℕ) → i < length (t .parts) → stored (fresh t .parts) i ≡ row [] start (fresh t .parts) (part-at (first-parts t) i)
+  -- after settling: each stored output is the row of the first part, its sources' outputs being those stored now; there
+  -- is no point before
+  pub fresh-rows : (i : ℕ) → i < length (t .parts) →
+      stored (fresh t .parts) i ≡ row [] start (fresh t .parts) (part-at (first-parts t) i)
   unfolding fresh first-parts
   fresh-rows i l =
       settled-rows [] start (first-parts t) (filled [] start (part-order (t .parts)) (first-parts t)) fresh-filling i

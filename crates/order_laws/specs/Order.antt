@@ -1,6 +1,6 @@
--- The order of parts: where it has all parts it is complete, each part comes after its direct sources, and the lowest part that may go goes
--- next. All of it follows from one description of what `placed` gives (`Placing`), which is by induction on the list.
--- Assumes nothing.
+-- The order of parts: where it has all parts it is complete, each part comes after its direct sources, and the lowest
+-- part that may go goes next. All of it follows from one description of what `placed` gives (`Placing`), which is by
+-- induction on the list. Assumes nothing.
 use Prim.Native.Nat.{ℕ, zero, suc, _+_, _≤_, _<_}
 use native.Mathlib.Omega.{arith}
 use mathlib.Core.Path.{_≡_, sym, subst, _∙_}
@@ -16,7 +16,8 @@ use Rattle.machine.specs.declared.part.Source.{Source}
 use Rattle.machine.specs.declared.part.Source.the-variants.{From}
 use Rattle.machine.specs.Kind.{direct0, direct1}
 use Rattle.machine.specs.Model.{blank-component}
-use Rattle.machine.specs.Table.{component-at, source-placed, ready, lowest-ready, next-part, placed, part-order, ordered, DirectWire}
+use Rattle.machine.specs.Table.{component-at, source-placed, ready, lowest-ready, next-part, placed, part-order}
+use Rattle.machine.specs.Table.{ordered, DirectWire}
 use Rattle.laws.specs.Bools.{either, and-left, and-right, fails-from}
 use Rattle.laws.specs.ListLaws.{in-or-not}
 use Rattle.laws.specs.Marks.{cleared, clear-set, marked-before, cleared-other}
@@ -29,16 +30,19 @@ may-go cs marks k = getD marks k false && ready marks (component-at cs k)
 -- what the search from part k on found: no part that may go, or the lowest one
 abbrev pub LowestFound : List Component → List Bool → ℕ → Option ℕ → Type 0
 LowestFound cs marks k none = (j : ℕ) → k ≤ j → j < length cs → may-go cs marks j ≡ false
-LowestFound cs marks k (some i) = (i < length cs) × (may-go cs marks i ≡ true) × ((j : ℕ) → k ≤ j → j < i → may-go cs marks j ≡ false)
+LowestFound cs marks k (some i) = (i < length cs) × (may-go cs marks i ≡ true) ×
+    ((j : ℕ) → k ≤ j → j < i → may-go cs marks j ≡ false)
 
 -- what was found from part k + 1 on, where part k may not go, is what is found from part k on
-found-later : (cs : List Component) (marks : List Bool) (k : ℕ) (o : Option ℕ) → may-go cs marks k ≡ false → LowestFound cs marks (suc k) o →
+found-later : (cs : List Component) (marks : List Bool) (k : ℕ) (o : Option ℕ) → may-go cs marks k ≡ false →
+    LowestFound cs marks (suc k) o →
     LowestFound cs marks k o
 found-later cs marks k none e f = fails-from (may-go cs marks) (length cs) k e f
 found-later cs marks k (some i) e f = (f .0, f .1, fails-from (may-go cs marks) i k e (f .2))
 
 -- `lowest-ready` finds the lowest part that may go; n is how many parts there are from part k on
-pub lowest-found : (cs : List Component) (marks : List Bool) (n k : ℕ) → k + n ≡ length cs → LowestFound cs marks k (lowest-ready marks k (drop k cs))
+pub lowest-found : (cs : List Component) (marks : List Bool) (n k : ℕ) → k + n ≡ length cs →
+    LowestFound cs marks k (lowest-ready marks k (drop k cs))
 unfolding lowest-ready
 lowest-found cs marks zero k e = rw (drop-of-length-le cs {i = k} (omega arith)) (λ j h l. absurd (omega arith))
 lowest-found cs marks (suc n) k e =
@@ -83,17 +87,20 @@ placing : (n : ℕ) (cs : List Component) (marks : List Bool) → Placing cs mar
 unfolding placed
 placing zero cs marks = tt
 placing (suc n) cs marks =
-    placing-next cs marks (lowest-ready marks 0 cs) (λ k. placed n cs (set marks k false)) (lowest-found cs marks (length cs) 0 (omega arith))
+    placing-next cs marks (lowest-ready marks 0 cs) (λ k. placed n cs (set marks k false))
+    (lowest-found cs marks (length cs) 0 (omega arith))
     (λ k. placing n cs (set marks k false))
 
 -- where the source of a direct port is placed, its mark is clear
-port-clear : (marks : List Bool) (direct : Bool) (s : Source) (i : ℕ) → not direct || source-placed marks s ≡ true → direct ≡ true →
+port-clear : (marks : List Bool) (direct : Bool) (s : Source) (i : ℕ) → not direct || source-placed marks s ≡ true →
+    direct ≡ true →
     s ≡ From i → getD marks i false ≡ false
 unfolding source-placed
 port-clear marks direct s i h d e = not-true (getD marks i false) (rw (d, e) at h)
 
 -- where a part is ready, the marks of its direct sources are clear
-source-clear : (cs : List Component) (marks : List Bool) (i k : ℕ) → DirectWire cs i k → ready marks (component-at cs k) ≡ true →
+source-clear : (cs : List Component) (marks : List Bool) (i k : ℕ) → DirectWire cs i k →
+    ready marks (component-at cs k) ≡ true →
     getD marks i false ≡ false
 unfolding ready
 source-clear cs marks i k wire h =
@@ -109,16 +116,20 @@ all-marked cs = replicate (length cs) true
 
 module _ (cs : List Component) where
   -- a part that gets its turn was marked from the beginning
-  placing-marked : (ks : List ℕ) (marks : List Bool) → Placing cs marks ks → (j : ℕ) → List·Memᴰ j ks → getD marks j false ≡ true
+  placing-marked : (ks : List ℕ) (marks : List Bool) → Placing cs marks ks → (j : ℕ) → List·Memᴰ j ks →
+      getD marks j false ≡ true
   placing-marked [] marks p j m = absurd (List·Memᴰ·not-nil m)
   placing-marked (k ∷ ks) marks p j (List·Memᴰ·head e) = rw e (p .0 .unplaced)
-  placing-marked (k ∷ ks) marks p j (List·Memᴰ·tail m) = marked-before marks k j (placing-marked ks (set marks k false) (p .1) j m)
+  placing-marked (k ∷ ks) marks p j (List·Memᴰ·tail m) =
+      marked-before marks k j (placing-marked ks (set marks k false) (p .1) j m)
 
   -- no part gets its turn twice
   placing-once : (ks : List ℕ) (marks : List Bool) → Placing cs marks ks → Once ks
   placing-once [] marks p = tt
-  placing-once (k ∷ ks) marks p =
-      (λ m. false≢true (sym (clear-set marks k) ∙ placing-marked ks (set marks k false) (p .1) k m), placing-once ks (set marks k false) (p .1))
+  placing-once (k ∷ ks) marks p = (
+    λ m. false≢true (sym (clear-set marks k) ∙ placing-marked ks (set marks k false) (p .1) k m),
+    placing-once ks (set marks k false) (p .1),
+  )
 
   -- each part that gets its turn is there
   placing-below : (ks : List ℕ) (marks : List Bool) → Placing cs marks ks → (j : ℕ) → List·Memᴰ j ks → j < length cs
@@ -127,7 +138,8 @@ module _ (cs : List Component) where
   placing-below (k ∷ ks) marks p j (List·Memᴰ·tail m) = placing-below ks (set marks k false) (p .1) j m
 
   -- a part has its turn with the marks that those before it left
-  placing-split : (front back : List ℕ) (k : ℕ) (marks : List Bool) → Placing cs marks (front ++ k ∷ back) → Lowest cs (cleared marks front) k
+  placing-split : (front back : List ℕ) (k : ℕ) (marks : List Bool) → Placing cs marks (front ++ k ∷ back) →
+      Lowest cs (cleared marks front) k
   unfolding cleared
   placing-split [] back k marks p = p .0
   placing-split (j ∷ front) back k marks p = placing-split front back k (set marks j false) (p .1)
@@ -143,22 +155,29 @@ module _ (cs : List Component) where
   order-below = placing-below (part-order cs) (all-marked cs) (placing (length cs) cs (all-marked cs))
 
   -- lowest first: with the marks that the parts before it left, each part of the order is the lowest one
-  pub lowest-first : (front back : List ℕ) (k : ℕ) → part-order cs ≡ front ++ k ∷ back → Lowest cs (cleared (all-marked cs) front) k
+  pub lowest-first : (front back : List ℕ) (k : ℕ) → part-order cs ≡ front ++ k ∷ back →
+      Lowest cs (cleared (all-marked cs) front) k
   unfolding part-order
   lowest-first front back k e =
-      placing-split front back k (all-marked cs) (subst (Placing cs (all-marked cs)) e (placing (length cs) cs (all-marked cs)))
+      placing-split front back k (all-marked cs)
+      (subst (Placing cs (all-marked cs)) e (placing (length cs) cs (all-marked cs)))
 
   -- where the order has all parts, it is as long as there are parts
   pub order-length : ordered cs ≡ true → length (part-order cs) ≡ length cs
   unfolding ordered
-  order-length h = omega (arith, leb-true (length cs) (length (part-order cs)) h, once-short (part-order cs) (length cs) order-once order-below)
+  order-length h = omega (
+    arith,
+    leb-true (length cs) (length (part-order cs)) h,
+    once-short (part-order cs) (length cs) order-once order-below,
+  )
 
   -- and every part occurs in it
   pub order-all : ordered cs ≡ true → (k : ℕ) → k < length cs → List·Memᴰ k (part-order cs)
   order-all h = once-all (part-order cs) (length cs) order-once order-below (order-length h)
 
   -- each part comes after its direct sources
-  pub order-after : (front back : List ℕ) (i k : ℕ) → part-order cs ≡ front ++ k ∷ back → DirectWire cs i k → i < length cs → List·Memᴰ i front
+  pub order-after : (front back : List ℕ) (i k : ℕ) → part-order cs ≡ front ++ k ∷ back → DirectWire cs i k →
+      i < length cs → List·Memᴰ i front
   order-after front back i k e wire h =
       ⊎-elim (λ m. m) (λ out. absurd (false≢true (sym clear ∙ still-marked out))) (in-or-not i front)
     where
@@ -173,8 +192,14 @@ pub record CompleteOrder (cs : List Component) (ks : List ℕ) : Type 0 where
   pub below : (k : ℕ) → List·Memᴰ k ks → k < length cs
   pub once : Once ks
   pub all : (k : ℕ) → k < length cs → List·Memᴰ k ks
-  pub after : (front back : List ℕ) (i k : ℕ) → ks ≡ front ++ k ∷ back → DirectWire cs i k → i < length cs → List·Memᴰ i front
+  pub after : (front back : List ℕ) (i k : ℕ) → ks ≡ front ++ k ∷ back → DirectWire cs i k → i < length cs →
+      List·Memᴰ i front
 
 -- the part order is one, where it has all parts
 pub order-complete : (cs : List Component) → ordered cs ≡ true → CompleteOrder cs (part-order cs)
-order-complete cs h = record { below = order-below cs; once = order-once cs; all = order-all cs h; after = order-after cs }
+order-complete cs h = record {
+  below = order-below cs;
+  once = order-once cs;
+  all = order-all cs h;
+  after = order-after cs;
+}

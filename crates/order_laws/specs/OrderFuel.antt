@@ -36,11 +36,14 @@ module _ (cs : List Component) (marks : List Bool) where
 
 -- as many places as there are marks left are enough
 placed-enough :
-    (n k : ℕ) (cs : List Component) (marks : List Bool) → left marks ≤ n → left marks ≤ k → placed n cs marks ≡ placed k cs marks
+    (n k : ℕ) (cs : List Component) (marks : List Bool) → left marks ≤ n → left marks ≤ k →
+    placed n cs marks ≡ placed k cs marks
 unfolding placed
 placed-enough zero zero cs marks few more = refl
-placed-enough zero (suc k) cs marks few more = rw (none-next cs marks (lowest-ready marks 0 cs) _ (found-first cs marks) few)
-placed-enough (suc n) zero cs marks few more = none-next cs marks (lowest-ready marks 0 cs) _ (found-first cs marks) more
+placed-enough zero (suc k) cs marks few more =
+    rw (none-next cs marks (lowest-ready marks 0 cs) _ (found-first cs marks) few)
+placed-enough (suc n) zero cs marks few more =
+    none-next cs marks (lowest-ready marks 0 cs) _ (found-first cs marks) more
 placed-enough (suc n) (suc k) cs marks few more =
     same-next cs marks (lowest-ready marks 0 cs) _ _ (found-first cs marks)
     (λ i e. placed-enough n k cs (set marks i false) (omega arith) (omega arith))

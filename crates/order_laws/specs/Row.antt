@@ -1,6 +1,5 @@
--- What an output depends on: the readings of direct ports, and of the part itself all but its stored output. Kind by kind, then for the row of
--- a part among others, which reads what they store.
--- Assumes nothing.
+-- What an output depends on: the readings of direct ports, and of the part itself all but its stored output. Kind by
+-- kind, then for the row of a part among others, which reads what they store. Assumes nothing.
 use Prim.Native.Nat.{ℕ, _<_}
 use native.Mathlib.Omega.{arith}
 use mathlib.Core.Path.{_≡_, refl, ap, ap₂, sym, subst, _∙_}
@@ -12,7 +11,8 @@ use Rattle.machine.specs.declared.time.Point.{Point}
 use Rattle.machine.specs.declared.signal.Signal.{Signal}
 use Rattle.machine.specs.declared.signal.Signal.the-variants.{Absent}
 use Rattle.machine.specs.declared.part.Kind.{Kind}
-use Rattle.machine.specs.declared.part.Kind.the-variants.{Constant, Gain, Adder, Square, Pulse, Delay, Integrator, ResetIntegrator, Detector, Hold, Sampler, Drive, Clapper}
+use Rattle.machine.specs.declared.part.Kind.the-variants.{Constant, Gain, Adder, Square, Pulse, Delay, Integrator}
+use Rattle.machine.specs.declared.part.Kind.the-variants.{ResetIntegrator, Detector, Hold, Sampler, Drive, Clapper}
 use Rattle.machine.specs.declared.part.Source.{Source}
 use Rattle.machine.specs.declared.part.Source.the-variants.{Unwired, From}
 use Rattle.machine.specs.declared.part.Component.{Component}
@@ -24,7 +24,8 @@ use Rattle.machine.specs.Table.{DirectWire}
 use Rattle.machine.specs.Step.{with-output}
 
 -- by the kind, an output reads x only through a direct port 0, and y only through a direct port 1
-output-as-direct : (k : Kind) (p : Part) (now : Point) (x x′ y y′ before : Signal) → (direct0 k ≡ true → x ≡ x′) → (direct1 k ≡ true → y ≡ y′) →
+output-as-direct : (k : Kind) (p : Part) (now : Point) (x x′ y y′ before : Signal) → (direct0 k ≡ true → x ≡ x′) →
+    (direct1 k ≡ true → y ≡ y′) →
     output-as k p now x y before ≡ output-as k p now x′ y′ before
 unfolding output-as
 output-as-direct Constant p now x x′ y y′ before ex ey = refl
@@ -53,7 +54,8 @@ abbrev pub unshown : Part → Part
 unshown p = with-output p Absent
 
 -- an output does not read the part's stored output
-output-as-unshown : (k : Kind) (p : Part) (now : Point) (x y before : Signal) → output-as k p now x y before ≡ output-as k (unshown p) now x y before
+output-as-unshown : (k : Kind) (p : Part) (now : Point) (x y before : Signal) →
+    output-as k p now x y before ≡ output-as k (unshown p) now x y before
 unfolding output-as
 output-as-unshown Constant p now x y before = refl
 output-as-unshown Gain p now x y before = refl
@@ -69,17 +71,20 @@ output-as-unshown Sampler p now x y before = refl
 output-as-unshown Drive p now x y before = refl
 output-as-unshown Clapper p now x y before = refl
 
--- the row of a part's kind, at the point now, for the stored outputs of qs: the part's output; the parts `old` stand at the point before
+-- the row of a part's kind, at the point now, for the stored outputs of qs: the part's output; the parts `old` are at
+-- the point before
 abbrev pub row : List Part → Point → List Part → Part → Signal
 row old now qs p = output p now (reading0 qs p) (reading1 qs p) (reading0 old p)
 
 -- nor does a row
-row-unshown : (old : List Part) (now : Point) (qs : List Part) (p : Part) → row old now qs p ≡ row old now qs (unshown p)
+row-unshown : (old : List Part) (now : Point) (qs : List Part) (p : Part) →
+    row old now qs p ≡ row old now qs (unshown p)
 unfolding output reading0 reading1
 row-unshown old now qs p = output-as-unshown (p .component .kind) p now (reading0 qs p) (reading1 qs p) (reading0 old p)
 
 -- so parts that agree but for their stored outputs have the same row
-pub row-kept : (old : List Part) (now : Point) (qs : List Part) (p p′ : Part) → unshown p ≡ unshown p′ → row old now qs p ≡ row old now qs p′
+pub row-kept : (old : List Part) (now : Point) (qs : List Part) (p p′ : Part) → unshown p ≡ unshown p′ →
+    row old now qs p ≡ row old now qs p′
 row-kept old now qs p p′ e = row-unshown old now qs p ∙ (ap (row old now qs) e ∙ sym (row-unshown old now qs p′))
 
 -- the stored output of part i
@@ -98,7 +103,8 @@ abbrev pub Feeds : ℕ → Component → Type 0
 Feeds i c = ((direct0 (c .kind) ≡ true) × (c .port0 ≡ From i)) ⊎ ((direct1 (c .kind) ≡ true) × (c .port1 ≡ From i))
 
 -- a part's row is the same for two lists in which what feeds its direct ports shows the same
-pub row-direct : (old : List Part) (now : Point) (qs rs : List Part) (p : Part) → ((i : ℕ) → Feeds i (p .component) → stored qs i ≡ stored rs i) →
+pub row-direct : (old : List Part) (now : Point) (qs rs : List Part) (p : Part) →
+    ((i : ℕ) → Feeds i (p .component) → stored qs i ≡ stored rs i) →
     row old now qs p ≡ row old now rs p
 unfolding reading0 reading1
 row-direct old now qs rs p same =
@@ -115,11 +121,16 @@ pub components-length : (ps : List Part) → length (components ps) ≡ length p
 components-length ps = length-map ps (λ (p : Part). p .component)
 
 -- what feeds a direct port of part k of a list is wired to it, among its components
-pub feeds-wire : (ps : List Part) (k i : ℕ) → k < length ps → Feeds i (part-at ps k .component) → DirectWire (components ps) i k
-feeds-wire ps k i h feeds =
-    (omega (arith, components-length ps), subst (Feeds i) (sym (List·getD-map (λ (p : Part). p .component) ps k blank-part)) feeds)
+pub feeds-wire : (ps : List Part) (k i : ℕ) → k < length ps → Feeds i (part-at ps k .component) →
+    DirectWire (components ps) i k
+feeds-wire ps k i h feeds = (
+  omega (arith, components-length ps),
+  subst (Feeds i) (sym (List·getD-map (λ (p : Part). p .component) ps k blank-part)) feeds,
+)
 
 -- so a row of part k is the same where the sources of its direct wires show the same
 pub row-at : (old : List Part) (now : Point) (ps qs rs : List Part) (k : ℕ) → k < length ps →
-    ((i : ℕ) → DirectWire (components ps) i k → stored qs i ≡ stored rs i) → row old now qs (part-at ps k) ≡ row old now rs (part-at ps k)
-row-at old now ps qs rs k h same = row-direct old now qs rs (part-at ps k) (λ i feeds. same i (feeds-wire ps k i h feeds))
+    ((i : ℕ) → DirectWire (components ps) i k → stored qs i ≡ stored rs i) →
+    row old now qs (part-at ps k) ≡ row old now rs (part-at ps k)
+row-at old now ps qs rs k h same =
+    row-direct old now qs rs (part-at ps k) (λ i feeds. same i (feeds-wire ps k i h feeds))

@@ -1,5 +1,6 @@
--- Request 6, "Each call keeps its answers, whatever outputs those records held before", of any way to fill a point's outputs: filling has it, and two ways that look at the
--- outputs held before have it not. The idea: a gain with no wire shows nothing, and both show what it held. Assumes nothing.
+-- Request 6, "Each call keeps its answers, whatever outputs those records held before", of any way to fill a point's
+-- outputs: filling has it, and two ways that look at the outputs held before have it not. The idea: a gain with no wire
+-- shows nothing, and both show what it held. Assumes nothing.
 use Prim.Native.Nat.{ℕ}
 use mathlib.Core.Path.{_≡_, refl, sym, ap, _∙_}
 use mathlib.Core.Bool.{Bool, true, false, true≢false}
@@ -35,11 +36,13 @@ filled-by shows old now (k ∷ ks) ps = filled-by shows old now ks (set ps k (sh
 -- parts that agree but for the outputs that they held are filled alike
 abbrev pub WhateverHeld : Shows → Type 0
 WhateverHeld shows =
-    (old : List Part) (now : Point) (ps ps′ : List Part) (ks : List ℕ) → CompleteOrder (components ps) ks → map unshown ps′ ≡ map unshown ps →
+    (old : List Part) (now : Point) (ps ps′ : List Part) (ks : List ℕ) → CompleteOrder (components ps) ks →
+    map unshown ps′ ≡ map unshown ps →
     filled-by shows old now ks ps′ ≡ filled-by shows old now ks ps
 
 -- the machine's way is `filled`
-by-shown : (old : List Part) (now : Point) (ks : List ℕ) (ps : List Part) → filled-by shown old now ks ps ≡ filled old now ks ps
+by-shown : (old : List Part) (now : Point) (ks : List ℕ) (ps : List Part) →
+    filled-by shown old now ks ps ≡ filled old now ks ps
 unfolding filled-by filled
 by-shown old now [] ps = refl
 by-shown old now (k ∷ ks) ps = by-shown old now ks (set ps k (shown old now ps (part-at ps k)))
@@ -69,7 +72,17 @@ gain held =
     with-output
     (record {
       component =
-          record { kind = Gain; preference = 0; a = pos 1; b = pos 0; p = 0; «span_count» = 0; spans = []; port0 = Unwired; port1 = Unwired };
+          record {
+            kind = Gain;
+            preference = 0;
+            a = pos 1;
+            b = pos 0;
+            p = 0;
+            «span_count» = 0;
+            spans = [];
+            port0 = Unwired;
+            port1 = Unwired;
+          };
       ratio = 1;
       state = blank-state;
     })
@@ -98,17 +111,22 @@ abbrev alone-filled : Shows → Signal → List Part
 alone-filled shows held = filled-by shows [] start (part-order (components (alone Absent))) (alone held)
 
 -- a way that shows the value that it held, and nothing where it held none, has it not
-held-refuted : (shows : Shows) → first-shows (alone-filled shows (Value (pos 5))) ≡ true → first-shows (alone-filled shows Absent) ≡ false →
+held-refuted : (shows : Shows) → first-shows (alone-filled shows (Value (pos 5))) ≡ true →
+    first-shows (alone-filled shows Absent) ≡ false →
     WhateverHeld shows → ⊥
 held-refuted shows held none same =
     true≢false
-    (sym held ∙ (ap first-shows (same [] start (alone Absent) (alone (Value (pos 5))) (part-order (components (alone Absent))) alone-complete refl) ∙ none))
+    (sym held ∙ (ap first-shows
+    (same [] start (alone Absent) (alone (Value (pos 5)))
+    (part-order (components (alone Absent))) alone-complete refl) ∙ none))
 
 -- both ways do
 pub keeping-refuted : WhateverHeld keeping → ⊥
-unfolding filled-by keeping kept-unwired shown output output-as product reading reading0 reading1 source-placed ready lowest-ready placed part-order
+unfolding filled-by keeping kept-unwired shown output output-as product reading reading0 reading1 source-placed ready
+    lowest-ready placed part-order
 keeping-refuted = held-refuted keeping refl refl
 
 pub stale-refuted : WhateverHeld stale → ⊥
-unfolding filled-by stale output output-as product reading reading0 reading1 source-placed ready lowest-ready placed part-order
+unfolding filled-by stale output output-as product reading reading0 reading1 source-placed ready lowest-ready placed
+    part-order
 stale-refuted = held-refuted stale refl refl

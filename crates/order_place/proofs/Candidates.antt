@@ -1,5 +1,6 @@
--- Laws of the search for the lowest candidate that is ready: the first candidate is found if it is ready, and without it the same is found if it is not;
--- what is found is a candidate; parts without a mark do not matter. Each is by induction on the parts from number k on. Assumes nothing.
+-- Laws of the search for the lowest candidate that is ready: the first candidate is found if it is ready, and without
+-- it the same is found if it is not; what is found is a candidate; parts without a mark do not matter. Each is by
+-- induction on the parts from number k on. Assumes nothing.
 use Prim.Native.Nat.{ℕ, zero, suc, _+_, _^_, _≤_, _<_}
 use native.Mathlib.Omega.{arith}
 use native.Mathlib.Nat.{add-zero}
@@ -22,7 +23,8 @@ use Rattle.laws.specs.WordMarks.{FirstMark, marks-of, none-behind, wider}
 use Rattle.order_place.specs.Direct.{both-placed, found-as, lowest-among}
 
 -- no candidate from k on: nothing is found
-pub none-left : (candidates marks : List Bool) (k : ℕ) (ds : List Direct) → ((j : ℕ) → k ≤ j → getD candidates j false ≡ false) →
+pub none-left : (candidates marks : List Bool) (k : ℕ) (ds : List Direct) →
+    ((j : ℕ) → k ≤ j → getD candidates j false ≡ false) →
     lowest-among candidates marks k ds ≡ none
 unfolding lowest-among
 none-left candidates marks k [] clear = refl
@@ -30,23 +32,27 @@ none-left candidates marks k (d ∷ ds) clear =
     rw (clear k (omega arith)) (none-left candidates marks (suc k) ds (λ j p. clear j (omega arith)))
 
 -- no candidate from k + n on: the parts from there on need not be looked at
-cut : (candidates marks : List Bool) (k n : ℕ) (ds : List Direct) → ((j : ℕ) → k + n ≤ j → getD candidates j false ≡ false) →
+cut : (candidates marks : List Bool) (k n : ℕ) (ds : List Direct) →
+    ((j : ℕ) → k + n ≤ j → getD candidates j false ≡ false) →
     lowest-among candidates marks k ds ≡ lowest-among candidates marks k (take n ds)
 unfolding lowest-among
 cut candidates marks k zero ds clear = none-left candidates marks k ds (λ j p. clear j (omega arith))
 cut candidates marks k (suc n) [] clear = refl
 cut candidates marks k (suc n) (d ∷ ds) clear =
-    ap (cond (getD candidates k false && both-placed marks d) (some k)) (cut candidates marks (suc k) n ds (λ j p. clear j (omega arith)))
+    ap (cond (getD candidates k false && both-placed marks d) (some k))
+    (cut candidates marks (suc k) n ds (λ j p. clear j (omega arith)))
 
--- the first candidate, t, is ready: it is found. It stands i places behind k
-pub found : (candidates marks : List Bool) (k i t : ℕ) (ds : List Direct) (d₀ : Direct) → k + i ≡ t → i < length ds → FirstMark candidates t →
+-- the first candidate, t, is ready: it is found. It is i places after k
+pub found : (candidates marks : List Bool) (k i t : ℕ) (ds : List Direct) (d₀ : Direct) → k + i ≡ t → i < length ds →
+    FirstMark candidates t →
     both-placed marks (getD ds i d₀) ≡ true → lowest-among candidates marks k ds ≡ some t
 unfolding lowest-among
 found candidates marks k i t [] d₀ at p first is-ready = absurd (omega arith)
 found candidates marks k zero t (d ∷ ds) d₀ at p first is-ready =
     let here : k ≡ t = omega arith in rw (here, first .marked, is-ready)
 found candidates marks k (suc i) t (d ∷ ds) d₀ at p first is-ready =
-    rw (first .before k (omega arith)) (found candidates marks (suc k) i t ds d₀ (omega arith) (omega arith) first is-ready)
+    rw (first .before k (omega arith))
+    (found candidates marks (suc k) i t ds d₀ (omega arith) (omega arith) first is-ready)
 
 -- the candidate t is not ready: without it the same is found
 pub passed : (candidates marks : List Bool) (k t : ℕ) (ds : List Direct) (d₀ : Direct) →
@@ -61,7 +67,11 @@ passed candidates marks k t (d ∷ ds) d₀ not-ready =
         lowest-among (set candidates t false) marks (suc k) ds ≡ lowest-among candidates marks (suc k) ds →
         lowest-among (set candidates t false) marks k (d ∷ ds) ≡ lowest-among candidates marks k (d ∷ ds)
     by-place (inl e) rest =
-        rw (not-ready 0 (add-zero k ∙ eqb-true k t e), and-false (getD (set candidates t false) k false), and-false (getD candidates k false)) rest
+        rw (
+          not-ready 0 (add-zero k ∙ eqb-true k t e),
+          and-false (getD (set candidates t false) k false),
+          and-false (getD candidates k false),
+        ) rest
     by-place (inr e) rest =
         rw (getD-set-other candidates t k false false (eqb-false k t e), rest)
 
@@ -73,24 +83,34 @@ same-placed marks marks′ same Unwired = refl
 same-placed marks marks′ same (From k) = ap not (same k)
 
 -- the search goes by the marks that are set alone
-same-lowest : (marks marks′ : List Bool) → ((j : ℕ) → getD marks j false ≡ getD marks′ j false) → (k : ℕ) (ds : List Direct) →
+same-lowest : (marks marks′ : List Bool) → ((j : ℕ) → getD marks j false ≡ getD marks′ j false) →
+    (k : ℕ) (ds : List Direct) →
     lowest-among marks marks k ds ≡ lowest-among marks′ marks′ k ds
 unfolding lowest-among both-placed
 same-lowest marks marks′ same k [] = refl
 same-lowest marks marks′ same k (d ∷ ds) =
-    rw (same k, same-placed marks marks′ same (d .port0), same-placed marks marks′ same (d .port1), same-lowest marks marks′ same (suc k) ds)
+    rw (
+      same k,
+      same-placed marks marks′ same (d .port0),
+      same-placed marks marks′ same (d .port1),
+      same-lowest marks marks′ same (suc k) ds,
+    )
 
 -- what is found is a candidate
-pub found-marked : (candidates marks : List Bool) (k t : ℕ) (ds : List Direct) → lowest-among candidates marks k ds ≡ some t →
+pub found-marked : (candidates marks : List Bool) (k t : ℕ) (ds : List Direct) →
+    lowest-among candidates marks k ds ≡ some t →
     getD candidates t false ≡ true
 unfolding lowest-among
 found-marked candidates marks k t [] e = absurd (Option·none-ne-some t e)
 found-marked candidates marks k t (d ∷ ds) e =
     by-test (either (getD candidates k false && both-placed marks d)) (found-marked candidates marks (suc k) t ds)
   where
-    by-test : (getD candidates k false && both-placed marks d ≡ true) ⊎ (getD candidates k false && both-placed marks d ≡ false) →
-        (lowest-among candidates marks (suc k) ds ≡ some t → getD candidates t false ≡ true) → getD candidates t false ≡ true
-    by-test (inl h) later = rw (← Option·some-injective k t (rw h at e)) (and-left (getD candidates k false) (both-placed marks d) h)
+    by-test : (getD candidates k false && both-placed marks d ≡ true) ⊎
+        (getD candidates k false && both-placed marks d ≡ false) →
+        (lowest-among candidates marks (suc k) ds ≡ some t → getD candidates t false ≡ true) →
+        getD candidates t false ≡ true
+    by-test (inl h) later = rw (← Option·some-injective k t (rw h at e))
+        (and-left (getD candidates k false) (both-placed marks d) h)
     by-test (inr h) later = later (rw h at e)
 
 -- the code's answer says what is found: a part, or none

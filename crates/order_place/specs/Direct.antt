@@ -18,19 +18,23 @@ abbrev pub direct-source : Bool → Source → Source
 direct-source true s = s
 direct-source false s = Unwired
 
--- no direct sources, as behind the last part
+-- no direct sources, as after the last part
 abbrev pub no-sources : Direct
 no-sources = record { port0 = Unwired; port1 = Unwired }
 
 -- the direct sources of a component
 unfoldable pub direct-of : Component → Direct
-direct-of c = record { port0 = direct-source (direct0 (c .kind)) (c .port0); port1 = direct-source (direct1 (c .kind)) (c .port1) }
+direct-of c = record {
+  port0 = direct-source (direct0 (c .kind)) (c .port0);
+  port1 = direct-source (direct1 (c .kind)) (c .port1);
+}
 
 -- both sources are placed
 unfoldable pub both-placed : List Bool → Direct → Bool
 both-placed marks d = source-placed marks (d .port0) && source-placed marks (d .port1)
 
--- the lowest candidate whose direct sources are placed, from number k on, ds being the direct sources of the parts from k on
+-- the lowest candidate whose direct sources are placed, from number k on, ds being the direct sources of the parts from
+-- k on
 unfoldable pub lowest-among : (candidates marks : List Bool) → ℕ → List Direct → Option ℕ
 lowest-among candidates marks k [] = none
 lowest-among candidates marks k (d ∷ ds) =

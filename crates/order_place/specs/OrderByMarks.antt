@@ -1,4 +1,5 @@
--- What placing promises, and the part order by the direct sources of the parts alone, with the law that it is the machine's. Assumes nothing.
+-- What placing promises, and the part order by the direct sources of the parts alone, with the law that it is the
+-- machine's. Assumes nothing.
 use Prim.Native.Nat.{ℕ, zero, suc, _-_, _≤_}
 use mathlib.Core.Path.{_≡_, refl, sym, ap, ap₂, _∙_}
 use mathlib.Core.Bool.{Bool, true, false, not, _&&_, _||_}
@@ -23,7 +24,7 @@ placed-by (suc n) ds marks = next-part (lowest-among marks marks 0 ds) (λ k. pl
 unfoldable pub order-by : List Direct → List ℕ
 order-by ds = placed-by (length ds) ds (replicate (length ds) true)
 
--- the parts placed are the part order of the first `count` components, and 0 stands in the places behind them
+-- the parts placed are the part order of the first `count` components, and 0 is in the places after them
 pub record InOrder (parts : List Component) (count : ℕ) (r : Placed) : Type 0 where
   pub is : take (r .count) (r .order) ≡ part-order (take count parts)
   pub counted : r .count ≡ length (part-order (take count parts))
@@ -31,7 +32,8 @@ pub record InOrder (parts : List Component) (count : ℕ) (r : Placed) : Type 0 
   pub rest : drop (r .count) (r .order) ≡ replicate (most-parts - r .count) 0
 
 -- a port keeps no part waiting where its direct source is placed
-port-placed : (marks : List Bool) (direct : Bool) (s : Source) → (not direct || source-placed marks s) ≡ source-placed marks (direct-source direct s)
+port-placed : (marks : List Bool) (direct : Bool) (s : Source) →
+    (not direct || source-placed marks s) ≡ source-placed marks (direct-source direct s)
 unfolding source-placed
 port-placed marks true s = refl
 port-placed marks false s = refl
@@ -43,7 +45,8 @@ ready-direct marks c =
     ap₂ _&&_ (port-placed marks (direct0 (c .kind)) (c .port0)) (port-placed marks (direct1 (c .kind)) (c .port1))
 
 -- the machine's lowest part that is ready is the lowest among the unplaced parts
-lowest-direct : (marks : List Bool) (k : ℕ) (cs : List Component) → lowest-ready marks k cs ≡ lowest-among marks marks k (map direct-of cs)
+lowest-direct : (marks : List Bool) (k : ℕ) (cs : List Component) →
+    lowest-ready marks k cs ≡ lowest-among marks marks k (map direct-of cs)
 unfolding lowest-ready lowest-among
 lowest-direct marks k [] = refl
 lowest-direct marks k (c ∷ cs) = rw (ready-direct marks c, lowest-direct marks (suc k) cs)
@@ -54,7 +57,8 @@ next-same none on on′ same = refl
 next-same (some k) on on′ same = ap (λ ks. k ∷ ks) (same k)
 
 -- the machine's parts in order are those by direct sources
-placed-direct : (n : ℕ) (cs : List Component) (marks : List Bool) → placed n cs marks ≡ placed-by n (map direct-of cs) marks
+placed-direct : (n : ℕ) (cs : List Component) (marks : List Bool) →
+    placed n cs marks ≡ placed-by n (map direct-of cs) marks
 unfolding placed placed-by
 placed-direct zero cs marks = refl
 placed-direct (suc n) cs marks =
@@ -70,4 +74,5 @@ order-direct cs = rw (length-map cs direct-of) (placed-direct (length cs) cs (re
 pub order-trimmed : (cs : List Component) → part-order (map trimmed-component cs) ≡ part-order cs
 unfolding direct-of trimmed-component
 order-trimmed cs =
-    order-direct (map trimmed-component cs) ∙ ap order-by (map-map direct-of trimmed-component cs) ∙ sym (order-direct cs)
+    order-direct (map trimmed-component cs) ∙ ap order-by (map-map direct-of trimmed-component cs) ∙
+    sym (order-direct cs)

@@ -17,7 +17,7 @@ ghost use Rattle.laws.specs.WordMarks.{marks-of};
 ghost use Rattle.order_place.specs.Direct.{direct-source, direct-of, both-placed, lowest-among, found-as};
 ghost use Rattle.order_place.specs.OrderByMarks.{InOrder};
 
-// The parts placed, in order. Of `order` the first `count` places are in use, and 0 stands in the others.
+// The parts placed, in order. Of `order` the first `count` places are in use, and 0 is in the others.
 pub struct Placed {
     pub order: [u16; PARTS],
     pub count: usize,

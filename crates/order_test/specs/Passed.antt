@@ -1,5 +1,5 @@
--- What the test of an order keeps: the places that it has passed are in turn, with the numbers of the parts placed and the links of these places. What it
--- asks of the next place decides whether that is in turn. Assumes nothing.
+-- What the test of an order keeps: the places that it has passed are in turn, with the numbers of the parts placed and
+-- the links of these places. What it asks of the next place decides whether that is in turn. Assumes nothing.
 use Prim.Native.Nat.{ℕ, suc, _-_, _≤_, _<_}
 use native.Mathlib.Omega.{arith}
 use native.Mathlib.Nat.{eq-or-lt-of-le}
@@ -32,7 +32,8 @@ pub record Passed (n : ℕ) (ds : List Direct) (ks after links : List ℕ) (i : 
   pub linked : Links ks links i
 
 -- at first none is
-pub none-passed : (n : ℕ) (ds : List Direct) (ks links : List ℕ) → n ≤ most-parts → length links ≡ most-parts → Passed n ds ks (replicate most-parts (suc most-parts)) links 0
+pub none-passed : (n : ℕ) (ds : List Direct) (ks links : List ℕ) → n ≤ most-parts → length links ≡ most-parts →
+    Passed n ds ks (replicate most-parts (suc most-parts)) links 0
 none-passed n ds ks links few room =
     record {
       few = omega arith;
@@ -48,14 +49,16 @@ module _ (n : ℕ) (ds : List Direct) (ks after links : List ℕ) (i : ℕ) (pas
   pub placed-twice : getD after (getD ks i 0) 0 ≤ i → InTurn n ds ks i → ⊥
   placed-twice early turn =
       false≢true
-      (sym (le-ltb i (getD after (getD ks i 0) 0) early) ∙ sym (passed .placed .marked i (getD ks i 0) (omega arith) (turn .below)) ∙ turn .unplaced)
+      (sym (le-ltb i (getD after (getD ks i 0) 0) early) ∙
+      sym (passed .placed .marked i (getD ks i 0) (omega arith) (turn .below)) ∙ turn .unplaced)
 
   -- a part whose direct sources are placed after more than i places comes before one of them
   pub before-source : i < ready-after after n (getD ds (getD ks i 0) no-sources) → InTurn n ds ks i → ⊥
   before-source late turn =
       let part = getD ds (getD ks i 0) no-sources in
       false≢true
-      (sym (lt-leb (ready-after after n part) i late) ∙ sym (ready-by n ks after i (passed .placed) i (omega arith) part) ∙ turn .sources-placed)
+      (sym (lt-leb (ready-after after n part) i late) ∙
+      sym (ready-by n ks after i (passed .placed) i (omega arith) part) ∙ turn .sources-placed)
 
   -- a part that was ready when a place went to a higher part should have gone there
   pub after-higher : (l : ℕ) → WalkedBack ks i (ready-after after n (getD ds (getD ks i 0) no-sources)) l →
@@ -64,7 +67,8 @@ module _ (n : ℕ) (ds : List Direct) (ks after links : List ℕ) (i : ℕ) (pas
       let part = getD ds (getD ks i 0) no-sources in
       let within : l ≤ i = walked .link .within in
       true≢false
-      (sym (le-leb (ready-after after n part) (l - 1) (omega arith)) ∙ sym (ready-by n ks after i (passed .placed) (l - 1) (omega arith) part) ∙
+      (sym (le-leb (ready-after after n part) (l - 1) (omega arith)) ∙
+      sym (ready-by n ks after i (passed .placed) (l - 1) (omega arith) part) ∙
       turn .passed-by (l - 1) (omega arith) (walked .higher behind))
 
   module _
@@ -80,8 +84,10 @@ module _ (n : ℕ) (ds : List Direct) (ks after links : List ℕ) (i : ℕ) (pas
         let sources = getD ds (getD ks i 0) no-sources in
         record {
           below = part;
-          unplaced = passed .placed .marked i (getD ks i 0) (omega arith) part ∙ lt-ltb i (getD after (getD ks i 0) 0) new;
-          sources-placed = ready-by n ks after i (passed .placed) i (omega arith) sources ∙ le-leb (ready-after after n sources) i ready;
+          unplaced = passed .placed .marked i (getD ks i 0) (omega arith) part ∙
+              lt-ltb i (getD after (getD ks i 0) 0) new;
+          sources-placed = ready-by n ks after i (passed .placed) i (omega arith) sources ∙
+              le-leb (ready-after after n sources) i ready;
           passed-by =
               λ p before higher.
               ready-by n ks after i (passed .placed) p (omega arith) sources ∙
@@ -91,7 +97,8 @@ module _ (n : ℕ) (ds : List Direct) (ks after links : List ℕ) (i : ℕ) (pas
         }
 
     -- and it is passed
-    pub one-passed : i < n → n ≤ most-parts → n ≤ length ks → Passed n ds ks (set after (getD ks i 0) (suc i)) (set links i l) (suc i)
+    pub one-passed : i < n → n ≤ most-parts → n ≤ length ks →
+        Passed n ds ks (set after (getD ks i 0) (suc i)) (set links i l) (suc i)
     one-passed more few long =
         record {
           few = more;
@@ -99,7 +106,8 @@ module _ (n : ℕ) (ds : List Direct) (ks after links : List ℕ) (i : ℕ) (pas
           room = length-set links i l ∙ passed .room;
           turns = λ j h. by-place j (eq-or-lt-of-le (at-most j h));
           placed =
-              one-placed n ks after i (passed .placed) (omega arith) (omega arith) part (omega (arith, passed .numbered)) new;
+              one-placed n ks after i (passed .placed) (omega arith) (omega arith) part
+              (omega (arith, passed .numbered)) new;
           linked = links-more ks links i l (omega (arith, passed .room)) (passed .linked) walked;
         }
       where
@@ -127,7 +135,8 @@ module _
   pub refused-at : (i : ℕ) → i < n → (InTurn n ds ks i → ⊥) → false ≡ (ordered cs && same (take n ks) (part-order cs))
   refused-at i h never =
       let all = counted in
-      sym (rw counted at (refused cs ds (rw counted (sym of-parts)) ks (omega arith) i (omega arith) (rw counted never)))
+      sym (rw counted at (refused cs ds (rw counted (sym of-parts)) ks (omega arith) i (omega arith)
+      (rw counted never)))
 
   -- where all are the order is accepted
   pub all-accepted : ((i : ℕ) → i < n → InTurn n ds ks i) → true ≡ (ordered cs && same (take n ks) (part-order cs))

@@ -1,5 +1,5 @@
--- Any direct sources are those of some components, so that what `follows` promises of all components with its sources is promised of some: adders, both of
--- whose ports are direct. Assumes nothing.
+-- Any direct sources are those of some components, so that what `follows` promises of all components with its sources
+-- is promised of some: adders, both of whose ports are direct. Assumes nothing.
 use mathlib.Core.Path.{_≡_, refl, ap}
 use mathlib.Core.List.{List, [], _∷_, map}
 use lib.IntN.{pos}
@@ -11,7 +11,17 @@ use Rattle.order_place.specs.Direct.{direct-of}
 -- an adder with these sources
 adder-of : Direct → Component
 adder-of d =
-    record { kind = Adder; preference = 0; a = pos 0; b = pos 0; p = 0; «span_count» = 0; spans = []; port0 = d .port0; port1 = d .port1 }
+    record {
+      kind = Adder;
+      preference = 0;
+      a = pos 0;
+      b = pos 0;
+      p = 0;
+      «span_count» = 0;
+      spans = [];
+      port0 = d .port0;
+      port1 = d .port1;
+    }
 
 -- they are its direct sources
 of-adders : (ds : List Direct) → map direct-of (map adder-of ds) ≡ ds

@@ -2,13 +2,13 @@
 //
 // The places of the order are passed once, from the first on. Of each part that has been passed,
 // `after` has how many parts are placed once it is. The larger of the numbers of a part's direct
-// sources is then its ready time: the first place at which the part might have stood. The order is
-// the part order exactly where each part is there once, stands at its ready time or behind, and no
-// higher part stands from its ready time up to its place.
+// sources is then its ready time: the first place at which the part might have been. The order is
+// the part order exactly where each part is there once, is at its ready time or after, and no
+// higher part is from its ready time up to its place.
 //
-// For the last of these each place keeps a link to an earlier place: what stands from there on is no
+// For the last of these each place keeps a link to an earlier place: what is from there on is no
 // higher than the part at the place. The walk back from a place goes by the links and ends at the
-// ready time, or where a higher part stands; where it ends is the new link.
+// ready time, or where a higher part is; where it ends is the new link.
 //
 // The test takes a number of turns that is linear in the number of parts. The places that a walk can
 // meet are those that the links lead to from the last place passed, one after the other. A walk that
@@ -65,7 +65,7 @@ fn ready_after(after: &[usize; PARTS], count: usize, direct: Direct) -> usize
     if first < second { second } else { first }
 }
 
-// The walk back from place i by the links: it ends at the ready time or before it, or behind a higher part.
+// The walk back from place i by the links: it ends at the ready time or before it, or after a higher part.
 fn walk_back(order: &[u16; PARTS], links: &[usize; PARTS], i: usize, ready: usize) -> usize
     requires { ⌜ (i < most-parts) × Links (now order) (now links) i ⌝ }
     ensures { λ r. ⌜ WalkedBack (now (order .entry)) i ready r ⌝ }
@@ -86,7 +86,8 @@ fn walk_back(order: &[u16; PARTS], links: &[usize; PARTS], i: usize, ready: usiz
 // the direct sources of the parts, whatever else their components are.
 pub fn follows(order: [u16; PARTS], direct: [Direct; PARTS], count: usize) -> bool
     requires { ⌜ count ≤ most-parts ⌝ }
-    ensures { λ r. ⌜ ((cs : List Component) → map direct-of cs ≡ take count direct → r ≡ ordered cs && same (take count order) (part-order cs)) ⌝ }
+    ensures { λ r. ⌜ ((cs : List Component) → map direct-of cs ≡ take count direct →
+        r ≡ ordered cs && same (take count order) (part-order cs)) ⌝ }
 {
     let mut after = [UNPLACED; PARTS];
     let mut links = [0usize; PARTS];

@@ -62,7 +62,7 @@ pub kind-cases : {n : ℕ} {r : KindFound} → KindMeant n r → KindCases n r
 kind-cases {n} {r = Known k} h = (kind-there n (h .number), h .kind)
 kind-cases {n} {r = Unknown} h = none-there n (h .number)
 
--- a number that no kind has stands for the first kind
+-- a number that no kind has means the first kind
 pub none-has : (n : ℕ) → kind-known n ≡ false → kind-of n ≡ Constant
 unfolding kind-known kind-of
 none-has n unknown = List·getD-eq-default kinds Constant (ltb-false n 13 unknown)

@@ -1,7 +1,9 @@
--- Request 3 of the calls themselves: lists of advances and previews on lent words. `preview` by value (src/lib.rt) promises `Previewed`, which is what a
--- list with previews asks of each (`MixedChain`, machine's specs/Previews.antt), so that `previews-alter-nothing`, `previewed-list` and `same-results` (wholelist's
--- specs/PreviewLists.antt) speak of every list of calls by value. `preview_into` promises `PreviewedInto`; here a list on words asks that of each preview, and
--- gives the next call the state that the preview was given, which is kept, since nothing can write it. Assumes nothing.
+-- Request 3 of the calls themselves: lists of advances and previews on lent words. `preview` by value (src/lib.rt)
+-- promises `Previewed`, which is what a list with previews asks of each (`MixedChain`, machine's specs/Previews.antt),
+-- so that `previews-alter-nothing`, `previewed-list` and `same-results` (wholelist's specs/PreviewLists.antt) speak of
+-- every list of calls by value. `preview_into` promises `PreviewedInto`; here a list on words asks that of each
+-- preview, and gives the next call the state that the preview was given, which is kept, since nothing can write it.
+-- Assumes nothing.
 use Prim.Native.Nat.{ℕ, _≤_}
 use mathlib.Core.Path.{_≡_, ap, subst, _∙_}
 use mathlib.Core.Bool.{true}
@@ -24,7 +26,8 @@ pub data AnyLentCall : Type 0 where
   LentAdvance : LentCall → AnyLentCall
   LentPreview : LentCall → AnyLentCall
 
--- a chain of such calls on the table ts from the state s, with enough words for each: behind a preview the next call is given the state that it was given
+-- a chain of such calls on the table ts from the state s, with enough words for each: after a preview the next call is
+-- given the state that it was given
 abbrev pub LentMixed : List ℕ → List ℕ → List AnyLentCall → Type 0
 LentMixed ts s [] = Unit {0}
 LentMixed ts s (LentAdvance c ∷ cs) =
@@ -42,25 +45,31 @@ lent-advances [] = []
 lent-advances (LentAdvance c ∷ cs) = c ∷ lent-advances cs
 lent-advances (LentPreview c ∷ cs) = lent-advances cs
 
--- what each preview tells, by its new words and its outcome, is the machine's advance of the state that the advances before it lead to
+-- what each preview tells, by its new words and its outcome, is the machine's advance of the state that the advances
+-- before it lead to
 abbrev pub LentInPlace : List ℕ → List ℕ → List AnyLentCall → Type 0
 LentInPlace ts s [] = Unit {0}
 LentInPlace ts s (LentAdvance c ∷ cs) = LentInPlace ts (next-state c) cs
-LentInPlace ts s (LentPreview c ∷ cs) = (told ts (c .after) (c .result) ≡ advance (lent-model ts s) (c .wanted)) × LentInPlace ts s cs
+LentInPlace ts s (LentPreview c ∷ cs) = (told ts (c .after) (c .result) ≡ advance (lent-model ts s) (c .wanted)) ×
+    LentInPlace ts s cs
 
--- the advances alone are a chain from the same state, with the outcomes and words that they have in the list, and each preview is answered as an advance in its place
+-- the advances alone are a chain from the same state, with the outcomes and words that they have in the list, and each
+-- preview is answered as an advance in its place
 pub record LentUnaltered (ts s : List ℕ) (cs : List AnyLentCall) : Type 0 where
   pub chain : LentChain ts s (lent-advances cs)
   pub previews : LentInPlace ts s cs
 
 -- words that spell a model, and enough of them for a state, can show one
-shows-there : (ts s : List ℕ) (room : ℕ) → spelled ts s ≡ true → state-words (part-count ts) ≤ room → shows ts s room ≡ true
+shows-there : (ts s : List ℕ) (room : ℕ) → spelled ts s ≡ true → state-words (part-count ts) ≤ room →
+    shows ts s room ≡ true
 unfolding shows
 shows-there ts s room spells enough =
-    and-intro (spelled ts s) (leb (state-words (part-count ts)) room) spells (le-leb (state-words (part-count ts)) room enough)
+    and-intro (spelled ts s) (leb (state-words (part-count ts)) room) spells
+    (le-leb (state-words (part-count ts)) room enough)
 
 -- a preview in its place
-told-there : (ts s : List ℕ) (c : LentCall) → spelled ts s ≡ true → c .state ≡ s → state-words (part-count ts) ≤ length (c .before) →
+told-there : (ts s : List ℕ) (c : LentCall) → spelled ts s ≡ true → c .state ≡ s →
+    state-words (part-count ts) ≤ length (c .before) →
     PreviewedInto ts (c .state) (c .wanted) (c .before) (c .after) (c .result) →
     told ts (c .after) (c .result) ≡ advance (lent-model ts s) (c .wanted)
 told-there ts s c spells given enough previewed =
@@ -68,7 +77,8 @@ told-there ts s c spells given enough previewed =
     ap (λ (z : List ℕ). advance (lent-model ts z) (c .wanted)) given
 
 -- "Previews put anywhere into a list of advances alter none of its results"
-pub lent-previews-alter-nothing : (ts s : List ℕ) (cs : List AnyLentCall) → spelled ts s ≡ true → LentMixed ts s cs → LentUnaltered ts s cs
+pub lent-previews-alter-nothing : (ts s : List ℕ) (cs : List AnyLentCall) → spelled ts s ≡ true → LentMixed ts s cs →
+    LentUnaltered ts s cs
 unfolding lent-advances
 lent-previews-alter-nothing ts s [] spells mixed = record { chain = tt; previews = tt }
 lent-previews-alter-nothing ts s (LentAdvance c ∷ cs) spells mixed =
@@ -77,12 +87,18 @@ lent-previews-alter-nothing ts s (LentAdvance c ∷ cs) spells mixed =
     let rest = lent-previews-alter-nothing ts (next-state c) cs there (mixed .3) in
     record { chain = (mixed .0, mixed .1, mixed .2, rest .chain); previews = rest .previews }
 lent-previews-alter-nothing ts s (LentPreview c ∷ cs) spells mixed =
-    let rest = lent-previews-alter-nothing ts s cs spells (subst (λ (z : List ℕ). LentMixed ts z cs) (mixed .0) (mixed .3)) in
-    record { chain = rest .chain; previews = (told-there ts s c spells (mixed .0) (mixed .1) (mixed .2), rest .previews) }
+    let rest = lent-previews-alter-nothing ts s cs spells
+    (subst (λ (z : List ℕ). LentMixed ts z cs) (mixed .0) (mixed .3)) in
+    record {
+      chain = rest .chain;
+      previews = (told-there ts s c spells (mixed .0) (mixed .1) (mixed .2), rest .previews);
+    }
 
--- so demand 3 holds of the advances in every such list: whatever bytes were loaded into words, and whatever steps were wanted and previewed then
+-- so demand 3 holds of the advances in every such list: whatever bytes were loaded into words, and whatever steps were
+-- wanted and previewed then
 pub every-previewed-list :
     (bs ts s : List ℕ) → load bs .number ≡ 0 → lent-model ts s ≡ load bs .model → spelled ts s ≡ true →
     (cs : List AnyLentCall) → LentMixed ts s cs → WholeList (model-in ts s) (machine-calls-of ts (lent-advances cs))
 every-previewed-list bs ts s accepted is spells cs mixed =
-    every-lent-list bs ts s accepted is spells (lent-advances cs) (lent-previews-alter-nothing ts s cs spells mixed .chain)
+    every-lent-list bs ts s accepted is spells (lent-advances cs)
+    (lent-previews-alter-nothing ts s cs spells mixed .chain)

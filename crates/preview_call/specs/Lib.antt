@@ -1,4 +1,4 @@
--- What a preview on lent words promises, and lists of calls in which previews stand among advances, and their results.
+-- What a preview on lent words promises, and lists of calls in which previews are among advances, and their results.
 pub mod PreviewedInto
 pub mod EveryPreviewed
 pub mod LentResults

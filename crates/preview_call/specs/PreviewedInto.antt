@@ -47,7 +47,7 @@ pub record PreviewedInto (table old : List ℕ) (w : ℕ) (new₀ new₁ : List 
   -- none
   pub ends : r ≡ outcome-into table old w (length new₀)
   pub kept : shows table old (length new₀) ≡ false → new₁ ≡ new₀
-  -- the words behind the model's are kept
+  -- the words after the model's are kept
   pub behind : SameBehind (part-count table) new₀ new₁
   -- of its free words: where a step would be committed the outputs are clean, and each held signal is or has its words
   -- from the old state; where the call is refused and a state can be shown, the new one has the old one's words
@@ -65,13 +65,16 @@ shown-room ts os room can =
     leb-true (state-words (part-count ts)) room (and-right (spelled ts os) (leb (state-words (part-count ts)) room) can)
 
 -- a call that cannot show a state makes no round
-unshown-rounds : (ts os : List ℕ) (w room : ℕ) → (spelled ts os ≡ false) ⊎ (leb (state-words (part-count ts)) room ≡ false) →
-    (spelled ts os ≡ true) ⊎ (spelled ts os ≡ false) → Dec (barred (lent-model ts os) w ≡ 0) → outcome-into ts os w room .rounds ≡ 0
+unshown-rounds : (ts os : List ℕ) (w room : ℕ) → (spelled ts os ≡ false) ⊎
+    (leb (state-words (part-count ts)) room ≡ false) →
+    (spelled ts os ≡ true) ⊎ (spelled ts os ≡ false) → Dec (barred (lent-model ts os) w ≡ 0) →
+    outcome-into ts os w room .rounds ≡ 0
 unfolding outcome-into
 unshown-rounds ts os w room (inl none) known bars = rw none refl
 unshown-rounds ts os w room (inr short) (inr none) bars = rw none refl
 unshown-rounds ts os w room (inr short) (inl spells) (yes free) =
-    rw spells (ap (λ (o : Outcome). o .rounds) (with-short ts os w room free (leb-false (state-words (part-count ts)) room short)))
+    rw spells (ap (λ (o : Outcome). o .rounds)
+    (with-short ts os w room free (leb-false (state-words (part-count ts)) room short)))
 unshown-rounds ts os w room (inr short) (inl spells) (no other) =
     rw spells (ap (λ (o : Outcome). o .rounds) (with-barred ts os w room (barred (lent-model ts os) w) refl other))
 
@@ -102,7 +105,8 @@ module _
   tells : (c : List ℕ) → shows ts os (length new₀) ≡ true → lent-model ts c ≡ answer-with (lent-model ts os) o .model →
       told ts c r ≡ advance (lent-model ts os) w
   unfolding advance
-  tells c can same = answered (lent-model ts os) (lent-model ts c) o r same (called .ends) ∙ ap (answer-with (lent-model ts os)) (machine-ends can)
+  tells c can same = answered (lent-model ts os) (lent-model ts c) o r same (called .ends) ∙
+      ap (answer-with (lent-model ts os)) (machine-ends can)
 
   -- where it ended with another number than 24, the words spell a model
   pub found-spelled : (r .number ≡ 24 → ⊥) → spelled ts os ≡ true
@@ -155,7 +159,8 @@ module _
       let deep = shown-room ts os (length new₀) can in
       let each = states-spelled ts os spells in
       let refused : o .number ≡ 0 → ⊥ = λ zero-number.
-      let asked = called .asked (ap (λ (v : Outcome). v .number) (called .ends) ∙ zero-number) in omega (arith, none, asked) in
+      let asked = called .asked (ap (λ (v : Outcome). v .number) (called .ends) ∙ zero-number) in
+      omega (arith, none, asked) in
       let behind : SameBehind n new₀ copied =
       subst (λ (z : List ℕ). SameBehind n z copied) (called .barred none) (behind-copied n os new₁ copied copy each) in
       record {
@@ -174,7 +179,8 @@ module _
         same = λ shown other. copy .front;
       }
 
--- a preview that answers 20 where 24 comes first breaks the promise: of words that spell no model and a wanted step of 0
+-- a preview that answers 20 where 24 comes first breaks the promise: of words that spell no model and a wanted step of
+-- 0
 pub range-first-refuted :
     (ts os new₀ new₁ : List ℕ) → spelled ts os ≡ false → PreviewedInto ts os 0 new₀ new₁ (barred-outcome 20) → ⊥
 unfolding outcome-into

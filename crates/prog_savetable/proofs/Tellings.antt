@@ -1,4 +1,5 @@
--- What is told of a refused stream and of an accepted one: the buffer has room for a line and for the longest table, so that each is written whole. Assumes nothing.
+-- What is told of a refused stream and of an accepted one: the buffer has room for a line and for the longest table, so
+-- that each is written whole. Assumes nothing.
 use Prim.Native.Nat.{ℕ, _≤_}
 use native.Mathlib.Omega.{arith}
 use mathlib.Core.Path.{_≡_, refl, sym, ap, _∙_}
@@ -24,8 +25,12 @@ use Rattle.save_call.specs.SavedInto.{SavedInto, sound-saved}
 use Rattle.prog_savetable.specs.Telling.{told-text, ToldOf}
 
 -- a text that was written where there is room for it
-told-whole : (bs text before after : List ℕ) (w : Written) (refused : Bool) → refused ≡ not (eqb (load bs .number) 0) → text ≡ told-text bs →
-    WrittenAs 0 text before after w → length text ≤ length before → ToldOf bs after (record { refused = refused; length = w .length })
+told-whole : (bs text before after : List ℕ) (w : Written) (refused : Bool) → refused ≡ not (eqb (load bs .number) 0) →
+    text ≡ told-text bs →
+    WrittenAs 0 text before after w → length text ≤ length before → ToldOf bs after (record {
+      refused = refused;
+      length = w .length;
+    })
 told-whole bs text before after w refused known is written long =
     let whole = written-whole 0 text before after w written (enough-room written long) in
     record {
@@ -43,13 +48,17 @@ unfolding trimmed-loaded told-text
 refusal-told bs before after r w is some room written short =
     let number : load bs .number ≡ r .number = ap (λ (l : Loaded). l .number) (sym is) in
     let position : load bs .position ≡ r .position = ap (λ (l : Loaded). l .position) (sym is) in
-    told-whole bs (refused-at-line (r .number) (r .position)) before after w true (rw (number, ne-eqb (r .number) 0 some) refl)
+    told-whole bs (refused-at-line (r .number) (r .position)) before after w true
+    (rw (number, ne-eqb (r .number) 0 some) refl)
     (rw (number, position, ne-eqb (r .number) 0 some) refl) written (omega (arith, room, short, size-told written))
 
 -- the bytes of the table of an accepted one, whose model was put into words
 pub table-told : (bs ts ss before after : List ℕ) (r : Loaded) (w : Written) → trimmed-loaded r ≡ load bs →
     r .number ≡ 0 → longest-table ≤ length before →
-    ModelPut (r .model) ts ss → SavedInto ts ss before after w → ToldOf bs after (record { refused = false; length = w .length })
+    ModelPut (r .model) ts ss → SavedInto ts ss before after w → ToldOf bs after (record {
+      refused = false;
+      length = w .length;
+    })
 unfolding trimmed-loaded told-text
 table-told bs ts ss before after r w is none room put saved =
     let m = trimmed (model-in ts ss) in

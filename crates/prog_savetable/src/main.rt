@@ -1,6 +1,6 @@
-// The program `savetable`: loads the table that its standard input holds and writes its bytes, as `save` puts them, to standard output.
-// Where the load is refused it writes nothing there, and the line of the refusal to standard error. Where bytes could not be written it says
-// so there, since a program has no exit status of its own to tell it by.
+// The program `savetable`: loads the table that its standard input holds and writes its bytes, as `save` puts them, to
+// standard output. Where the load is refused it writes nothing there, and the line of the refusal to standard error.
+// Where bytes could not be written it says so there, since a program has no exit status of its own to tell it by.
 use load_call::load;
 use save_call::save;
 use words_store::lookup::STATE_ROOM;

@@ -1,5 +1,6 @@
-// The program `streams`, a test of the loader: loads each stream that its standard input spells, and prints the number, the position and what was loaded. A line that has
-// digits spells a stream in hexadecimal; a hyphen alone is the empty stream, and `#` begins a comment.
+// The program `streams`, a test of the loader: loads each stream that its standard input spells, and prints the number,
+// the position and what was loaded. A line that has digits spells a stream in hexadecimal; a hyphen alone is the empty
+// stream, and `#` begins a comment.
 use crate::print::print_loaded;
 use load_call::load;
 ghost use Prim.Native.Nat.{_≤_};
@@ -54,7 +55,7 @@ fn line_end(text: &[u8], from: usize) -> usize
     at
 }
 
-// What a line spells with one digit more; a byte that has both digits is put behind the others.
+// What a line spells with one digit more; a byte that has both digits is put after the others.
 fn with_digit(s: Spelled, d: u8, bytes: &mut [u8]) -> Spelled
     requires { ⌜ s .count ≤ length (now bytes) ⌝ }
     requires { ⌜ d ≤ 15 ⌝ }

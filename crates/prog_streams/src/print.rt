@@ -18,7 +18,7 @@ fn print(text: &[u8]) {
     io::write_all(1, text);
 }
 
-// A text and a number behind it.
+// A text and a number after it.
 fn print_number(text: &[u8], n: u64) {
     print(text);
     io::print_decimal(1, n);
@@ -34,7 +34,7 @@ fn from_32(n: u32) -> u64 {
     n as u64
 }
 
-// A text and a value behind it.
+// A text and a value after it.
 fn print_value(text: &[u8], v: i64) {
     print(text);
     if v < 0 {
@@ -43,7 +43,7 @@ fn print_value(text: &[u8], v: i64) {
     io::print_decimal(1, absolute(v));
 }
 
-// A text and a signal behind it, a hyphen where it is absent.
+// A text and a signal after it, a hyphen where it is absent.
 fn print_signal(text: &[u8], s: Signal) {
     match s {
         Signal::Absent => {

@@ -1,4 +1,4 @@
--- Laws of refusals one behind the other, and of the tests that are their causes. Assumes nothing.
+-- Laws of refusals one after the other, and of the tests that are their causes. Assumes nothing.
 use Prim.Native.Nat.{ℕ, suc}
 use native.Mathlib.Omega.{arith}
 use mathlib.Core.Path.{_≡_, refl}
@@ -9,7 +9,8 @@ use borrow.Author.Tests.{ne-eqb, leb-true, leb-false, lt-ltb, le-ltb}
 use Rattle.laws.specs.Bools.{either}
 
 -- the first of a refusal and another number is the refusal where there is cause for it, and else the other
-pub first-refusal : (cause : Bool) (n other : ℕ) → cond (eqb (cond cause (suc n) 0) 0) other (cond cause (suc n) 0) ≡ cond cause (suc n) other
+pub first-refusal : (cause : Bool) (n other : ℕ) → cond (eqb (cond cause (suc n) 0) 0) other (cond cause (suc n) 0) ≡
+    cond cause (suc n) other
 first-refusal true n other = let some : suc n ≡ 0 → ⊥ = λ e. omega arith in rw (ne-eqb (suc n) 0 some)
 first-refusal false n other = refl
 

@@ -1,2 +1,2 @@
--- The laws of a refusal with another behind it.
+-- The laws of a refusal with another after it.
 pub mod FirstRefusal

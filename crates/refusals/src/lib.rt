@@ -1,5 +1,5 @@
-// Refusals: the one list of their numbers, with the names of the binding's enum; a number where there is cause for it, 0
-// meaning none; and the first of two. The order of tests is then the order of operands.
+// Refusals: the one list of their numbers, with the names of the binding's enum; a number where there is cause for it,
+// 0 meaning none; and the first of two. The order of tests is then the order of operands.
 ghost use mathlib.Core.Path.{_≡_};
 ghost use mathlib.Core.Bool.{cond};
 ghost use lib.Dec.{eqb};

@@ -1,6 +1,7 @@
--- The sweep that puts a table: parts one behind the other from a position on, and wires one behind the other from a later one on, so that the last part ends where
--- the first wire begins. The idea: between the parts put so far and the wires put so far lies a gap, which each part makes shorter, and behind the wires
--- lies what was there before. Assumes nothing.
+-- The sweep that puts a table: parts one after the other from a position on, and wires one after the other from a later
+-- one on, so that the last part ends where the first wire begins. The idea: between the parts put so far and the wires
+-- put so far lies a gap, which each part makes shorter, and after the wires lies what was there before. Assumes
+-- nothing.
 use Prim.Native.Nat.{ℕ, _+_, _≤_}
 use native.Mathlib.Omega.{arith}
 use mathlib.Core.Path.{_≡_, refl, sym, ap, ap₂, _∙_}
@@ -23,10 +24,12 @@ pub record Sweep (p₀ q₀ : ℕ) (parts wires a b : List ℕ) (p q : ℕ) : Ty
 pub swept-none : (p₀ q₀ : ℕ) (a : List ℕ) → p₀ ≤ q₀ → q₀ ≤ length a → Sweep p₀ q₀ [] [] a a p₀ q₀
 swept-none p₀ q₀ a low high =
     let gap = drop p₀ (take q₀ a) in
-    let until : take p₀ a ++ gap ≡ take q₀ a = ap (λ (l : List ℕ). l ++ gap) (sym (take-take p₀ q₀ a low)) ∙ take-append-drop p₀ (take q₀ a) in
+    let until : take p₀ a ++ gap ≡ take q₀ a = ap (λ (l : List ℕ). l ++ gap) (sym (take-take p₀ q₀ a low)) ∙
+    take-append-drop p₀ (take q₀ a) in
     record {
       gap = gap;
-      whole = rw (append-nil (take p₀ a), ← append-assoc (take p₀ a) gap (drop q₀ a), until) (sym (take-append-drop q₀ a));
+      whole = rw (append-nil (take p₀ a), ← append-assoc (take p₀ a) gap (drop q₀ a), until)
+          (sym (take-append-drop q₀ a));
       front = rw (append-nil (take p₀ a)) (length-take-le p₀ a (omega arith));
       until = omega (arith, length-drop p₀ (take q₀ a), length-take-le q₀ a high);
       next = omega arith;
@@ -45,7 +48,8 @@ module _
   rest = wires ++ drop q a
 
   -- one part more, where the gap has room for it
-  pub swept-part : {most r : ℕ} {text c : List ℕ} → Put most text p b c r → r ≤ q₀ → Sweep p₀ q₀ (parts ++ text) wires a c r q
+  pub swept-part : {most r : ℕ} {text c : List ℕ} → Put most text p b c r → r ≤ q₀ →
+      Sweep p₀ q₀ (parts ++ text) wires a c r q
   swept-part {r = r} {text = text} put inside =
       let gap = sweep .gap in
       let many : length text ≤ length gap = omega (arith, put .position, sweep .until) in
@@ -58,8 +62,10 @@ module _
         gap = drop (length text) gap;
         whole =
             put-whole put ∙
-            ap₂ (λ (x y : List ℕ). x ++ y) (ap (λ (x : List ℕ). x ++ text) before ∙ append-assoc (take p₀ a) parts text) behind;
-        front = rw (← append-assoc (take p₀ a) parts text) (omega (arith, length-append front text, sweep .front, put .position));
+            ap₂ (λ (x y : List ℕ). x ++ y) (ap (λ (x : List ℕ). x ++ text) before ∙
+            append-assoc (take p₀ a) parts text) behind;
+        front = rw (← append-assoc (take p₀ a) parts text)
+            (omega (arith, length-append front text, sweep .front, put .position));
         until = omega (arith, length-drop (length text) gap, sweep .until, put .position);
         next = sweep .next;
         ends = omega (arith, length-append parts text, sweep .ends, put .position);
@@ -71,11 +77,20 @@ module _
       let gap = sweep .gap in
       let split : b ≡ (front ++ (gap ++ wires)) ++ drop q a = sweep .whole ∙ simp append-assoc in
       let until : length (front ++ (gap ++ wires)) ≡ q =
-      omega (arith, length-append front (gap ++ wires), length-append gap wires, sweep .front, sweep .until, sweep .next) in
-      let before : take q b ≡ front ++ (gap ++ wires) = ap (take q) split ∙ take-at (front ++ (gap ++ wires)) (drop q a) q until in
+      omega (
+        arith,
+        length-append front (gap ++ wires),
+        length-append gap wires,
+        sweep .front,
+        sweep .until,
+        sweep .next,
+      ) in
+      let before : take q b ≡ front ++ (gap ++ wires) = ap (take q) split ∙
+      take-at (front ++ (gap ++ wires)) (drop q a) q until in
       let all : drop q b ≡ drop q a = ap (drop q) split ∙ drop-at (front ++ (gap ++ wires)) (drop q a) q until in
       let behind : drop r b ≡ drop r a =
-      ap (λ (n : ℕ). drop n b) (put .position) ∙ sym (drop-drop (length text) q b) ∙ ap (drop (length text)) all ∙ drop-drop (length text) q a ∙
+      ap (λ (n : ℕ). drop n b) (put .position) ∙ sym (drop-drop (length text) q b) ∙ ap (drop (length text)) all ∙
+      drop-drop (length text) q a ∙
       ap (λ (n : ℕ). drop n a) (sym (put .position)) in
       record {
         gap = gap;
@@ -91,8 +106,9 @@ no-gap : (l : List ℕ) → length l ≡ 0 → l ≡ []
 no-gap [] none = refl
 no-gap (x ∷ l) none = absurd (omega arith)
 
--- once the last part ends where the first wire begins, the whole is put behind what was put first
-pub swept-all : {p₀ q₀ p q most : ℕ} {begin parts wires l a b : List ℕ} → Put most begin 0 l a p₀ → Sweep p₀ q₀ parts wires a b p q → p ≡ q₀ →
+-- once the last part ends where the first wire begins, the whole is put after what was put first
+pub swept-all : {p₀ q₀ p q most : ℕ} {begin parts wires l a b : List ℕ} → Put most begin 0 l a p₀ →
+    Sweep p₀ q₀ parts wires a b p q → p ≡ q₀ →
     Put (length (begin ++ (parts ++ wires))) (begin ++ (parts ++ wires)) 0 l b q
 swept-all {p₀ = p₀} {q = q} {begin = begin} {parts = parts} {wires = wires} {l = l} {a = a} {b = b} first sweep met =
     let text = begin ++ (parts ++ wires) in
@@ -113,6 +129,7 @@ swept-all {p₀ = p₀} {q = q} {begin = begin} {parts = parts} {wires = wires} 
     record {
       position = omega (arith, size);
       line = ap (take q) whole ∙ take-at text (drop q a) q size;
-      behind = ap (drop q) whole ∙ drop-at text (drop q a) q size ∙ drop-more p₀ q l a (omega (arith, sweep .ends, met, sweep .next)) (first .behind);
+      behind = ap (drop q) whole ∙ drop-at text (drop q a) q size ∙
+          drop-more p₀ q l a (omega (arith, sweep .ends, met, sweep .next)) (first .behind);
       short = omega arith;
     }

@@ -1,5 +1,5 @@
--- The bytes of a table part by part: what one part more adds to them, how long they are, and what a table that fits grants of the words of each part.
--- Assumes nothing.
+-- The bytes of a table part by part: what one part more adds to them, how long they are, and what a table that fits
+-- grants of the words of each part. Assumes nothing.
 use Prim.Native.Nat.{ℕ, zero, suc, _+_, _*_, _-_, _/_, _%_, _≤_, _<_}
 use native.Mathlib.Nat.{add-zero, add-suc}
 use native.Mathlib.Numerals.{add-one}
@@ -18,7 +18,8 @@ use Rattle.machine.specs.Signal.{is-value, largest-value}
 use Rattle.machine.specs.Kind.{operands-fit, ports}
 use Rattle.machine.specs.Model.{most-parts, blank-component, trimmed-component}
 use Rattle.machine.specs.Sound.{source-fits, table-fits}
-use Rattle.machine.specs.TableBytes.{operand-bytes, signed-operand, part-bytes, spans-bytes, parts-bytes, port-bytes, wires-bytes}
+use Rattle.machine.specs.TableBytes.{operand-bytes, signed-operand, part-bytes, spans-bytes, parts-bytes, port-bytes}
+use Rattle.machine.specs.TableBytes.{wires-bytes}
 use Rattle.laws.specs.Bools.{and-right}
 use Rattle.laws.specs.ListLaws.{all-at}
 use Rattle.sound_laws.specs.Facts.{ComponentFits, table-facts}
@@ -34,35 +35,45 @@ unfolding parts-bytes part-text
 parts-added [] c = simp append-nil
 parts-added (d ∷ cs) c = simp (parts-added cs c, append-assoc)
 
-pub parts-bytes-more : (f : ℕ → Component) (i : ℕ) → parts-bytes (tabulate f (i + 1)) ≡ parts-bytes (tabulate f i) ++ part-text (f i)
+pub parts-bytes-more : (f : ℕ → Component) (i : ℕ) → parts-bytes (tabulate f (i + 1)) ≡ parts-bytes (tabulate f i) ++
+    part-text (f i)
 unfolding tabulate
 parts-bytes-more f i = rw add-one (parts-added (tabulate f i) (f i))
 
 -- and the wires into it, part numbers going on from k
-wires-added : (k : ℕ) (cs : List Component) (c : Component) → wires-bytes k (cs ++ (c ∷ [])) ≡ wires-bytes k cs ++ wires-text (k + length cs) c
+wires-added : (k : ℕ) (cs : List Component) (c : Component) →
+    wires-bytes k (cs ++ (c ∷ [])) ≡ wires-bytes k cs ++ wires-text (k + length cs) c
 unfolding wires-bytes wires-text
 wires-added k [] c = simp (append-nil, add-zero)
 wires-added k (d ∷ cs) c =
     let there : suc k + length cs ≡ k + length (d ∷ cs) = omega arith in
     rw (wires-added (suc k) cs c, there) (simp append-assoc)
 
-pub wires-bytes-more : (f : ℕ → Component) (i : ℕ) → wires-bytes 0 (tabulate f (i + 1)) ≡ wires-bytes 0 (tabulate f i) ++ wires-text i (f i)
+pub wires-bytes-more : (f : ℕ → Component) (i : ℕ) →
+    wires-bytes 0 (tabulate f (i + 1)) ≡ wires-bytes 0 (tabulate f i) ++ wires-text i (f i)
 unfolding tabulate
 wires-bytes-more f i =
     let here : 0 + length (tabulate f i) ≡ i = omega (arith, length-table f i) in
-    rw add-one (wires-added 0 (tabulate f i) (f i) ∙ ap (λ (n : ℕ). wires-bytes 0 (tabulate f i) ++ wires-text n (f i)) here)
+    rw add-one (wires-added 0 (tabulate f i) (f i) ∙
+    ap (λ (n : ℕ). wires-bytes 0 (tabulate f i) ++ wires-text n (f i)) here)
 
 -- how long they are
 pub text-length : (c : Component) → length (part-text c) ≡ 15 + 5 * length (c .spans)
 unfolding part-text
-text-length c = omega (arith, length-append (part-bytes c) (spans-bytes (c .spans)), part-length c, spans-length (c .spans))
+text-length c = omega (
+  arith,
+  length-append (part-bytes c) (spans-bytes (c .spans)),
+  part-length c,
+  spans-length (c .spans),
+)
 
 pub port-length : (receiver port : ℕ) (s : Source) → length (port-bytes receiver port s) ≡ length (port-bytes 0 0 s)
 unfolding port-bytes
 port-length receiver port Unwired = refl
 port-length receiver port (From k) = refl
 
-pub wires-length : (i : ℕ) (c : Component) → length (wires-text i c) ≡ length (port-bytes 0 0 (c .port0)) + length (port-bytes 0 0 (c .port1))
+pub wires-length : (i : ℕ) (c : Component) →
+    length (wires-text i c) ≡ length (port-bytes 0 0 (c .port0)) + length (port-bytes 0 0 (c .port1))
 unfolding wires-text
 wires-length i c =
     omega (
@@ -106,7 +117,8 @@ operand-low (negsuc n) h =
 
 -- what holds of the words of part i where the table fits
 pub record SavablePart (ts : List ℕ) (i : ℕ) : Type 0 where
-  pub operands : operands-fit (stored-component ts i .kind) (stored-component ts i .a) (stored-component ts i .b) (stored-component ts i .p) ≡ true
+  pub operands : operands-fit (stored-component ts i .kind) (stored-component ts i .a) (stored-component ts i .b)
+      (stored-component ts i .p) ≡ true
   pub counted : stored-component ts i .«span_count» ≡ length (lent-component ts i .spans)
   pub spans : stored-component ts i .«span_count» ≤ 8
   pub port0 : SourceInByte (stored-component ts i .port0)
@@ -141,8 +153,10 @@ module _ (ts : List ℕ) (fits : table-fits (lent-table ts) ≡ true) where
         operands = here .operands;
         counted = here .counted;
         spans = omega (arith, here .counted, few-spans n (lent-component ts i) here);
-        port0 = fitting-source n (ports (lent-component ts i .kind)) 0 (lent-component ts i .port0) (f .few) (here .port0);
-        port1 = fitting-source n (ports (lent-component ts i .kind)) 1 (lent-component ts i .port1) (f .few) (here .port1);
+        port0 = fitting-source n (ports (lent-component ts i .kind)) 0 (lent-component ts i .port0) (f .few)
+            (here .port0);
+        port1 = fitting-source n (ports (lent-component ts i .kind)) 1 (lent-component ts i .port1) (f .few)
+            (here .port1);
       }
 
 -- the lengths with one part more, as its words tell them
@@ -174,14 +188,18 @@ module _ (ts : List ℕ) (i : ℕ) (fit : SavablePart ts i) where
 
 -- with a part of the table and its wires, no more than those of all parts
 module _ (ts : List ℕ) (i : ℕ) (low : i < part-count ts) where
-  pub parts-within : length (parts-bytes (tabulate (lent-component ts) (i + 1))) ≤ length (parts-bytes (lent-table ts .parts))
+  pub parts-within : length (parts-bytes (tabulate (lent-component ts) (i + 1))) ≤ length
+      (parts-bytes (lent-table ts .parts))
   unfolding lent-table
   parts-within =
-      grows (λ (n : ℕ). parts-bytes (tabulate (lent-component ts) n)) (λ (n : ℕ). part-text (lent-component ts n)) (parts-bytes-more (lent-component ts)) (i + 1)
+      grows (λ (n : ℕ). parts-bytes (tabulate (lent-component ts) n)) (λ (n : ℕ). part-text (lent-component ts n))
+      (parts-bytes-more (lent-component ts)) (i + 1)
       (part-count ts) (omega arith)
 
-  pub wires-within : length (wires-bytes 0 (tabulate (lent-component ts) (i + 1))) ≤ length (wires-bytes 0 (lent-table ts .parts))
+  pub wires-within : length (wires-bytes 0 (tabulate (lent-component ts) (i + 1))) ≤ length
+      (wires-bytes 0 (lent-table ts .parts))
   unfolding lent-table
   wires-within =
-      grows (λ (n : ℕ). wires-bytes 0 (tabulate (lent-component ts) n)) (λ (n : ℕ). wires-text n (lent-component ts n)) (wires-bytes-more (lent-component ts)) (i + 1)
+      grows (λ (n : ℕ). wires-bytes 0 (tabulate (lent-component ts) n)) (λ (n : ℕ). wires-text n (lent-component ts n))
+      (wires-bytes-more (lent-component ts)) (i + 1)
       (part-count ts) (omega arith)

@@ -30,9 +30,12 @@ unfolding table-of trimmed model-in lent-table lent-component stored-part trimme
 lent-table-is ts ss =
     let n = part-count ts in
     let f = stored-part ts ss in
-    let parts : map (λ (p : Part). p .component) (map trimmed-part (take n (tabulate f n))) ≡ tabulate (lent-component ts) n =
-    ap (λ (l : List Part). map (λ (p : Part). p .component) (map trimmed-part l)) (take-all n (tabulate f n) (omega (arith, length-table f n))) ∙
-    ap (map (λ (p : Part). p .component)) (map-table trimmed-part f n) ∙ map-table (λ (p : Part). p .component) (λ (i : ℕ). trimmed-part (f i)) n in
+    let parts : map (λ (p : Part). p .component) (map trimmed-part (take n (tabulate f n))) ≡
+    tabulate (lent-component ts) n =
+    ap (λ (l : List Part). map (λ (p : Part). p .component) (map trimmed-part l))
+    (take-all n (tabulate f n) (omega (arith, length-table f n))) ∙
+    ap (map (λ (p : Part). p .component)) (map-table trimmed-part f n) ∙
+    map-table (λ (p : Part). p .component) (λ (i : ℕ). trimmed-part (f i)) n in
     ap (λ (cs : List Component). record { magnitude = slot ts 0 % 256; parts = cs }) parts
 
 -- a source whose number fits a byte

@@ -21,10 +21,12 @@ abbrev pub SavedInto : (ts ss before after : List ℕ) → Written → Type 0
 SavedInto ts ss before after w = WrittenAs (lent-refusal ts ss) (saved-bytes (trimmed (model-in ts ss))) before after w
 
 -- words of a sound model are not refused, and others are
-pub sound-saved : (ts ss : List ℕ) → spelled ts ss ≡ true → sound (trimmed (model-in ts ss)) ≡ true → lent-refusal ts ss ≡ 0
+pub sound-saved : (ts ss : List ℕ) → spelled ts ss ≡ true → sound (trimmed (model-in ts ss)) ≡ true →
+    lent-refusal ts ss ≡ 0
 unfolding lent-refusal save-refusal
 sound-saved ts ss spells sounds = rw (spells, sounds) refl
 
-pub unsound-refused : (ts ss : List ℕ) → (spelled ts ss && sound (trimmed (model-in ts ss))) ≡ false → lent-refusal ts ss ≡ 24
+pub unsound-refused : (ts ss : List ℕ) → (spelled ts ss && sound (trimmed (model-in ts ss))) ≡ false →
+    lent-refusal ts ss ≡ 24
 unfolding lent-refusal save-refusal
 unsound-refused ts ss none = cond-either (spelled ts ss) (sound (trimmed (model-in ts ss))) 0 24 none

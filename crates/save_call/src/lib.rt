@@ -1,5 +1,5 @@
-// Saving: the bytes of a model's table, written into a buffer that the caller lends. The call is `save`, on lent words; its contract cites
-// `specs/SavedInto.antt`, which is made of the machine's `specs/Save.antt` and `specs/Writing.antt`.
+// Saving: the bytes of a model's table, written into a buffer that the caller lends. The call is `save`, on lent words;
+// its contract cites `specs/SavedInto.antt`, which is made of the machine's `specs/Save.antt` and `specs/Writing.antt`.
 use crate::sweep::lengths_of;
 use crate::sweep::put_table;
 use machine::model::Written;
@@ -24,7 +24,8 @@ mod writer;
 fn save_table(table: &[u64], out: &mut [u8]) -> Written
     requires { ⌜ table-words (part-count (now table)) ≤ length (now table) ⌝ }
     requires { ⌜ table-fits (lent-table (now table)) ≡ true ⌝ }
-    ensures { λ w. ⌜ WrittenAs 0 (table-bytes (lent-table (now (table .entry)))) (now (out .entry)) (now (out .exit)) w ⌝ }
+    ensures { λ w. ⌜ WrittenAs 0 (table-bytes (lent-table (now (table .entry)))) (now (out .entry))
+        (now (out .exit)) w ⌝ }
 {
     let lengths = lengths_of(table);
     let wires = lengths.parts + 2;
@@ -41,8 +42,9 @@ fn save_table(table: &[u64], out: &mut [u8]) -> Written
     }
 }
 
-// The bytes of the table of a model in lent words, whatever they are, written into `out`: 24 where the words spell no sound model, then 25 where the bytes
-// do not fit, with the length that they need. The words of the table and of the state are kept, as their types say.
+// The bytes of the table of a model in lent words, whatever they are, written into `out`: 24 where the words spell no
+// sound model, then 25 where the bytes do not fit, with the length that they need. The words of the table and of the
+// state are kept, as their types say.
 pub fn save(table: &[u64], state: &[u64], out: &mut [u8]) -> Written
     ensures { λ w. ⌜ SavedInto (now (table .entry)) (now (state .entry)) (now (out .entry)) (now (out .exit)) w ⌝ }
 {

@@ -1,5 +1,5 @@
-// The two sweeps over a table that a save makes: one for the length of its bytes, and one that puts them. The contracts cite
-// `specs/LentTable.antt` and the machine's `specs/TableBytes.antt`.
+// The two sweeps over a table that a save makes: one for the length of its bytes, and one that puts them. The contracts
+// cite `specs/LentTable.antt` and the machine's `specs/TableBytes.antt`.
 use crate::writer::put_begin;
 use crate::writer::put_component;
 use crate::writer::put_wires;
@@ -62,14 +62,15 @@ pub(crate) fn lengths_of(table: &[u64]) -> Lengths
     }
 }
 
-// The bytes of a table that fits, into a buffer that has room for them, its wires from position `wires` on. One sweep puts each part where the one before it
-// ends, and its wires where those before them do.
+// The bytes of a table that fits, into a buffer that has room for them, its wires from position `wires` on. One sweep
+// puts each part where the one before it ends, and its wires where those before them do.
 pub(crate) fn put_table(table: &[u64], wires: usize, out: &mut [u8]) -> usize
     requires { ⌜ table-words (part-count (now table)) ≤ length (now table) ⌝ }
     requires { ⌜ table-fits (lent-table (now table)) ≡ true ⌝ }
     requires { ⌜ wires ≡ length (parts-bytes (lent-table (now table) .parts)) + 2 ⌝ }
     requires { ⌜ length (table-bytes (lent-table (now table))) ≤ length (now out) ⌝ }
-    ensures { λ r. ⌜ Put (length (table-bytes (lent-table (now (table .entry))))) (table-bytes (lent-table (now (table .entry)))) 0 (now (out .entry)) (now (out .exit)) r ⌝ }
+    ensures { λ r. ⌜ Put (length (table-bytes (lent-table (now (table .entry)))))
+        (table-bytes (lent-table (now (table .entry)))) 0 (now (out .entry)) (now (out .exit)) r ⌝ }
 {
     let count = parts_of(table);
     let mut at = put_begin(out, 0, magnitude_of(table));

@@ -1,5 +1,6 @@
-// The commands of a table, put into a buffer. Each function puts some at a position and returns the position after them; the machine's
-// `specs/TableBytes.antt` says which bytes they are, and `writing`'s `specs/Put.antt` what is left in the buffer.
+// The commands of a table, put into a buffer. Each function puts some at a position and returns the position after
+// them; the machine's `specs/TableBytes.antt` says which bytes they are, and `writing`'s `specs/Put.antt` what is left
+// in the buffer.
 use load_operands::refusal::BEGIN_BYTE;
 use load_operands::refusal::PART_BYTE;
 use load_operands::refusal::SPAN_BYTE;
@@ -47,7 +48,8 @@ fn put_operand(out: &mut [u8], at: usize, v: u64) -> usize
 // The first three bytes of a Part.
 fn put_kind(out: &mut [u8], at: usize, kind: Kind, preference: u8) -> usize
     requires { ⌜ at + 3 ≤ length (now out) ⌝ }
-    ensures { λ r. ⌜ Put 3 (part-byte ∷ kind-number kind ∷ preference ∷ []) at (now (out .entry)) (now (out .exit)) r ⌝ }
+    ensures { λ r. ⌜ Put 3 (part-byte ∷ kind-number kind ∷ preference ∷ []) at (now (out .entry))
+        (now (out .exit)) r ⌝ }
 {
     let next = put_byte(out, at, PART_BYTE);
     let next = put_byte(out, next, number_of(kind));
@@ -58,7 +60,8 @@ fn put_kind(out: &mut [u8], at: usize, kind: Kind, preference: u8) -> usize
 fn put_operands(out: &mut [u8], at: usize, a: i64, b: i64, p: u32) -> usize
     requires { ⌜ at + 12 ≤ length (now out) ⌝ }
     requires { ⌜ (is-value a ≡ true) × (is-value b ≡ true) ⌝ }
-    ensures { λ r. ⌜ Put 12 (operand-bytes (signed-operand a) ++ (operand-bytes (signed-operand b) ++ operand-bytes p)) at (now (out .entry)) (now (out .exit)) r ⌝ }
+    ensures { λ r. ⌜ Put 12 (operand-bytes (signed-operand a) ++ (operand-bytes (signed-operand b) ++ operand-bytes p))
+        at (now (out .entry)) (now (out .exit)) r ⌝ }
 {
     let next = put_operand(out, at, encode_signed(a));
     let next = put_operand(out, next, encode_signed(b));
@@ -89,12 +92,13 @@ fn put_spans(out: &mut [u8], at: usize, spans: [u32; SPANS], count: usize) -> us
     next
 }
 
-// A Part with its spans behind it.
+// A Part with its spans after it.
 pub(crate) fn put_component(out: &mut [u8], at: usize, c: Component) -> usize
     requires { ⌜ c .«span_count» ≤ 8 ⌝ }
     requires { ⌜ at + 15 + 5 * c .«span_count» ≤ length (now out) ⌝ }
     requires { ⌜ operands-fit (c .kind) (c .a) (c .b) (c .p) ≡ true ⌝ }
-    ensures { λ r. ⌜ Put (15 + 5 * c .«span_count») (part-text (trimmed-component c)) at (now (out .entry)) (now (out .exit)) r ⌝ }
+    ensures { λ r. ⌜ Put (15 + 5 * c .«span_count») (part-text (trimmed-component c)) at (now (out .entry))
+        (now (out .exit)) r ⌝ }
 {
     let kind = c.kind;
     let spans = c.spans;

@@ -8,10 +8,11 @@ use lib.ListN.{length}
 use borrow.Author.Tests.{leb-true}
 use Rattle.machine.specs.declared.signal.Signal.{Signal}
 use Rattle.machine.specs.Rehearse.{decimal, signal-text}
-use Rattle.machine.specs.Sheet.{ShownStep, tick-width, microstep-width, step-width, rounds-width, revisions-width, output-width, texts-fit, field-texts, shown-fits}
+use Rattle.machine.specs.Sheet.{ShownStep, tick-width, microstep-width, step-width, rounds-width, revisions-width}
+use Rattle.machine.specs.Sheet.{output-width, texts-fit, field-texts, shown-fits}
 use Rattle.laws.specs.Bools.{and-left, and-right}
 
--- the first field, and those behind it
+-- the first field, and those after it
 module _ (w : ℕ) (ws : List ℕ) (t : List ℕ) (ts : List (List ℕ)) where
   first-fits : texts-fit (w ∷ ws) (t ∷ ts) ≡ true → length t ≤ w
   unfolding texts-fit
@@ -32,7 +33,8 @@ pub record FieldsFit (t n step rounds revisions : ℕ) (x y z : Signal) : Type 0
   pub second-output : length (signal-text y) ≤ output-width
   pub third-output : length (signal-text z) ≤ output-width
 
-pub fields-fit : (t n step rounds revisions : ℕ) (x y z : Signal) → shown-fits (ShownStep t n step rounds revisions x y z) ≡ true →
+pub fields-fit : (t n step rounds revisions : ℕ) (x y z : Signal) →
+    shown-fits (ShownStep t n step rounds revisions x y z) ≡ true →
     FieldsFit t n step rounds revisions x y z
 unfolding shown-fits field-texts
 fields-fit t n step rounds revisions x y z fit =

@@ -1,5 +1,6 @@
--- Laws of a sheet line on lent words: what refuses it, test by test, what is so of one that nothing refuses, and what it shows, by the words. The idea: of a sound model t, n and
--- outputs always fit, so that the counts decide. Assumes nothing.
+-- Laws of a sheet line on lent words: what refuses it, test by test, what is so of one that nothing refuses, and what
+-- it shows, by the words. The idea: of a sound model t, n and outputs always fit, so that the counts decide. Assumes
+-- nothing.
 use Prim.Native.Nat.{ℕ, _<_}
 use native.Mathlib.Omega.{arith}
 use native.Mathlib.Decide.{ℕ-discrete}
@@ -16,7 +17,9 @@ use Rattle.machine.specs.Time.{tick}
 use Rattle.machine.specs.Model.{trimmed-part}
 use Rattle.machine.specs.Sound.{sound}
 use Rattle.machine.specs.Rehearse.{decimal, signal-text}
-use Rattle.machine.specs.Sheet.{step-width, rounds-width, revisions-width, output-width, ShownStep, ShownRefusal, output-of, shown, texts-fit, field-texts, shown-fits, has-part, sheet-line, sheet-refusal, number-taken}
+use Rattle.machine.specs.Sheet.{step-width, rounds-width, revisions-width, output-width, ShownStep, ShownRefusal}
+use Rattle.machine.specs.Sheet.{output-of, shown, texts-fit, field-texts, shown-fits, has-part, sheet-line}
+use Rattle.machine.specs.Sheet.{sheet-refusal, number-taken}
 use Rattle.laws.specs.Bools.{either, and-left, and-right, cond-both, cond-either}
 use Rattle.sound_laws.specs.SoundParts.{sound-time, sound-output}
 use Rattle.write_laws.specs.SheetLines.{shown-length}
@@ -31,7 +34,8 @@ use Rattle.sheet_call.specs.SheetInto.{outcome-answer, lent-sheet-refusa
 -- the counts of an answer are no wider than their fields
 abbrev pub counts-short : (step rounds revisions : ℕ) → Bool
 counts-short step rounds revisions =
-    leb (length (decimal step)) step-width && leb (length (decimal rounds)) rounds-width && leb (length (decimal revisions)) revisions-width
+    leb (length (decimal step)) step-width && leb (length (decimal rounds)) rounds-width &&
+    leb (length (decimal revisions)) revisions-width
 
 -- a table of so many parts has all three
 abbrev pub all-there : (count a b c : ℕ) → Bool
@@ -45,13 +49,16 @@ regrouped true false r = refl
 regrouped false q r = refl
 
 -- an output of a sound model fits
-output-fits : (m : Model) (k : ℕ) → sound m ≡ true → k < length (m .parts) → leb (length (signal-text (output-of m k))) output-width ≡ true
+output-fits : (m : Model) (k : ℕ) → sound m ≡ true → k < length (m .parts) →
+    leb (length (signal-text (output-of m k))) output-width ≡ true
 unfolding output-of
 output-fits m k sounds low = le-leb _ _ (signal-short (output-of m k) (sound-output m sounds k low))
 
 -- so do t and n, so that the counts decide
-pub counts-decide : (m : Model) (step rounds revisions a b c : ℕ) → sound m ≡ true → a < length (m .parts) → b < length (m .parts) → c < length (m .parts) →
-    shown-fits (ShownStep (tick (m .point)) (m .point .n) step rounds revisions (output-of m a) (output-of m b) (output-of m c)) ≡
+pub counts-decide : (m : Model) (step rounds revisions a b c : ℕ) → sound m ≡ true → a < length (m .parts) →
+    b < length (m .parts) → c < length (m .parts) →
+    shown-fits (ShownStep (tick (m .point)) (m .point .n) step rounds revisions (output-of m a) (output-of m b)
+    (output-of m c)) ≡
     counts-short step rounds revisions
 unfolding shown-fits texts-fit field-texts
 counts-decide m step rounds revisions a b c sounds first second third =
@@ -63,16 +70,19 @@ counts-decide m step rounds revisions a b c sounds first second third =
       output-fits m b sounds second,
       output-fits m c sounds third,
     )
-    (regrouped (leb (length (decimal step)) step-width) (leb (length (decimal rounds)) rounds-width) (leb (length (decimal revisions)) revisions-width))
+    (regrouped (leb (length (decimal step)) step-width) (leb (length (decimal rounds)) rounds-width)
+    (leb (length (decimal revisions)) revisions-width))
 
 -- the parts that are chosen, by the words
 there-lent : (ts ss : List ℕ) (a b c : ℕ) →
-    (has-part (lent-model ts ss) a && has-part (lent-model ts ss) b && has-part (lent-model ts ss) c) ≡ all-there (part-count ts) a b c
+    (has-part (lent-model ts ss) a && has-part (lent-model ts ss) b && has-part (lent-model ts ss) c) ≡
+    all-there (part-count ts) a b c
 unfolding has-part
 there-lent ts ss a b c = rw (lent-many ts ss) refl
 
 -- their outputs
-pub output-lent : (ts ss : List ℕ) (k : ℕ) → k < part-count ts → output-of (lent-model ts ss) k ≡ stored-state ss k .output
+pub output-lent : (ts ss : List ℕ) (k : ℕ) → k < part-count ts →
+    output-of (lent-model ts ss) k ≡ stored-state ss k .output
 unfolding output-of stored-part trimmed-part
 output-lent ts ss k low = ap (λ (p : Part). p .state .output) (lent-part ts ss k low)
 
@@ -99,7 +109,8 @@ module _ (ts ss : List ℕ) (v : Outcome) (a b c : ℕ) where
 
   pub step-shown : v .number ≡ 0 →
       shown (outcome-answer ts ss v) a b c ≡
-      ShownStep (tick (lent-model ts ss .point)) (lent-model ts ss .point .n) (v .step) (v .rounds) (v .revisions) (output-of (lent-model ts ss) a)
+      ShownStep (tick (lent-model ts ss .point)) (lent-model ts ss .point .n) (v .step) (v .rounds) (v .revisions)
+      (output-of (lent-model ts ss) a)
       (output-of (lent-model ts ss) b) (output-of (lent-model ts ss) c)
   unfolding shown
   step-shown none = rw (eq-eqb (v .number) 0 none) refl
@@ -111,7 +122,8 @@ module _ (ts ss : List ℕ) (v : Outcome) (a b c : ℕ) where
 
   module _ (sounds : (spelled ts ss && sound (lent-model ts ss)) ≡ true) where
     -- words that spell one leave the number to the choice and to what is shown
-    told-sheet : lent-sheet-refusal ts ss v a b c ≡ cond (all-there (part-count ts) a b c && shown-fits (shown (outcome-answer ts ss v) a b c)) 0 26
+    told-sheet : lent-sheet-refusal ts ss v a b c ≡
+        cond (all-there (part-count ts) a b c && shown-fits (shown (outcome-answer ts ss v) a b c)) 0 26
     unfolding lent-sheet-refusal sheet-refusal
     told-sheet = cond-both (spelled ts ss) (sound (lent-model ts ss)) _ 24 sounds ∙ rw (there-lent ts ss a b c) refl
 
@@ -126,14 +138,20 @@ module _ (ts ss : List ℕ) (v : Outcome) (a b c : ℕ) where
       refused-sheet some = told-sheet ∙ rw (there, refusal-shown some) refl
 
       -- and a committed one, by its counts
-      pub counted-sheet : v .number ≡ 0 → lent-sheet-refusal ts ss v a b c ≡ cond (counts-short (v .step) (v .rounds) (v .revisions)) 0 26
+      pub counted-sheet : v .number ≡ 0 →
+          lent-sheet-refusal ts ss v a b c ≡ cond (counts-short (v .step) (v .rounds) (v .revisions)) 0 26
       counted-sheet none =
           let chosen = chosen-there (part-count ts) a b c there in
           let is-sound = and-right (spelled ts ss) (sound (lent-model ts ss)) sounds in
           let first : a < length (lent-model ts ss .parts) = rw (lent-many ts ss) (chosen .first) in
           let second : b < length (lent-model ts ss .parts) = rw (lent-many ts ss) (chosen .second) in
           let third : c < length (lent-model ts ss .parts) = rw (lent-many ts ss) (chosen .third) in
-          told-sheet ∙ rw (there, step-shown none, counts-decide (lent-model ts ss) (v .step) (v .rounds) (v .revisions) a b c is-sound first second third) refl
+          told-sheet ∙ rw (
+            there,
+            step-shown none,
+            counts-decide (lent-model ts ss) (v .step) (v .rounds) (v .revisions) a b c is-sound first second third,
+          )
+          refl
 
   -- what is so where nothing refuses the line
   pub record SheetFree : Type 0 where
@@ -149,7 +167,8 @@ module _ (ts ss : List ℕ) (v : Outcome) (a b c : ℕ) where
       both true e = refl
       both false e = absurd (omega arith)
 
-      sounded : ((spelled ts ss && sound (lent-model ts ss)) ≡ true) ⊎ ((spelled ts ss && sound (lent-model ts ss)) ≡ false) → SheetFree
+      sounded : ((spelled ts ss && sound (lent-model ts ss)) ≡ true) ⊎
+          ((spelled ts ss && sound (lent-model ts ss)) ≡ false) → SheetFree
       sounded (inr none) = let h : _≡_ {A = ℕ} 24 0 = sym (unsound-sheet none) ∙ free in absurd (omega arith)
       sounded (inl sounds) =
           let there = all-there (part-count ts) a b c in
@@ -171,6 +190,8 @@ module _ (ts ss : List ℕ) (v : Outcome) (a b c : ℕ) where
       by-number (no some) = rw (refusal-shown some) small
 
   -- such a line has 79 bytes
-  pub line-length : v .number < 18446744073709551616 → lent-sheet-refusal ts ss v a b c ≡ 0 → length (sheet-line (outcome-answer ts ss v) a b c) ≡ 79
+  pub line-length : v .number < 18446744073709551616 → lent-sheet-refusal ts ss v a b c ≡ 0 →
+      length (sheet-line (outcome-answer ts ss v) a b c) ≡ 79
   unfolding sheet-line
-  line-length small free = shown-length (shown (outcome-answer ts ss v) a b c) (sheet-free free .fits) (shown-taken small)
+  line-length small free = shown-length (shown (outcome-answer ts ss v) a b c) (sheet-free free .fits)
+      (shown-taken small)

@@ -18,6 +18,8 @@ outcome-answer ts ss v = lent-answer ts ss (v .number) (v .step) (v .rounds) (v 
 unfoldable pub lent-sheet-refusal : List ℕ → List ℕ → Outcome → (a b c : ℕ) → ℕ
 lent-sheet-refusal ts ss v a b c = cond (spelled ts ss) (sheet-refusal (outcome-answer ts ss v) a b c) 24
 
--- the words of a table and of a state, how the call ended, the chosen parts, a buffer before and after the call, and what it answers
+-- the words of a table and of a state, how the call ended, the chosen parts, a buffer before and after the call, and
+-- what it answers
 abbrev pub SheetInto : (ts ss : List ℕ) → Outcome → (a b c : ℕ) → (before after : List ℕ) → Written → Type 0
-SheetInto ts ss v a b c before after w = WrittenAs (lent-sheet-refusal ts ss v a b c) (sheet-line (outcome-answer ts ss v) a b c) before after w
+SheetInto ts ss v a b c before after w =
+    WrittenAs (lent-sheet-refusal ts ss v a b c) (sheet-line (outcome-answer ts ss v) a b c) before after w

@@ -1,5 +1,6 @@
-// The fields of a sheet line, put into a buffer: a number or an output, right-aligned in its width, and the character behind it. Each function puts its piece
-// at a position and returns the position after it; the machine's `specs/Sheet.antt` says what is put, and `writing`'s `specs/Put.antt` what is left in the buffer.
+// The fields of a sheet line, put into a buffer: a number or an output, right-aligned in its width, and the character
+// after it. Each function puts its piece at a position and returns the position after it; the machine's
+// `specs/Sheet.antt` says what is put, and `writing`'s `specs/Put.antt` what is left in the buffer.
 use machine::signal::Signal;
 use write_bytes::put::put_byte;
 use write_lines::length::characters_of;
@@ -30,11 +31,12 @@ pub(crate) fn put_blanks(out: &mut [u8], at: usize, count: usize) -> usize
     next
 }
 
-// A number in a field of a width, and a blank behind it.
+// A number in a field of a width, and a blank after it.
 pub(crate) fn put_number_field(out: &mut [u8], at: usize, width: usize, n: u64) -> usize
     requires { ⌜ length (decimal n) ≤ width ⌝ }
     requires { ⌜ at + width + 1 ≤ length (now out) ⌝ }
-    ensures { λ r. ⌜ Put (width + 1) (right-aligned width (decimal n) ++ (blank ∷ [])) at (now (out .entry)) (now (out .exit)) r ⌝ }
+    ensures { λ r. ⌜ Put (width + 1) (right-aligned width (decimal n) ++ (blank ∷ [])) at (now (out .entry))
+        (now (out .exit)) r ⌝ }
 {
     let digits = digits_of(n);
     let next = put_blanks(out, at, width - digits);
@@ -46,7 +48,8 @@ pub(crate) fn put_number_field(out: &mut [u8], at: usize, width: usize, n: u64) 
 fn put_value_field(out: &mut [u8], at: usize, v: i64) -> usize
     requires { ⌜ length (signed-decimal v) ≤ output-width ⌝ }
     requires { ⌜ at + output-width ≤ length (now out) ⌝ }
-    ensures { λ r. ⌜ Put output-width (right-aligned output-width (signed-decimal v)) at (now (out .entry)) (now (out .exit)) r ⌝ }
+    ensures { λ r. ⌜ Put output-width (right-aligned output-width (signed-decimal v)) at (now (out .entry))
+        (now (out .exit)) r ⌝ }
 {
     let characters = characters_of(v);
     let next = put_blanks(out, at, OUTPUT_WIDTH - characters);
@@ -57,7 +60,8 @@ fn put_value_field(out: &mut [u8], at: usize, v: i64) -> usize
 fn put_signal_field(out: &mut [u8], at: usize, output: Signal) -> usize
     requires { ⌜ length (signal-text output) ≤ output-width ⌝ }
     requires { ⌜ at + output-width ≤ length (now out) ⌝ }
-    ensures { λ r. ⌜ Put output-width (right-aligned output-width (signal-text output)) at (now (out .entry)) (now (out .exit)) r ⌝ }
+    ensures { λ r. ⌜ Put output-width (right-aligned output-width (signal-text output)) at (now (out .entry))
+        (now (out .exit)) r ⌝ }
 {
     match output {
         Signal::Absent => {
@@ -68,11 +72,12 @@ fn put_signal_field(out: &mut [u8], at: usize, output: Signal) -> usize
     }
 }
 
-// An output in its field, and a character behind it.
+// An output in its field, and a character after it.
 pub(crate) fn put_output_field(out: &mut [u8], at: usize, output: Signal, behind: u8) -> usize
     requires { ⌜ length (signal-text output) ≤ output-width ⌝ }
     requires { ⌜ at + output-width + 1 ≤ length (now out) ⌝ }
-    ensures { λ r. ⌜ Put (output-width + 1) (right-aligned output-width (signal-text output) ++ (behind ∷ [])) at (now (out .entry)) (now (out .exit)) r ⌝ }
+    ensures { λ r. ⌜ Put (output-width + 1) (right-aligned output-width (signal-text output) ++
+        (behind ∷ [])) at (now (out .entry)) (now (out .exit)) r ⌝ }
 {
     let next = put_signal_field(out, at, output);
     put_byte(out, next, behind)

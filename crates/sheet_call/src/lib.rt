@@ -1,5 +1,6 @@
-// Sheet lines: an answer printed as a line of 78 columns and a line feed into a buffer that the caller lends. The call is `sheet`, on lent words; its contract
-// cites `specs/SheetInto.antt`, which is made of the machine's `specs/Sheet.antt` and `specs/Writing.antt`.
+// Sheet lines: an answer printed as a line of 78 columns and a line feed into a buffer that the caller lends. The call
+// is `sheet`, on lent words; its contract cites `specs/SheetInto.antt`, which is made of the machine's
+// `specs/Sheet.antt` and `specs/Writing.antt`.
 use crate::row::counts_fit;
 use crate::row::put_refusal_row;
 use crate::row::put_step_row;
@@ -79,7 +80,8 @@ fn put_line(
 ) -> usize
     requires { ⌜ lent-sheet-refusal (now table) (now state) outcome first second third ≡ 0 ⌝ }
     requires { ⌜ 79 ≤ length (now out) ⌝ }
-    ensures { λ r. ⌜ Put 79 (sheet-line (outcome-answer (now (table .entry)) (now (state .entry)) outcome) first second third) 0 (now (out .entry)) (now (out .exit)) r ⌝ }
+    ensures { λ r. ⌜ Put 79 (sheet-line (outcome-answer (now (table .entry)) (now (state .entry)) outcome) first second
+        third) 0 (now (out .entry)) (now (out .exit)) r ⌝ }
 {
     if outcome.number != 0 {
         return put_refusal_row(out, outcome.number);
@@ -101,9 +103,11 @@ fn put_line(
     )
 }
 
-// The sheet line of an answer, written into `out`: the model is that of lent words, whatever they are, `outcome` how the call ended, whatever its numbers are, and three
-// parts are chosen by number. 24 where the words spell no sound model; then 26 where a chosen part is not there, or the answer is committed and one of its numbers is wider
-// than its field; then 25 where `out` has no room for the line, with its length. The words of the table and of the state are kept, as their types say.
+// The sheet line of an answer, written into `out`: the model is that of lent words, whatever they are, `outcome` how
+// the call ended, whatever its numbers are, and three parts are chosen by number. 24 where the words spell no sound
+// model; then 26 where a chosen part is not there, or the answer is committed and one of its numbers is wider than its
+// field; then 25 where `out` has no room for the line, with its length. The words of the table and of the state are
+// kept, as their types say.
 pub fn sheet(
     table: &[u64],
     state: &[u64],
@@ -113,7 +117,8 @@ pub fn sheet(
     third: usize,
     out: &mut [u8],
 ) -> Written
-    ensures { λ w. ⌜ SheetInto (now (table .entry)) (now (state .entry)) outcome first second third (now (out .entry)) (now (out .exit)) w ⌝ }
+    ensures { λ w. ⌜ SheetInto (now (table .entry)) (now (state .entry)) outcome first second third (now (out .entry))
+        (now (out .exit)) w ⌝ }
 {
     let number = refusal_of(table, state, outcome, first, second, third);
     if number != 0 {

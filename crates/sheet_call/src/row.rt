@@ -1,4 +1,5 @@
-// A whole sheet line, put at the front of a buffer that has room for it. The widths of the fields are those of the machine's `specs/Sheet.antt`.
+// A whole sheet line, put at the front of a buffer that has room for it. The widths of the fields are those of the
+// machine's `specs/Sheet.antt`.
 use crate::field::put_blanks;
 use crate::field::put_number_field;
 use crate::field::put_output_field;
@@ -12,7 +13,8 @@ ghost use Prim.Native.Nat.{_≤_};
 ghost use lib.Dec.{leb};
 ghost use lib.ListN.{length};
 ghost use Rattle.machine.specs.Rehearse.{decimal};
-ghost use Rattle.machine.specs.Sheet.{ShownStep, refused-row, revisions-width, rounds-width, shown-fits, shown-line, step-width};
+ghost use Rattle.machine.specs.Sheet.{ShownStep, refused-row, revisions-width, rounds-width, shown-fits, shown-line};
+ghost use Rattle.machine.specs.Sheet.{step-width};
 ghost use Rattle.write_bytes.specs.Put.{Put};
 
 // The widths of the fields that show numbers.
@@ -31,7 +33,8 @@ const COLUMNS: usize = 78;
 
 // Whether the counts of an answer are no wider than their fields.
 pub(crate) fn counts_fit(step: u64, rounds: u64, revisions: u64) -> bool
-    ensures { λ r. ⌜ r ≡ leb (length (decimal step)) step-width && leb (length (decimal rounds)) rounds-width && leb (length (decimal revisions)) revisions-width ⌝ }
+    ensures { λ r. ⌜ r ≡ leb (length (decimal step)) step-width && leb (length (decimal rounds)) rounds-width &&
+        leb (length (decimal revisions)) revisions-width ⌝ }
 {
     if digits_of(step) > STEP_WIDTH {
         return false;
@@ -56,7 +59,8 @@ pub(crate) fn put_step_row(
 ) -> usize
     requires { ⌜ shown-fits (ShownStep t n step rounds revisions first second third) ≡ true ⌝ }
     requires { ⌜ 79 ≤ length (now out) ⌝ }
-    ensures { λ r. ⌜ Put 79 (shown-line (ShownStep t n step rounds revisions first second third)) 0 (now (out .entry)) (now (out .exit)) r ⌝ }
+    ensures { λ r. ⌜ Put 79 (shown-line (ShownStep t n step rounds revisions first second third)) 0 (now (out .entry))
+        (now (out .exit)) r ⌝ }
 {
     let at = put_number_field(out, 0, TICK_WIDTH, t);
     let at = put_number_field(out, at, MICROSTEP_WIDTH, n);

@@ -1,5 +1,5 @@
--- What loading accepts: a stream that loads leaves the fresh model of a table that fits. Reading keeps that all components read so far fit a
--- table of as many parts as were read; End asks for the rest. Assumes nothing.
+-- What loading accepts: a stream that loads leaves the fresh model of a table that fits. Reading keeps that all
+-- components read so far fit a table of as many parts as were read; End asks for the rest. Assumes nothing.
 use Prim.Native.Nat.{ℕ, zero, suc, _+_, _-_, _≤_, _<_}
 use native.Mathlib.Omega.{arith}
 use mathlib.Core.Path.{_≡_, refl, ap, _∙_}
@@ -12,14 +12,18 @@ use Rattle.machine.specs.Time.{magnitude-known}
 use Rattle.machine.specs.Model.{most-parts, blank-component}
 use Rattle.machine.specs.Table.{Table, component-at}
 use Rattle.machine.specs.Fresh.{fresh}
-use Rattle.machine.specs.Load.{is-drive, byte-at, word-at, Reading, nothing-read, Read, onward, ended, begin-refusal, begun-with, part-read, part-refusal, with-part, last-part, with-span, span-refusal, with-component, with-wire, wire-refusal, end-refusal, accepted, read-turn, read-on, read-from, load}
+use Rattle.machine.specs.Load.{is-drive, byte-at, word-at, Reading, nothing-read, Read, onward, ended, begin-refusal}
+use Rattle.machine.specs.Load.{begun-with, part-read, part-refusal, with-part, last-part, with-span, span-refusal}
+use Rattle.machine.specs.Load.{with-component, with-wire, wire-refusal, end-refusal, accepted, read-turn, read-on}
+use Rattle.machine.specs.Load.{read-from, load}
 use Rattle.machine.specs.Sound.{table-fits}
 use Rattle.laws.specs.Last.{length-added, last-of-added, last-of-set}
 use Rattle.laws.specs.Alls.{all-set, all-added, all-give}
 use Rattle.laws.specs.ListLaws.{all-at}
 use Rattle.sound_laws.specs.Facts.{ComponentFits, table-test}
 use Rattle.sound_laws.specs.ReadTurns.{open-component, turn-cases}
-use Rattle.sound_laws.specs.CommandsPassed.{begin-passed, part-passed, wire-passed, end-passed, component-more, part-read-fits, span-fits, wire-fits}
+use Rattle.sound_laws.specs.CommandsPassed.{begin-passed, part-passed, wire-passed, end-passed, component-more}
+use Rattle.sound_laws.specs.CommandsPassed.{part-read-fits, span-fits, wire-fits}
 
 -- what reading keeps
 pub record Readable (rd : Reading) : Type 0 where
@@ -28,7 +32,8 @@ pub record Readable (rd : Reading) : Type 0 where
   pub components : All (ComponentFits (length (rd .table .parts))) (rd .table .parts)
   pub drive : rd .spannable ≡ true → (0 < length (rd .table .parts)) × (is-drive (open-component rd .kind) ≡ true)
 
--- what a turn comes to: reading goes on with what it keeps, or ends with the fresh model of a table that fits, where it is accepted
+-- what a turn comes to: reading goes on with what it keeps, or ends with the fresh model of a table that fits, where it
+-- is accepted
 abbrev pub Keeps : Read → Type 0
 Keeps (onward at rd) = Readable rd
 Keeps (ended r) = r .number ≡ 0 → (t : Table) × (table-fits t ≡ true) × (r .model ≡ fresh t)
@@ -51,7 +56,8 @@ kept-begin e h =
 
 -- Part keeps what reading keeps
 kept-part :
-    (bs : List ℕ) (at : ℕ) (rd : Reading) → Readable rd → part-refusal (rd .table .parts) (byte-at bs (at + 1)) (part-read bs at) ≡ 0 →
+    (bs : List ℕ) (at : ℕ) (rd : Reading) → Readable rd →
+    part-refusal (rd .table .parts) (byte-at bs (at + 1)) (part-read bs at) ≡ 0 →
     Readable (with-part rd (part-read bs at))
 unfolding with-part last-part
 kept-part bs at rd k h =
@@ -65,15 +71,18 @@ kept-part bs at rd k h =
       components =
           rw (length-added cs c)
           (all-added (ComponentFits (suc (length cs))) cs c
-          (all-give (ComponentFits (length cs)) (ComponentFits (suc (length cs))) cs (component-more (length cs)) (k .components))
+          (all-give (ComponentFits (length cs)) (ComponentFits (suc (length cs))) cs (component-more (length cs))
+          (k .components))
           (part-read-fits (suc (length cs)) bs at preference operands));
       drive = λ s. (omega arith, ap (λ (d : Component). is-drive (d .kind)) (last-of-added cs c blank-component) ∙ s);
     }
 
 -- a component replaced by one that fits keeps what reading keeps
 kept-component :
-    (rd : Reading) (spannable : Bool) (k : ℕ) (c : Component) → Readable rd → ComponentFits (length (rd .table .parts)) c →
-    (spannable ≡ true → (0 < length (rd .table .parts)) × (k ≡ last-part (rd .table .parts)) × (is-drive (c .kind) ≡ true)) →
+    (rd : Reading) (spannable : Bool) (k : ℕ) (c : Component) → Readable rd →
+    ComponentFits (length (rd .table .parts)) c →
+    (spannable ≡ true → (0 < length (rd .table .parts)) × (k ≡ last-part (rd .table .parts)) ×
+    (is-drive (c .kind) ≡ true)) →
     Readable (with-component rd spannable k c)
 unfolding with-component last-part
 kept-component rd spannable k c r f last =
@@ -85,7 +94,8 @@ kept-component rd spannable k c r f last =
       drive =
           λ s.
           let (some, here, drive) = last s in
-          let same : component-at (set cs k c) (last-part (set cs k c)) ≡ c = rw here (last-of-set cs c blank-component some) in
+          let same : component-at (set cs k c) (last-part (set cs k c)) ≡ c =
+          rw here (last-of-set cs c blank-component some) in
           (rw (length-set cs k c) some, ap (λ (d : Component). is-drive (d .kind)) same ∙ drive);
     }
 
@@ -99,7 +109,8 @@ kept-span rd v r s h =
     let (some, drive) = r .drive s in
     let there : length cs - 1 < length cs = omega arith in
     kept-component rd true (last-part cs) (with-span (open-component rd) v) r
-    (span-fits (length cs) (open-component rd) v (all-at (ComponentFits (length cs)) cs blank-component (last-part cs) (r .components) there) drive h)
+    (span-fits (length cs) (open-component rd) v
+    (all-at (ComponentFits (length cs)) cs blank-component (last-part cs) (r .components) there) drive h)
     (λ e. (some, refl, drive))
 
 -- Wire keeps what reading keeps
@@ -153,7 +164,8 @@ read-fits (suc n) bs at rd r h = on-fits (read-turn bs at rd) (kept-turn bs at r
         (r : Read) → Keeps r →
         ((at : ℕ) (rd : Reading) → Readable rd → read-from n bs at rd .number ≡ 0 →
         (t : Table) × (table-fits t ≡ true) × (read-from n bs at rd .model ≡ fresh t)) →
-        read-on r (read-from n bs) .number ≡ 0 → (t : Table) × (table-fits t ≡ true) × (read-on r (read-from n bs) .model ≡ fresh t)
+        read-on r (read-from n bs) .number ≡ 0 → (t : Table) × (table-fits t ≡ true) ×
+        (read-on r (read-from n bs) .model ≡ fresh t)
     on-fits (onward at rd) k later h = later at rd k h
     on-fits (ended r) k later h = k h
 

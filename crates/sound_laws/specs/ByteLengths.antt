@@ -21,7 +21,8 @@ use Rattle.machine.specs.Table.{Table}
 use Rattle.machine.specs.Load.{end-byte, is-drive}
 use Rattle.machine.specs.Save.{longest-table}
 use Rattle.machine.specs.Sound.{source-fits, table-fits}
-use Rattle.machine.specs.TableBytes.{operand-bytes, part-bytes, spans-bytes, parts-bytes, port-bytes, wires-bytes, table-bytes}
+use Rattle.machine.specs.TableBytes.{operand-bytes, part-bytes, spans-bytes, parts-bytes, port-bytes, wires-bytes}
+use Rattle.machine.specs.TableBytes.{table-bytes}
 use Rattle.sound_laws.specs.Facts.{ComponentFits, table-facts}
 
 -- five bytes for each span, fifteen for a part without them, and four at most for a port
@@ -126,18 +127,22 @@ parts-and-wires n k (c ∷ cs) fit =
     )
 
 -- the whole table
-pub table-length : (t : Table) → length (table-bytes t) ≡ length (parts-bytes (t .parts)) + 2 + length (wires-bytes 0 (t .parts)) + 1
+pub table-length : (t : Table) →
+    length (table-bytes t) ≡ length (parts-bytes (t .parts)) + 2 + length (wires-bytes 0 (t .parts)) + 1
 unfolding table-bytes
 table-length t =
     let parts = parts-bytes (t .parts) in
     let wires = wires-bytes 0 (t .parts) in
     omega (arith, length-append parts (wires ++ (end-byte ∷ [])), length-append wires (end-byte ∷ []))
 
-pub sweeps-short : (t : Table) → table-fits t ≡ true → (length (parts-bytes (t .parts)) ≤ 1760) × (length (wires-bytes 0 (t .parts)) ≤ 256)
+pub sweeps-short : (t : Table) → table-fits t ≡ true → (length (parts-bytes (t .parts)) ≤ 1760) ×
+    (length (wires-bytes 0 (t .parts)) ≤ 256)
 sweeps-short t fits =
     let f = table-facts t fits in
-    let few = f .few in
-    (omega (arith, few, parts-short (length (t .parts)) (t .parts) (f .components)), omega (arith, few, wires-short 0 (t .parts)))
+    let few = f .few in (
+      omega (arith, few, parts-short (length (t .parts)) (t .parts) (f .components)),
+      omega (arith, few, wires-short 0 (t .parts)),
+    )
 
 pub table-short : (t : Table) → table-fits t ≡ true → length (table-bytes t) ≤ longest-table
 table-short t fits =

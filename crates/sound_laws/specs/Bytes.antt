@@ -1,5 +1,6 @@
--- Loading the bytes of a table that fits gives the fresh model of that table; so the tables that fit are those that some stream loads. The bytes
--- are read in three sweeps, over the parts, each part's spans, and the wires; each sweep hands on to what is read behind it. Assumes nothing.
+-- Loading the bytes of a table that fits gives the fresh model of that table; so the tables that fit are those that
+-- some stream loads. The bytes are read in three sweeps, over the parts, each part's spans, and the wires; each sweep
+-- hands on to what is read after it. Assumes nothing.
 use Prim.Native.Nat.{ℕ, suc, _+_, _-_, _≤_}
 use native.Mathlib.Omega.{arith}
 use mathlib.Core.Path.{_≡_, refl, sym, ap, _∙_}
@@ -20,7 +21,8 @@ use Rattle.machine.specs.Table.{Table}
 use Rattle.machine.specs.Fresh.{fresh}
 use Rattle.machine.specs.Load.{wire-byte, end-byte, is-drive, source-of, wired, with-wire, end-refusal, accepted, load}
 use Rattle.machine.specs.Sound.{source-fits, spans-rise, table-fits}
-use Rattle.machine.specs.TableBytes.{operand-bytes, part-bytes, spans-bytes, parts-bytes, port-bytes, wires-bytes, table-bytes}
+use Rattle.machine.specs.TableBytes.{operand-bytes, part-bytes, spans-bytes, parts-bytes, port-bytes, wires-bytes}
+use Rattle.machine.specs.TableBytes.{table-bytes}
 use Rattle.laws.specs.Last.{length-added, last-of-added}
 use Rattle.sound_laws.specs.Facts.{ComponentFits, TableFits, table-facts}
 use Rattle.sound_laws.specs.FreshSound.{fresh-apart}
@@ -45,7 +47,8 @@ wired-first c Unwired = refl
 wired-first c (From k) = refl
 
 -- .. and then port 1 ..
-wired-second : (c : Component) (source : Source) → wired-to (shaped c (c .spans) (c .port0) Unwired) 1 source ≡ shaped c (c .spans) (c .port0) source
+wired-second : (c : Component) (source : Source) → wired-to (shaped c (c .spans) (c .port0) Unwired) 1 source ≡
+    shaped c (c .spans) (c .port0) source
 unfolding with-wire
 wired-second c Unwired = refl
 wired-second c (From k) = refl
@@ -55,11 +58,13 @@ shaped-back : (c : Component) → c .«span_count» ≡ length (c .spans) → sh
 shaped-back c counted = rw (← counted)
 
 module _ (bs : List ℕ) (e : ℕ) (r : Loaded) where
-  -- the spans of a part, behind those that were read before; d says whether it is a drive
+  -- the spans of a part, after those that were read before; d says whether it is a drive
   reads-spans :
-      (d : Bool) (cs : List Component) (c : Component) (before vs : List ℕ) (at : ℕ) (rest : List ℕ) → drop at bs ≡ spans-bytes vs ++ rest →
+      (d : Bool) (cs : List Component) (c : Component) (before vs : List ℕ) (at : ℕ) (rest : List ℕ) →
+      drop at bs ≡ spans-bytes vs ++ rest →
       length before + length vs ≤ cond d most-spans 0 → spans-rise (getD before (length before - 1) 0) vs ≡ true →
-      ((next : ℕ) → drop next bs ≡ rest → read-all bs next (so-far d e (cs ++ (shaped c (before ++ vs) Unwired Unwired ∷ []))) ≡ r) →
+      ((next : ℕ) → drop next bs ≡ rest →
+      read-all bs next (so-far d e (cs ++ (shaped c (before ++ vs) Unwired Unwired ∷ []))) ≡ r) →
       read-all bs at (so-far d e (cs ++ (shaped c before Unwired Unwired ∷ []))) ≡ r
   unfolding spans-bytes spans-rise operand-bytes
   reads-spans d cs c before [] at rest h room rise then = rw append-nil at (then at h)
@@ -71,9 +76,10 @@ module _ (bs : List ℕ) (e : ℕ) (r : Loaded) where
       (omega (arith, length-added before v)) (rw (last-of-added before v 0) more) (rw (append-snoc before v vs) then)
   reads-spans false cs c before (v ∷ vs) at rest h room rise then = absurd (omega arith)
 
-  -- the parts, each with its spans behind it
+  -- the parts, each with its spans after it
   reads-parts :
-      (n : ℕ) (s : Bool) (done cs : List Component) (at : ℕ) (rest : List ℕ) → drop at bs ≡ parts-bytes cs ++ rest → All (ComponentFits n) cs →
+      (n : ℕ) (s : Bool) (done cs : List Component) (at : ℕ) (rest : List ℕ) → drop at bs ≡ parts-bytes cs ++ rest →
+      All (ComponentFits n) cs →
       length done + length cs ≤ most-parts →
       ((next : ℕ) (s : Bool) → drop next bs ≡ rest → read-all bs next (so-far s e (done ++ map unwired cs)) ≡ r) →
       read-all bs at (so-far s e done) ≡ r
@@ -83,31 +89,38 @@ module _ (bs : List ℕ) (e : ℕ) (r : Loaded) where
       let f = fit .0 in
       let places = f .places in
       let behind = spans-bytes (c .spans) ++ (parts-bytes cs ++ rest) in
-      let here : drop at bs ≡ part-bytes c ++ behind = rw (append-assoc (spans-bytes (c .spans)) (parts-bytes cs) rest) at h in
+      let here : drop at bs ≡ part-bytes c ++ behind =
+      rw (append-assoc (spans-bytes (c .spans)) (parts-bytes cs) rest) at h in
       reads-part bs at c behind s e done here (f .preference) (f .operands) (omega arith) ∙
-      reads-spans (is-drive (c .kind)) done c [] (c .spans) (at + 15) (parts-bytes cs ++ rest) (further bs at 15 (part-bytes c ++ behind) here)
+      reads-spans (is-drive (c .kind)) done c [] (c .spans) (at + 15) (parts-bytes cs ++ rest)
+      (further bs at 15 (part-bytes c ++ behind) here)
       (omega arith) (f .rise)
       (λ next g.
-      reads-parts n (is-drive (c .kind)) (done ++ (unwired c ∷ [])) cs next rest g (fit .1) (omega (arith, length-added done (unwired c)))
+      reads-parts n (is-drive (c .kind)) (done ++ (unwired c ∷ [])) cs next rest g (fit .1)
+      (omega (arith, length-added done (unwired c)))
       (rw (append-snoc done (unwired c) (map unwired cs)) then))
 
-  -- a port of the part behind the components done
+  -- a port of the part after the components done
   reads-port :
-      (n : ℕ) (s : Bool) (done : List Component) (c : Component) (ds : List Component) (port : ℕ) (source : Source) (at : ℕ) (rest : List ℕ) →
+      (n : ℕ) (s : Bool) (done : List Component) (c : Component) (ds : List Component) (port : ℕ) (source : Source)
+      (at : ℕ) (rest : List ℕ) →
       n ≡ length (done ++ (c ∷ ds)) → drop at bs ≡ port-bytes (length done) port source ++ rest →
       source-fits n (ports (c .kind)) port source ≡ true → wired (source-of c port) ≡ false →
-      ((next : ℕ) (s : Bool) → drop next bs ≡ rest → read-all bs next (so-far s e (done ++ (wired-to c port source ∷ ds))) ≡ r) →
+      ((next : ℕ) (s : Bool) → drop next bs ≡ rest →
+      read-all bs next (so-far s e (done ++ (wired-to c port source ∷ ds))) ≡ r) →
       read-all bs at (so-far s e (done ++ (c ∷ ds))) ≡ r
   unfolding port-bytes source-fits
   reads-port n s done c ds port Unwired at rest count h fit free then = then at s h
   reads-port n s done c ds port (From k) at rest count h fit free then =
       let (known, there) = simp and-eq-true-iff at fit in
-      reads-wire bs at k port rest s e done c ds h (rw count at (ltb-true k n there)) (ltb-true port (ports (c .kind)) known) free ∙
+      reads-wire bs at k port rest s e done c ds h (rw count at (ltb-true k n there))
+      (ltb-true port (ports (c .kind)) known) free ∙
       then (at + 4) false (further bs at 4 (wire-byte ∷ k ∷ length done ∷ port ∷ rest) h)
 
   -- the wires, by receiving part
   reads-wires :
-      (s : Bool) (done cs : List Component) (at : ℕ) (rest : List ℕ) → drop at bs ≡ wires-bytes (length done) cs ++ rest →
+      (s : Bool) (done cs : List Component) (at : ℕ) (rest : List ℕ) →
+      drop at bs ≡ wires-bytes (length done) cs ++ rest →
       All (ComponentFits (length (done ++ cs))) cs →
       ((next : ℕ) (s : Bool) → drop next bs ≡ rest → read-all bs next (so-far s e (done ++ cs)) ≡ r) →
       read-all bs at (so-far s e (done ++ map unwired cs)) ≡ r
@@ -125,10 +138,12 @@ module _ (bs : List ℕ) (e : ℕ) (r : Loaded) where
       ) at h in
       let count : (d : Component) → length (done ++ (c ∷ cs)) ≡ length (done ++ (d ∷ ds)) =
       λ d. omega (arith, length-append done (c ∷ cs), length-append done (d ∷ ds), length-map cs unwired) in
-      reads-port (length (done ++ (c ∷ cs))) s done (unwired c) ds 0 (c .port0) at second (count (unwired c)) here (f .port0) refl
+      reads-port (length (done ++ (c ∷ cs))) s done (unwired c) ds 0 (c .port0) at second (count (unwired c)) here
+      (f .port0) refl
       (λ next s g.
       rw (wired-first c (c .port0))
-      (reads-port (length (done ++ (c ∷ cs))) s done (shaped c (c .spans) (c .port0) Unwired) ds 1 (c .port1) next (wires-bytes (suc k) cs ++ rest)
+      (reads-port (length (done ++ (c ∷ cs))) s done (shaped c (c .spans) (c .port0) Unwired) ds 1 (c .port1) next
+      (wires-bytes (suc k) cs ++ rest)
       (count (shaped c (c .spans) (c .port0) Unwired)) g (f .port1) refl
       (λ next s g.
       rw (wired-second c (c .port1), shaped-back c (f .counted), ← append-snoc done c ds)
@@ -154,14 +169,16 @@ loads-back t h =
     let few = f .few in
     let fit = f .components in
     reads-begin bs 0 e (parts-bytes cs ++ (wires-bytes 0 cs ++ (end-byte ∷ []))) refl (f .magnitude) ∙
-    reads-parts bs e r (length cs) false [] cs (0 + 2) (wires-bytes 0 cs ++ (end-byte ∷ [])) (further bs 0 2 bs refl) fit (omega arith)
+    reads-parts bs e r (length cs) false [] cs (0 + 2) (wires-bytes 0 cs ++ (end-byte ∷ []))
+    (further bs 0 2 bs refl) fit (omega arith)
     (λ next s g.
     reads-wires bs e r s [] cs next (end-byte ∷ []) g fit
     (λ next s g. reads-end bs next s t g (end-none t f)))
 
 -- a table fits exactly where some stream of bytes loads to its fresh model
 pub fits-iff-loads :
-    (t : Table) → (table-fits t ≡ true) ↔ ((bs : List ℕ) × All Octet bs × (load bs .number ≡ 0) × (load bs .model ≡ fresh t))
+    (t : Table) → (table-fits t ≡ true) ↔ ((bs : List ℕ) × All Octet bs × (load bs .number ≡ 0) ×
+    (load bs .model ≡ fresh t))
 unfolding accepted
 fits-iff-loads t = (written, fitting)
   where

@@ -14,7 +14,8 @@ use Rattle.machine.specs.Time.{magnitude-known}
 use Rattle.machine.specs.Kind.{ports, is-positive, operands-fit, kind-known}
 use Rattle.machine.specs.Model.{most-parts, most-spans}
 use Rattle.machine.specs.Table.{Table, component-at, periods-fit, ordered}
-use Rattle.machine.specs.Load.{preference-known, is-drive, begin-refusal, part-read, part-refusal, last-span, with-span, span-refusal, source-of, wired, with-wire, wire-refusal, end-refusal}
+use Rattle.machine.specs.Load.{preference-known, is-drive, begin-refusal, part-read, part-refusal, last-span, with-span}
+use Rattle.machine.specs.Load.{span-refusal, source-of, wired, with-wire, wire-refusal, end-refusal}
 use Rattle.machine.specs.Sound.{source-fits, spans-rise}
 use Rattle.laws.specs.Last.{length-added, last-of-tail}
 use Rattle.laws.specs.Bools.{cond-cases}
@@ -38,7 +39,8 @@ begin-passed e h = not-second (magnitude-known e) 4 0 h .0
 -- what a Part shows that is not refused
 pub part-passed :
     (cs : List Component) (kind : ℕ) (c : Component) → part-refusal cs kind c ≡ 0 →
-    (length cs < most-parts) × (preference-known (c .preference) ≡ true) × (operands-fit (c .kind) (c .a) (c .b) (c .p) ≡ true)
+    (length cs < most-parts) × (preference-known (c .preference) ≡ true) ×
+    (operands-fit (c .kind) (c .a) (c .b) (c .p) ≡ true)
 unfolding part-refusal
 part-passed cs kind c h =
     let fit = kind-known kind && preference-known (c .preference) && operands-fit (c .kind) (c .a) (c .b) (c .p) in
@@ -48,10 +50,12 @@ part-passed cs kind c h =
 
 -- what a Span shows that is not refused
 span-passed :
-    (c : Component) (v : ℕ) → span-refusal c v ≡ 0 → (length (c .spans) < most-spans) × (v ≤ 1_000_000_000) × (last-span c < v)
+    (c : Component) (v : ℕ) → span-refusal c v ≡ 0 → (length (c .spans) < most-spans) × (v ≤ 1_000_000_000) ×
+    (last-span c < v)
 unfolding span-refusal is-positive
 span-passed c v h =
-    let (room, rest) = not-first (leb most-spans (length (c .spans))) 5 (cond (is-positive v) (cond (ltb (last-span c) v) 0 12) 5) h in
+    let (room, rest) = not-first (leb most-spans (length (c .spans))) 5
+    (cond (is-positive v) (cond (ltb (last-span c) v) 0 12) 5) h in
     let (positive, rest) = not-second (is-positive v) 4 (cond (ltb (last-span c) v) 0 12) rest in
     let f = simp and-eq-true-iff at positive in (
       leb-false most-spans (length (c .spans)) room,
@@ -67,14 +71,17 @@ unfolding wire-refusal
 wire-passed cs source receiver port h =
     let m = ports (component-at cs receiver .kind) in
     let known = ltb source (length cs) && ltb receiver (length cs) && ltb port m in
-    let f = simp and-eq-true-iff at (not-second known 6 (cond (wired (source-of (component-at cs receiver) port)) 8 0) h .0) in
+    let f = simp and-eq-true-iff
+    at (not-second known 6 (cond (wired (source-of (component-at cs receiver) port)) 8 0) h .0) in
     (ltb-true source (length cs) (f .0 .0), ltb-true receiver (length cs) (f .0 .1), ltb-true port m (f .1))
 
 -- what an End shows that is not refused
-pub end-passed : (t : Table) → end-refusal t ≡ 0 → (1 ≤ length (t .parts)) × (periods-fit t ≡ true) × (ordered (t .parts) ≡ true)
+pub end-passed : (t : Table) → end-refusal t ≡ 0 → (1 ≤ length (t .parts)) × (periods-fit t ≡ true) ×
+    (ordered (t .parts) ≡ true)
 unfolding end-refusal
 end-passed t h =
-    let (some, rest) = not-first (eqb (length (t .parts)) 0) 8 (cond (periods-fit t) (cond (ordered (t .parts)) 0 11) 10) h in
+    let (some, rest) = not-first (eqb (length (t .parts)) 0) 8
+    (cond (periods-fit t) (cond (ordered (t .parts)) 0 11) 10) h in
     let (periods, rest) = not-second (periods-fit t) 9 (cond (ordered (t .parts)) 0 11) rest in
     let none = eqb-false (length (t .parts)) 0 some in
     (omega arith, periods, not-second (ordered (t .parts)) 10 0 rest .0)
@@ -102,7 +109,8 @@ component-more n c f =
     }
 
 -- a span above the last keeps the spans rising
-rise-more : (u v : ℕ) (ss : List ℕ) → spans-rise u ss ≡ true → getD ss (length ss - 1) u < v → v ≤ 1_000_000_000 → spans-rise u (ss ++ (v ∷ [])) ≡ true
+rise-more : (u v : ℕ) (ss : List ℕ) → spans-rise u ss ≡ true → getD ss (length ss - 1) u < v → v ≤ 1_000_000_000 →
+    spans-rise u (ss ++ (v ∷ [])) ≡ true
 unfolding spans-rise
 rise-more u v [] h above most = simp and-eq-true-iff ((lt-ltb u v above, le-leb v 1_000_000_000 most), refl)
 rise-more u v (s ∷ ss) h above most =
@@ -112,13 +120,23 @@ rise-more u v (s ∷ ss) h above most =
 -- a part that was read fits, whatever the number of parts
 pub part-read-fits :
     (n : ℕ) (bs : List ℕ) (at : ℕ) → preference-known (part-read bs at .preference) ≡ true →
-    operands-fit (part-read bs at .kind) (part-read bs at .a) (part-read bs at .b) (part-read bs at .p) ≡ true → ComponentFits n (part-read bs at)
+    operands-fit (part-read bs at .kind) (part-read bs at .a) (part-read bs at .b) (part-read bs at .p) ≡ true →
+    ComponentFits n (part-read bs at)
 unfolding part-read spans-rise source-fits
 part-read-fits n bs at preference operands =
-    record { preference = preference; operands = operands; counted = refl; places = omega arith; rise = refl; port0 = refl; port1 = refl }
+    record {
+      preference = preference;
+      operands = operands;
+      counted = refl;
+      places = omega arith;
+      rise = refl;
+      port0 = refl;
+      port1 = refl;
+    }
 
 -- a drive with a span more that is not refused fits
-pub span-fits : (n : ℕ) (c : Component) (v : ℕ) → ComponentFits n c → is-drive (c .kind) ≡ true → span-refusal c v ≡ 0 → ComponentFits n (with-span c v)
+pub span-fits : (n : ℕ) (c : Component) (v : ℕ) → ComponentFits n c → is-drive (c .kind) ≡ true → span-refusal c v ≡ 0 →
+    ComponentFits n (with-span c v)
 unfolding with-span last-span
 span-fits n c v f drive h =
     let (room, most, above) = span-passed c v h in
@@ -136,7 +154,8 @@ span-fits n c v f drive h =
 
 -- a component with a wire more that is not refused fits
 pub wire-fits :
-    (n : ℕ) (c : Component) (source port : ℕ) → ComponentFits n c → source < n → port < ports (c .kind) → ComponentFits n (with-wire c port source)
+    (n : ℕ) (c : Component) (source port : ℕ) → ComponentFits n c → source < n → port < ports (c .kind) →
+    ComponentFits n (with-wire c port source)
 unfolding with-wire source-fits
 wire-fits n c source port f there known =
     record {
@@ -149,7 +168,8 @@ wire-fits n c source port f there known =
           cond-cases (λ (s : Source). source-fits n (ports (c .kind)) 0 s ≡ true) (eqb port 0) (From source) (c .port0)
           (λ e. simp and-eq-true-iff (lt-ltb 0 (ports (c .kind)) (omega arith), lt-ltb source n there)) (λ e. f .port0);
       port1 =
-          cond-cases (λ (s : Source). source-fits n (ports (c .kind)) 1 s ≡ true) (eqb port 0) (c .port1) (From source) (λ e. f .port1)
+          cond-cases (λ (s : Source). source-fits n (ports (c .kind)) 1 s ≡ true) (eqb port 0) (c .port1) (From source)
+          (λ e. f .port1)
           (λ e.
           let other = eqb-false port 0 e in
           simp and-eq-true-iff (lt-ltb 1 (ports (c .kind)) (omega arith), lt-ltb source n there));

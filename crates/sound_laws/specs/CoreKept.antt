@@ -1,5 +1,6 @@
--- What showing and settling keep of a part, whatever the order of showing: its component, its ratio and its local count, here called its core.
--- With the ranges that they keep too, the states of parts shown and settled fit. Assumes nothing.
+-- What showing and settling keep of a part, whatever the order of showing: its component, its ratio and its local
+-- count, here called its core. With the ranges that they keep too, the states of parts shown and settled fit. Assumes
+-- nothing.
 use Prim.Native.Nat.{ℕ}
 use mathlib.Core.Path.{_≡_, refl, sym, ap, _∙_}
 use mathlib.Core.List.{List, [], _∷_, map, map-map}
@@ -9,7 +10,8 @@ use Rattle.machine.specs.declared.time.LocalTicks.{LocalTicks}
 use Rattle.machine.specs.declared.time.Point.{Point}
 use Rattle.machine.specs.declared.signal.Signal.{Signal}
 use Rattle.machine.specs.declared.part.Kind.{Kind}
-use Rattle.machine.specs.declared.part.Kind.the-variants.{Constant, Gain, Adder, Square, Pulse, Delay, Integrator, ResetIntegrator, Detector, Hold, Sampler, Drive, Clapper}
+use Rattle.machine.specs.declared.part.Kind.the-variants.{Constant, Gain, Adder, Square, Pulse, Delay, Integrator}
+use Rattle.machine.specs.declared.part.Kind.the-variants.{ResetIntegrator, Detector, Hold, Sampler, Drive, Clapper}
 use Rattle.machine.specs.declared.part.Component.{Component}
 use Rattle.machine.specs.declared.part.Part.{Part}
 use Rattle.machine.specs.Lists.{All}
@@ -62,7 +64,8 @@ abbrev pub finished : List Part → Point → List ℕ → List Part → List Pa
 finished old now ks ps = all-settled (filled old now ks ps)
 
 -- showing and settling keep the cores
-pub finished-core : (old : List Part) (now : Point) (ks : List ℕ) (ps : List Part) → map core (finished old now ks ps) ≡ map core ps
+pub finished-core : (old : List Part) (now : Point) (ks : List ℕ) (ps : List Part) →
+    map core (finished old now ks ps) ≡ map core ps
 unfolding all-settled settled
 finished-core old now ks ps =
     map-kept core (λ (p : Part). settled (reading0 (filled old now ks ps) p) p) (filled old now ks ps)
@@ -83,13 +86,18 @@ Counted t c = c .local .0 ≡ local-count t (c .ratio) .0
 -- states fit where all is in range and the local counts are floor(t / r)
 states-fit : (t : ℕ) (ps : List Part) → All InRange ps → All (λ p. Counted t (core p)) ps → All (StateFits t) ps
 states-fit t [] r c = tt
-states-fit t (p ∷ ps) r c =
-    (record { local = c .0; held = r .0 .held; speed = r .0 .speed; signal = r .0 .signal; output = r .0 .output }, states-fit t ps (r .1) (c .1))
+states-fit t (p ∷ ps) r c = (
+  record { local = c .0; held = r .0 .held; speed = r .0 .speed; signal = r .0 .signal; output = r .0 .output },
+  states-fit t ps (r .1) (c .1),
+)
 
--- so the states of parts shown and settled fit where the parts and those of the point before are in range and the local counts are floor(t / r)
+-- so the states of parts shown and settled fit where the parts and those of the point before are in range and the local
+-- counts are floor(t / r)
 pub finished-states :
-    (old : List Part) (now : Point) (ks : List ℕ) (ps : List Part) (t : ℕ) → All InRange old → All InRange ps → All (λ p. Counted t (core p)) ps →
+    (old : List Part) (now : Point) (ks : List ℕ) (ps : List Part) (t : ℕ) → All InRange old → All InRange ps →
+    All (λ p. Counted t (core p)) ps →
     All (StateFits t) (finished old now ks ps)
 finished-states old now ks ps t before r c =
-    states-fit t (finished old now ks ps) (all-settled-in-range (filled old now ks ps) (filled-in-range old now before ks ps r))
+    states-fit t (finished old now ks ps)
+    (all-settled-in-range (filled old now ks ps) (filled-in-range old now before ks ps r))
     (all-same-map core (Counted t) (finished old now ks ps) ps (finished-core old now ks ps) c)

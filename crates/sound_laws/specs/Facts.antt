@@ -1,5 +1,5 @@
--- What the tests of soundness show, as facts with names, and the tests from the facts. `_&&_` is taken apart and put together by one law of the
--- library, and a comparison is the order that it tests. Assumes nothing.
+-- What the tests of soundness show, as facts with names, and the tests from the facts. `_&&_` is taken apart and put
+-- together by one law of the library, and a comparison is the order that it tests. Assumes nothing.
 use Prim.Native.Nat.{ℕ, _≤_}
 use native.Mathlib.Omega.{arith}
 use mathlib.Core.Path.{_≡_}
@@ -20,7 +20,8 @@ use Rattle.machine.specs.Kind.{ports, names-a, names-b, names-p, is-positive, i
 use Rattle.machine.specs.Model.{most-parts, most-spans}
 use Rattle.machine.specs.Table.{Table, table-of, ratios, periods-fit, part-order, ordered}
 use Rattle.machine.specs.Load.{preference-known, is-drive}
-use Rattle.machine.specs.Sound.{source-fits, spans-rise, spans-fit, component-fits, table-fits, speed-fits, state-fits, sound}
+use Rattle.machine.specs.Sound.{source-fits, spans-rise, spans-fit, component-fits, table-fits, speed-fits, state-fits}
+use Rattle.machine.specs.Sound.{sound}
 use Rattle.laws.specs.Alls.{every-all, all-every}
 use Rattle.laws.specs.ListLaws.{same-equal, equal-same}
 
@@ -32,7 +33,8 @@ operand-value false (pos n) h = rw (eqb-true n 0 h)
 operand-value false (negsuc n) h = absurd (false≢true h)
 
 -- operands that fit are values
-pub operand-values : (k : Kind) (a b : ℤ) (p : ℕ) → operands-fit k a b p ≡ true → (is-value a ≡ true) × (is-value b ≡ true)
+pub operand-values : (k : Kind) (a b : ℤ) (p : ℕ) → operands-fit k a b p ≡ true → (is-value a ≡ true) ×
+    (is-value b ≡ true)
 unfolding operands-fit
 operand-values k a b p h =
     let f = simp and-eq-true-iff at h in
@@ -109,7 +111,8 @@ table-facts t h =
       some = leb-true 1 (length (t .parts)) some;
       few = leb-true (length (t .parts)) most-parts few;
       components =
-          every-all (ComponentFits (length (t .parts))) (component-fits (length (t .parts))) (t .parts) (component-facts (length (t .parts))) components;
+          every-all (ComponentFits (length (t .parts))) (component-fits (length (t .parts))) (t .parts)
+          (component-facts (length (t .parts))) components;
       periods = periods;
       order = order;
     }
@@ -120,7 +123,13 @@ unfolding table-fits
 table-test t f =
     let n = length (t .parts) in
     let components = all-every (ComponentFits n) (component-fits n) (t .parts) (component-test n) (f .components) in
-    simp and-eq-true-iff (((((f .magnitude, le-leb 1 n (f .some)), le-leb n most-parts (f .few)), components), f .periods), f .order)
+    simp and-eq-true-iff (
+      (
+        (((f .magnitude, le-leb 1 n (f .some)), le-leb n most-parts (f .few)), components),
+        f .periods,
+      ),
+      f .order,
+    )
 
 -- what holds of a part's state at tick t
 pub record StateFits (t : ℕ) (p : Part) : Type 0 where
@@ -148,8 +157,10 @@ state-facts t p h =
 state-test : (t : ℕ) (p : Part) → StateFits t p → state-fits t p ≡ true
 unfolding state-fits
 state-test t p f =
-    simp and-eq-true-iff
-    ((((eq-eqb (p .state .local .0) (local-count t (p .ratio) .0) (f .local), f .held), f .speed), f .signal), f .output)
+    simp and-eq-true-iff (
+      (((eq-eqb (p .state .local .0) (local-count t (p .ratio) .0) (f .local), f .held), f .speed), f .signal),
+      f .output,
+    )
 
 -- what holds of a sound model
 pub record Soundness (m : Model) : Type 0 where
@@ -172,7 +183,8 @@ sound-facts m h =
       ratios = same-equal (map (λ (p : Part). p .ratio) (m .parts)) (ratios (table-of m)) r;
       order = same-equal (m .order) (part-order (table-of m .parts)) order;
       time = time;
-      states = every-all (StateFits (tick (m .point))) (state-fits (tick (m .point))) (m .parts) (state-facts (tick (m .point))) states;
+      states = every-all (StateFits (tick (m .point))) (state-fits (tick (m .point))) (m .parts)
+          (state-facts (tick (m .point))) states;
     }
 
 -- a sound model has at most 32 parts
@@ -191,4 +203,7 @@ sound-test m f =
     let r = equal-same (map (λ (p : Part). p .ratio) (m .parts)) (ratios (table-of m)) (f .ratios) in
     let order = equal-same (m .order) (part-order (table-of m .parts)) (f .order) in
     let states = all-every (StateFits t) (state-fits t) (m .parts) (state-test t) (f .states) in
-    simp and-eq-true-iff (((((eq-eqb (m .count) (length (m .parts)) (f .counted), f .table), r), order), f .time), states)
+    simp and-eq-true-iff (
+      ((((eq-eqb (m .count) (length (m .parts)) (f .counted), f .table), r), order), f .time),
+      states,
+    )

@@ -1,5 +1,5 @@
--- The fresh model of a table that fits is sound, and keeps that table; it stands at the start point, with every local count 0.
--- Assumes nothing.
+-- The fresh model of a table that fits is sound, and keeps that table; it is at the start point, with every local count
+-- 0. Assumes nothing.
 use Prim.Native.Nat.{ℕ}
 use native.Mathlib.Nat.{zero-div}
 use mathlib.Core.Path.{_≡_, refl, sym, ap, _∙_}
@@ -32,7 +32,8 @@ first-in-range t n c f =
       a = a;
       b = b;
       held = cond-cases (λ (v : ℤ). is-value v ≡ true) (integrates (c .kind)) (c .a) (pos 0) (λ e. a) (λ e. refl);
-      speed = cond-cases (λ (v : ℤ). speed-fits (c .kind) v ≡ true) (has-mass (c .kind)) (c .b) (pos 0) (λ e. rw e b) (λ e. rw e refl);
+      speed = cond-cases (λ (v : ℤ). speed-fits (c .kind) v ≡ true) (has-mass (c .kind)) (c .b) (pos 0) (λ e. rw e b)
+          (λ e. rw e refl);
       signal = refl;
       output = refl;
     }
@@ -56,9 +57,10 @@ fresh-apart t u same = sym (fresh-table t) ∙ ap table-of same ∙ fresh-table 
 -- it has as many parts
 fresh-count : (t : Table) → length (fresh t .parts) ≡ length (t .parts)
 unfolding table-of
-fresh-count t = sym (length-map (fresh t .parts) (λ (p : Part). p .component)) ∙ ap (λ (u : Table). length (u .parts)) (fresh-table t)
+fresh-count t = sym (length-map (fresh t .parts) (λ (p : Part). p .component)) ∙
+    ap (λ (u : Table). length (u .parts)) (fresh-table t)
 
--- it stands at the start point
+-- it is at the start point
 pub fresh-start : (t : Table) → fresh t .point ≡ start
 unfolding fresh
 fresh-start t = refl
@@ -74,7 +76,8 @@ pub fresh-local : (t : Table) (i : ℕ) → part-at (fresh t .parts) i .state .l
 unfolding fresh first-parts local-count
 fresh-local t i =
     all-default (λ (p : Part). Counted 0 (core p)) (fresh t .parts) blank-part i
-    (all-same-map core (Counted 0) (fresh t .parts) (first-parts t) (finished-core [] start (part-order (t .parts)) (first-parts t))
+    (all-same-map core (Counted 0) (fresh t .parts) (first-parts t)
+    (finished-core [] start (part-order (t .parts)) (first-parts t))
     (first-counted t (t .parts)))
     refl ∙
     zero-div (part-at (fresh t .parts) i .ratio)
@@ -96,6 +99,7 @@ fresh-sound t h =
       time = refl;
       states =
           finished-states [] start (part-order (t .parts)) (first-parts t) 0 tt
-          (all-map (first-part t) (ComponentFits n) InRange (t .parts) (first-in-range t n) (table-facts t h .components))
+          (all-map (first-part t) (ComponentFits n) InRange (t .parts) (first-in-range t n)
+          (table-facts t h .components))
           (first-counted t (t .parts));
     })

@@ -1,5 +1,5 @@
--- Soundness tied to loading, and kept by steps. The results are in Magnitude, SoundParts, Fresh, Stepped, Accepted, Fuel, Bytes and SavedBytes; the other files
--- carry them.
+-- Soundness tied to loading, and kept by steps. The results are in Magnitude, SoundParts, Fresh, Stepped, Accepted,
+-- Fuel, Bytes and SavedBytes; the other files carry them.
 pub mod Facts
 pub mod Magnitude
 pub mod SoundParts

@@ -1,5 +1,5 @@
--- The master's magnitude: of a list of preferences, taken one at a time as a loop does; and of a table, where it is a magnitude if the default is and
--- all components fit, and only if the default is. Assumes nothing.
+-- The master's magnitude: of a list of preferences, taken one at a time as a loop does; and of a table, where it is a
+-- magnitude if the default is and all components fit, and only if the default is. Assumes nothing.
 use Prim.Native.Nat.{ℕ, _+_, _≤_, _<_, max}
 use native.Mathlib.Omega.{arith}
 use native.Mathlib.Numerals.{add-one}
@@ -20,13 +20,14 @@ use Rattle.machine.specs.Sound.{component-fits}
 use Rattle.laws.specs.Bools.{or-cases, cond-cases}
 use Rattle.sound_laws.specs.Facts.{component-facts}
 
--- with the preferences from i on, the magnitude e takes the preference i and then those behind it
+-- with the preferences from i on, the magnitude e takes the preference i and then those after it
 pub magnitude-on :
-    (e : ℕ) (l : List ℕ) (i : ℕ) → i < length l → master-magnitude e (drop i l) ≡ master-magnitude (larger e (getD l i 0)) (drop (i + 1) l)
+    (e : ℕ) (l : List ℕ) (i : ℕ) → i < length l →
+    master-magnitude e (drop i l) ≡ master-magnitude (larger e (getD l i 0)) (drop (i + 1) l)
 unfolding master-magnitude
 magnitude-on e l i h = rw (drop-cons l i 0 h, add-one)
 
--- behind the last preference it stays
+-- after the last preference it stays
 pub magnitude-end : (e : ℕ) (l : List ℕ) (i : ℕ) → length l ≤ i → master-magnitude e (drop i l) ≡ e
 unfolding master-magnitude
 magnitude-end e l i h = rw (drop-of-length-le l h)
@@ -43,7 +44,8 @@ larger-small e q h known =
 -- .. and not below the first
 larger-above : (e q : ℕ) → e ≤ larger e q
 unfolding larger
-larger-above e q = cond-cases (λ (n : ℕ). e ≤ n) (eqb q no-preference) e (max e q) (λ none. omega arith) (λ some. omega arith)
+larger-above e q = cond-cases (λ (n : ℕ). e ≤ n) (eqb q no-preference) e (max e q) (λ none. omega arith)
+    (λ some. omega arith)
 
 -- so is the master's magnitude, by components that fit ..
 master-small :
@@ -53,7 +55,8 @@ unfolding master-magnitude every
 master-small n e [] h fit = h
 master-small n e (c ∷ cs) h fit =
     let (first, others) = and-eq-true-iff (component-fits n c) (every (component-fits n) cs) .0 fit in
-    master-small n (larger e (c .preference)) cs (larger-small e (c .preference) h (component-facts n c first .preference)) others
+    master-small n (larger e (c .preference)) cs
+    (larger-small e (c .preference) h (component-facts n c first .preference)) others
 
 -- .. and not below the default
 master-above : (e : ℕ) (qs : List ℕ) → e ≤ master-magnitude e qs
@@ -66,10 +69,12 @@ master-above e (q ∷ qs) =
 
 -- the master's magnitude of a table is known where the default is and all components fit ..
 pub known-there :
-    (n : ℕ) (t : Table) → magnitude-known (t .magnitude) ≡ true → every (component-fits n) (t .parts) ≡ true → magnitude-known (magnitude-of t) ≡ true
+    (n : ℕ) (t : Table) → magnitude-known (t .magnitude) ≡ true → every (component-fits n) (t .parts) ≡ true →
+    magnitude-known (magnitude-of t) ≡ true
 unfolding magnitude-known magnitude-of
 known-there n t known components =
-    le-leb _ last-magnitude (master-small n (t .magnitude) (t .parts) (leb-true (t .magnitude) last-magnitude known) components)
+    le-leb _ last-magnitude (master-small n (t .magnitude) (t .parts)
+    (leb-true (t .magnitude) last-magnitude known) components)
 
 -- .. and only where the default is
 pub known-back : (t : Table) → magnitude-known (magnitude-of t) ≡ true → magnitude-known (t .magnitude) ≡ true

@@ -19,7 +19,8 @@ use Rattle.machine.specs.Model.{most-parts}
 use Rattle.machine.specs.Table.{Table}
 use Rattle.machine.specs.Load.{end-byte, preference-known}
 use Rattle.machine.specs.Sound.{source-fits, table-fits}
-use Rattle.machine.specs.TableBytes.{operand-bytes, signed-operand, part-bytes, spans-bytes, parts-bytes, port-bytes, wires-bytes, table-bytes}
+use Rattle.machine.specs.TableBytes.{operand-bytes, signed-operand, part-bytes, spans-bytes, parts-bytes, port-bytes}
+use Rattle.machine.specs.TableBytes.{wires-bytes, table-bytes}
 use Rattle.laws.specs.Bools.{and-right, or-cases}
 use Rattle.laws.specs.Alls.{all-append}
 use Rattle.sound_laws.specs.Facts.{ComponentFits, table-facts}
@@ -64,7 +65,11 @@ part-octets n c fits =
 spans-octets : (vs : List ℕ) → All Octet (spans-bytes vs)
 unfolding spans-bytes
 spans-octets [] = tt
-spans-octets (v ∷ vs) = (omega arith, all-append Octet (operand-bytes v) (spans-bytes vs) (word-octets v) (spans-octets vs))
+spans-octets (v ∷ vs) = (
+  omega arith,
+  all-append Octet (operand-bytes v) (spans-bytes vs) (word-octets v)
+      (spans-octets vs),
+)
 
 parts-octets : (n : ℕ) (cs : List Component) → All (ComponentFits n) cs → All Octet (parts-bytes cs)
 unfolding parts-bytes
@@ -74,7 +79,8 @@ parts-octets n (c ∷ cs) fit =
     (all-append Octet (spans-bytes (c .spans)) (parts-bytes cs) (spans-octets (c .spans)) (parts-octets n cs (fit .1)))
 
 -- a wire into a port of a part in a table of at most 32 parts
-port-octets : (n many receiver port : ℕ) (s : Source) → n ≤ most-parts → receiver < n → port < 2 → source-fits n many port s ≡ true →
+port-octets : (n many receiver port : ℕ) (s : Source) → n ≤ most-parts → receiver < n → port < 2 →
+    source-fits n many port s ≡ true →
     All Octet (port-bytes receiver port s)
 unfolding port-bytes source-fits
 port-octets n many receiver port Unwired few here low fits = tt
@@ -83,7 +89,8 @@ port-octets n many receiver port (From k) few here low fits =
     (omega arith, (omega arith, (omega arith, (omega arith, tt))))
 
 -- the wires of the components from part number k on
-wires-octets : (n k : ℕ) (cs : List Component) → n ≤ most-parts → k + length cs ≤ n → All (ComponentFits n) cs → All Octet (wires-bytes k cs)
+wires-octets : (n k : ℕ) (cs : List Component) → n ≤ most-parts → k + length cs ≤ n → All (ComponentFits n) cs →
+    All Octet (wires-bytes k cs)
 unfolding wires-bytes
 wires-octets n k [] few low fit = tt
 wires-octets n k (c ∷ cs) few low fit =
@@ -102,6 +109,8 @@ table-octets t h =
     let n = length (t .parts) in
     let parts = parts-bytes (t .parts) in
     let wires = wires-bytes 0 (t .parts) in
-    let ending = all-append Octet wires (end-byte ∷ []) (wires-octets n 0 (t .parts) (fits .few) (omega arith) (fits .components)) (omega arith, tt) in
-    let body = all-append Octet parts (wires ++ (end-byte ∷ [])) (parts-octets n (t .parts) (fits .components)) ending in
+    let ending = all-append Octet wires (end-byte ∷ [])
+    (wires-octets n 0 (t .parts) (fits .few) (omega arith) (fits .components)) (omega arith, tt) in
+    let body = all-append Octet parts (wires ++ (end-byte ∷ []))
+    (parts-octets n (t .parts) (fits .components)) ending in
     (omega arith, (magnitude-octet (t .magnitude) (fits .magnitude), body))

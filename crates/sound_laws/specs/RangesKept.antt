@@ -1,5 +1,5 @@
--- Moving, showing and settling keep numbers and signals in range: whatever is stored is an operand, a clamped number, or was in range before.
--- Assumes nothing.
+-- Moving, showing and settling keep numbers and signals in range: whatever is stored is an operand, a clamped number,
+-- or was in range before. Assumes nothing.
 use Prim.Native.Nat.{ℕ, _%_}
 use mathlib.Core.Path.{_≡_, refl}
 use mathlib.Core.Bool.{true, cond, _&&_}
@@ -11,7 +11,8 @@ use Rattle.machine.specs.declared.time.Point.{Point}
 use Rattle.machine.specs.declared.signal.Signal.{Signal}
 use Rattle.machine.specs.declared.signal.Signal.the-variants.{Absent, Value}
 use Rattle.machine.specs.declared.part.Kind.{Kind}
-use Rattle.machine.specs.declared.part.Kind.the-variants.{Constant, Gain, Adder, Square, Pulse, Delay, Integrator, ResetIntegrator, Detector, Hold, Sampler, Drive, Clapper}
+use Rattle.machine.specs.declared.part.Kind.the-variants.{Constant, Gain, Adder, Square, Pulse, Delay, Integrator}
+use Rattle.machine.specs.declared.part.Kind.the-variants.{ResetIntegrator, Detector, Hold, Sampler, Drive, Clapper}
 use Rattle.machine.specs.declared.part.Mark.{Mark}
 use Rattle.machine.specs.declared.part.Mark.the-variants.{Clear, Rising, Falling}
 use Rattle.machine.specs.declared.part.Source.{Source}
@@ -20,9 +21,11 @@ use Rattle.machine.specs.declared.part.Part.{Part}
 use Rattle.machine.specs.Lists.{All}
 use Rattle.machine.specs.Time.{tick}
 use Rattle.machine.specs.Signal.{is-value, is-signal, integrated, product, total, first-present, sampled, integral}
-use Rattle.machine.specs.Kind.{period, positive-multiple, half-waves, square, pulse, mark-signal, output-as, output, integrates, has-mass}
+use Rattle.machine.specs.Kind.{period, positive-multiple, half-waves, square, pulse, mark-signal, output-as, output}
+use Rattle.machine.specs.Kind.{integrates, has-mass}
 use Rattle.machine.specs.Model.{blank-part, part-at, with-state, reading, reading0, reading1}
-use Rattle.machine.specs.Step.{gain-of, moved-speed, rate, moved-held, moved, shown, filled, settled-as, settled, all-moved, all-settled}
+use Rattle.machine.specs.Step.{gain-of, moved-speed, rate, moved-held, moved, shown, filled, settled-as, settled}
+use Rattle.machine.specs.Step.{all-moved, all-settled}
 use Rattle.machine.specs.Sound.{speed-fits}
 use Rattle.laws.specs.Alls.{all-default, all-set, all-map}
 use Rattle.laws.specs.Bools.{cond-cases}
@@ -75,7 +78,7 @@ pub record InRange (p : Part) : Type 0 where
   pub signal : is-signal (p .state .signal) ≡ true
   pub output : is-signal (p .state .output) ≡ true
 
--- what stands where a list has no such part is in range
+-- what is where a list has no such part is in range
 blank-in-range : InRange blank-part
 unfolding is-value is-signal speed-fits
 blank-in-range = record { a = refl; b = refl; held = refl; speed = refl; signal = refl; output = refl }
@@ -88,21 +91,24 @@ reading-signal ps (From k) h = all-default InRange ps blank-part k h blank-in-ra
 
 -- the output of a part in range is a signal, where its ports read signals
 output-as-signal :
-    (k : Kind) (p : Part) (now : Point) (x y before : Signal) → InRange p → is-signal x ≡ true → is-signal y ≡ true → is-signal before ≡ true →
+    (k : Kind) (p : Part) (now : Point) (x y before : Signal) → InRange p → is-signal x ≡ true → is-signal y ≡ true →
+    is-signal before ≡ true →
     is-signal (output-as k p now x y before) ≡ true
 unfolding output-as is-signal square pulse
 output-as-signal Constant p now x y before h hx hy hb = h .a
 output-as-signal Gain p now x y before h hx hy hb = product-signal (p .component .a) x
 output-as-signal Adder p now x y before h hx hy hb = total-signal x y
 output-as-signal Square p now x y before h hx hy hb =
-    cond-cases (λ (v : ℤ). is-value v ≡ true) (eqb (half-waves (period p) now % 2) 0) (p .component .a) (p .component .b) (λ e. h .a) (λ e. h .b)
+    cond-cases (λ (v : ℤ). is-value v ≡ true) (eqb (half-waves (period p) now % 2) 0) (p .component .a)
+    (p .component .b) (λ e. h .a) (λ e. h .b)
 output-as-signal Pulse p now x y before h hx hy hb =
     cond-cases (λ (s : Signal). is-signal s ≡ true) (eqb (now .n) 1 && positive-multiple (period p) (tick now))
     (Value (p .component .a)) Absent (λ e. h .a) (λ e. refl)
 output-as-signal Delay p now x y before h hx hy hb =
     cond-cases (λ (s : Signal). is-signal s ≡ true) (ltb 0 (now .n)) before Absent (λ e. hb) (λ e. refl)
 output-as-signal Integrator p now x y before h hx hy hb = h .held
-output-as-signal ResetIntegrator p now x y before h hx hy hb = first-present-signal y (Value (p .state .held)) hy (h .held)
+output-as-signal ResetIntegrator p now x y before h hx hy hb =
+    first-present-signal y (Value (p .state .held)) hy (h .held)
 output-as-signal Detector p now x y before h hx hy hb = mark-is-signal (p .state .mark)
 output-as-signal Hold p now x y before h hx hy hb = first-present-signal x (p .state .signal) hx (h .signal)
 output-as-signal Sampler p now x y before h hx hy hb = sampled-signal x y hx
@@ -147,9 +153,30 @@ settled-in-range Pulse x p h = h
 settled-in-range Delay x p h = h
 settled-in-range Integrator x p h = h
 settled-in-range ResetIntegrator x p h =
-    record { a = h .a; b = h .b; held = integrated-value (p .state .output) (h .output); speed = h .speed; signal = h .signal; output = h .output }
-settled-in-range Detector x p h = record { a = h .a; b = h .b; held = h .held; speed = h .speed; signal = h .signal; output = h .output }
-settled-in-range Hold x p h = record { a = h .a; b = h .b; held = h .held; speed = h .speed; signal = h .output; output = h .output }
+    record {
+      a = h .a;
+      b = h .b;
+      held = integrated-value (p .state .output) (h .output);
+      speed = h .speed;
+      signal = h .signal;
+      output = h .output;
+    }
+settled-in-range Detector x p h = record {
+  a = h .a;
+  b = h .b;
+  held = h .held;
+  speed = h .speed;
+  signal = h .signal;
+  output = h .output;
+}
+settled-in-range Hold x p h = record {
+  a = h .a;
+  b = h .b;
+  held = h .held;
+  speed = h .speed;
+  signal = h .output;
+  output = h .output;
+}
 settled-in-range Sampler x p h = h
 settled-in-range Drive x p h = h
 settled-in-range Clapper x p h = h
@@ -158,12 +185,15 @@ settled-in-range Clapper x p h = h
 pub all-settled-in-range : (ps : List Part) → All InRange ps → All InRange (all-settled ps)
 unfolding all-settled settled
 all-settled-in-range ps h =
-    all-map (λ (p : Part). settled (reading0 ps p) p) InRange InRange ps (λ p. settled-in-range (p .component .kind) (reading0 ps p) p) h
+    all-map (λ (p : Part). settled (reading0 ps p) p) InRange InRange ps
+    (λ p. settled-in-range (p .component .kind) (reading0 ps p) p) h
 
 -- a speed that is a value where the kind has mass, and stays where it has none, fits
-speed-moved : (k : Kind) (v w : ℤ) → is-value v ≡ true → speed-fits k w ≡ true → speed-fits k (cond (has-mass k) v w) ≡ true
+speed-moved : (k : Kind) (v w : ℤ) → is-value v ≡ true → speed-fits k w ≡ true →
+    speed-fits k (cond (has-mass k) v w) ≡ true
 unfolding speed-fits
-speed-moved k v w value fits = cond-cases (λ (z : ℤ). speed-fits k z ≡ true) (has-mass k) v w (λ e. rw e value) (λ e. fits)
+speed-moved k v w value fits =
+    cond-cases (λ (z : ℤ). speed-fits k z ≡ true) (has-mass k) v w (λ e. rw e value) (λ e. fits)
 
 -- moving all parts keeps them in range
 pub all-moved-in-range : (t h : ℕ) (ps : List Part) → All InRange ps → All InRange (all-moved t h ps)
@@ -177,9 +207,11 @@ all-moved-in-range t h ps r =
       held =
           cond-cases (λ (v : ℤ). is-value v ≡ true) (integrates (p .component .kind))
           (integral (p .state .held) (rate p (reading0 ps p) (gain-of t h p)) (gain-of t h p)) (p .state .held)
-          (λ e. integral-value (p .state .held) (rate p (reading0 ps p) (gain-of t h p)) (gain-of t h p)) (λ e. q .held);
+          (λ e. integral-value (p .state .held) (rate p (reading0 ps p) (gain-of t h p)) (gain-of t h p))
+          (λ e. q .held);
       speed =
-          speed-moved (p .component .kind) (integral (p .state .speed) (reading0 ps p) (gain-of t h p)) (p .state .speed)
+          speed-moved (p .component .kind) (integral (p .state .speed) (reading0 ps p) (gain-of t h p))
+          (p .state .speed)
           (integral-value (p .state .speed) (reading0 ps p) (gain-of t h p)) (q .speed);
       signal = q .signal;
       output = q .output;

@@ -1,5 +1,5 @@
--- Request 4 of every sound model: the bytes of its table load to the fresh model of that table, and tell the table. The idea: the fresh model keeps its table, so
--- that bytes which load alike are those of one table. Assumes nothing.
+-- Request 4 of every sound model: the bytes of its table load to the fresh model of that table, and tell the table. The
+-- idea: the fresh model keeps its table, so that bytes which load alike are those of one table. Assumes nothing.
 use Prim.Native.Nat.{_+_, _-_}
 use native.Mathlib.Omega.{arith}
 use mathlib.Core.Path.{_≡_, refl, sym, ap, _∙_}
@@ -20,7 +20,11 @@ use Rattle.sound_laws.specs.Bytes.{loads-back}
 use Rattle.sound_laws.specs.ByteLengths.{table-short}
 
 -- the bytes of a table that fits load up to their end
-pub loads-whole : (t : Table) → table-fits t ≡ true → load (table-bytes t) ≡ record { number = 0; position = length (table-bytes t); model = fresh t }
+pub loads-whole : (t : Table) → table-fits t ≡ true → load (table-bytes t) ≡ record {
+  number = 0;
+  position = length (table-bytes t);
+  model = fresh t;
+}
 unfolding accepted table-bytes
 loads-whole t fits = loads-back t fits ∙ rw last refl
   where

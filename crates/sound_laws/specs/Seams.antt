@@ -1,5 +1,6 @@
--- Reading at a seam: where the bytes from a position on are a command and then others, the turn reads that command, and the others stand behind
--- it. A position is told by what stands from it on, `drop at bs`, so that no lengths are added up. Assumes nothing.
+-- Reading at a seam: where the bytes from a position on are a command and then others, the turn reads that command, and
+-- the others are after it. A position is told by what is from it on, `drop at bs`, so that no lengths are added up.
+-- Assumes nothing.
 use Prim.Native.Nat.{ℕ, suc, _+_, _-_, _≤_, _<_}
 use native.Mathlib.Omega.{arith}
 use native.Mathlib.Nat.{add-zero}
@@ -11,11 +12,13 @@ use lib.Seq.{getD-drop, drop-drop}
 use lib.IntN.{ℤ, pos, negsuc}
 use borrow.Author.Tests.{leb-true, lt-ltb, le-leb, le-ltb}
 use Rattle.machine.specs.declared.part.Kind.{Kind}
-use Rattle.machine.specs.declared.part.Kind.the-variants.{Constant, Gain, Adder, Square, Pulse, Delay, Integrator, ResetIntegrator, Detector, Hold, Sampler, Drive, Clapper}
+use Rattle.machine.specs.declared.part.Kind.the-variants.{Constant, Gain, Adder, Square, Pulse, Delay, Integrator}
+use Rattle.machine.specs.declared.part.Kind.the-variants.{ResetIntegrator, Detector, Hold, Sampler, Drive, Clapper}
 use Rattle.machine.specs.declared.model.Loaded.{Loaded}
 use Rattle.machine.specs.Signal.{is-value, largest-value}
 use Rattle.machine.specs.Kind.{kind-number, kind-known, kind-of}
-use Rattle.machine.specs.Load.{known-command, command-width, byte-at, word-at, signed, Reading, in-place, Read, whole-command, command-read, read-turn, read-on, read-from}
+use Rattle.machine.specs.Load.{known-command, command-width, byte-at, word-at, signed, Reading, in-place, Read}
+use Rattle.machine.specs.Load.{whole-command, command-read, read-turn, read-on, read-from}
 use Rattle.machine.specs.TableBytes.{operand-bytes, signed-operand}
 use Rattle.sound_laws.specs.ReadFuel.{read-unrolled}
 
@@ -48,7 +51,7 @@ operand-back (negsuc n) h =
     (omega arith, rw (le-ltb (4294967295 - n) 2147483648 (omega arith), back))
 
 module _ (bs : List ℕ) where
-  -- what stands n bytes further on
+  -- what is n bytes further on
   pub further : (at n : ℕ) (l : List ℕ) → drop at bs ≡ l → drop (at + n) bs ≡ drop n l
   further at n l e = sym (drop-drop n at bs) ∙ ap (drop n) e
 
@@ -62,7 +65,8 @@ module _ (bs : List ℕ) where
   byte-here at l e = rw add-zero at (byte-there at 0 l e)
 
   -- a word that was written is read
-  pub word-there : (at v : ℕ) (rest : List ℕ) → drop at bs ≡ operand-bytes v ++ rest → v < 4294967296 → word-at bs at ≡ v
+  pub word-there : (at v : ℕ) (rest : List ℕ) → drop at bs ≡ operand-bytes v ++ rest → v < 4294967296 →
+      word-at bs at ≡ v
   unfolding word-at operand-bytes
   word-there at v rest e small =
       rw (
@@ -75,12 +79,19 @@ module _ (bs : List ℕ) where
 
   -- a command that is known, in place and whole is read
   pub turn-there :
-      (at b : ℕ) (tail : List ℕ) (rd : Reading) → drop at bs ≡ b ∷ tail → known-command b ≡ true → in-place rd b ≡ true →
+      (at b : ℕ) (tail : List ℕ) (rd : Reading) → drop at bs ≡ b ∷ tail → known-command b ≡ true →
+      in-place rd b ≡ true →
       command-width b ≤ suc (length tail) → read-turn bs at rd ≡ whole-command bs at rd b
   unfolding read-turn command-read
   turn-there at b tail rd e known placed whole =
       let left : length bs - at ≡ suc (length tail) = sym (length-drop at bs) ∙ ap length e in
-      rw (byte-here at (b ∷ tail) e, lt-ltb at (length bs) (omega arith), known, placed, le-leb (at + command-width b) (length bs) (omega arith))
+      rw (
+        byte-here at (b ∷ tail) e,
+        lt-ltb at (length bs) (omega arith),
+        known,
+        placed,
+        le-leb (at + command-width b) (length bs) (omega arith),
+      )
 
   -- all that is read from a position on
   abbrev pub read-all : ℕ → Reading → Loaded
@@ -88,4 +99,5 @@ module _ (bs : List ℕ) where
 
   -- what a turn comes to is what all comes to
   pub after-turn : (at : ℕ) (rd : Reading) (r : Read) → read-turn bs at rd ≡ r → read-all at rd ≡ read-on r read-all
-  after-turn at rd r e = read-unrolled (suc (length bs)) bs at rd (omega arith) ∙ ap (λ (s : Read). read-on s read-all) e
+  after-turn at rd r e = read-unrolled (suc (length bs)) bs at rd (omega arith) ∙
+      ap (λ (s : Read). read-on s read-all) e

@@ -1,5 +1,5 @@
--- What soundness says of the point of a model and of each of its parts: the component is one that loading accepts, the ratio is the one that the table
--- gives, and the state fits. Assumes nothing.
+-- What soundness says of the point of a model and of each of its parts: the component is one that loading accepts, the
+-- ratio is the one that the table gives, and the state fits. Assumes nothing.
 use Prim.Native.Nat.{ℕ, _/_, _≤_, _<_}
 use mathlib.Core.Path.{_≡_, sym, ap, _∙_}
 use mathlib.Core.Bool.{true, and-eq-true-iff}

@@ -10,7 +10,7 @@ use Rattle.order_place.specs.Direct.{direct-of}
 use Rattle.words_store.specs.ModelIn.{model-in, part-count}
 use Rattle.sound_test.specs.declared.survey.Survey.{Survey}
 
--- whatever state the table stands in: the master's magnitude, the direct sources and the part order of the model that
+-- whatever state the table is in: the master's magnitude, the direct sources and the part order of the model that
 -- the words mean
 pub record LentSurveyed (ts : List ℕ) (r : Survey) : Type 0 where
   pub magnitude : (ss : List ℕ) → r .magnitude ≡ magnitude-of (table-of (trimmed (model-in ts ss)))

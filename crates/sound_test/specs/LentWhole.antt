@@ -42,7 +42,7 @@ module _ (ts ss : List ℕ) where
   unfolding model-in
   held-room = omega (arith, held-many ts ss)
 
-  -- a loop's turn: the test of the parts from i on asks part i and those behind it
+  -- a loop's turn: the test of the parts from i on asks part i and those after it
   pub held-on :
       (f : Part → Bool) (i : ℕ) → i < part-count ts →
       every f (drop i (trimmed (model-in ts ss) .parts)) ≡
@@ -53,7 +53,7 @@ module _ (ts ss : List ℕ) where
       ap (λ (p : Part). f (trimmed-part p) && every f (drop (i + 1) (trimmed (model-in ts ss) .parts)))
       (held-part ts ss i low)
 
-  -- behind the last part all do
+  -- after the last part all do
   pub held-end : (f : Part → Bool) (i : ℕ) → part-count ts ≤ i →
       every f (drop i (trimmed (model-in ts ss) .parts)) ≡ true
   unfolding model-in
@@ -86,7 +86,7 @@ module _ (ts ss : List ℕ) where
       ap (λ (p : Part). master-magnitude (larger e (p .component .preference))
       (drop (i + 1) (preferences (model-in ts ss)))) (held-part ts ss i low)
 
-  -- behind the last part it stays
+  -- after the last part it stays
   held-magnitude : (e i : ℕ) → part-count ts ≤ i → master-magnitude e (drop i (preferences (model-in ts ss))) ≡ e
   unfolding model-in
   held-magnitude e i past =
@@ -99,7 +99,7 @@ taken-more {ℓ} : {A : Type ℓ} (l to : List A) (i : ℕ) (v d : A) → i < le
     take (i + 1) (set l i v) ≡ take (i + 1) to
 taken-more l to i v d low here before e = rw (add-one, take-suc-set l i v low, take-suc to i d here, before, e) refl
 
--- a survey of the first i parts, whatever state the table stands in: the master's magnitude is that of what was found
+-- a survey of the first i parts, whatever state the table is in: the master's magnitude is that of what was found
 -- and the preferences from i on, and the first i places hold the direct sources and the part order
 pub record Surveying (ts : List ℕ) (i magnitude : ℕ) (direct : List Direct) (order : List ℕ) : Type 0 where
   pub low : i ≤ part-count ts

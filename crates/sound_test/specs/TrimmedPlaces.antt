@@ -56,7 +56,7 @@ module _ (m : Model) (few : m .count ≤ length (m .parts)) where
       (getD-map-in (λ (p : Part). p .component) (trimmed m .parts) i blank-part blank-component inside) ∙
       ap (λ (p : Part). p .component .preference) (part-trimmed i h)
 
-  -- a loop's turn: the test of the parts from i on asks part i and those behind it
+  -- a loop's turn: the test of the parts from i on asks part i and those after it
   pub parts-on :
       (f : Part → Bool) (i : ℕ) → i < m .count →
       every f (drop i (trimmed m .parts)) ≡

@@ -54,8 +54,7 @@ module _ (n g t : ℕ) (p : Part) where
         component = component;
         ratio = ratio;
         period = period;
-        state =
-            state-by t r p (eqb-true (p .ratio) r ratio) ∙ state;
+        state = state-by t r p (eqb-true (p .ratio) r ratio) ∙ state;
       }
 
 -- what the machine asks of all parts of a model
@@ -138,7 +137,7 @@ magnitude-holds n g x = magnitude-known g && parts-hold n g x
 unfoldable pub tests : ℕ → Model → Bool
 tests n x = in-time (x .point) && magnitude-holds n (magnitude-of (table-of x)) x
 
--- each by the answer of its first test, and those behind it
+-- each by the answer of its first test, and those after it
 pub tests-by : (n : ℕ) (x : Model) (time : Bool) → time ≡ in-time (x .point) →
     tests n x ≡ (time && magnitude-holds n (magnitude-of (table-of x)) x)
 unfolding tests
@@ -156,7 +155,7 @@ pub parts-by :
 unfolding parts-hold
 parts-by n g x fit e = rw e
 
--- of a test and those behind it: these are left where it holds, and where it fails all fail
+-- of a test and those after it: these are left where it holds, and where it fails all fail
 pub passed : (all first others : Bool) → all ≡ (first && others) → first ≡ true → all ≡ others
 passed all first others e h = rw h at e
 

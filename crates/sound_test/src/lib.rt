@@ -29,9 +29,10 @@ fn in_time(now: Point) -> bool
     now.n <= Point::LAST.n
 }
 
-// Whether words spell a sound model, whatever stands in them.
+// Whether words spell a sound model, whatever is in them.
 pub fn is_sound_in(table: &[u64], state: &[u64]) -> bool
-    ensures { λ r. ⌜ r ≡ spelled (now (table .entry)) (now (state .entry)) && sound (trimmed (model-in (now (table .entry)) (now (state .entry)))) ⌝ }
+    ensures { λ r. ⌜ r ≡ spelled (now (table .entry)) (now (state .entry)) &&
+        sound (trimmed (model-in (now (table .entry)) (now (state .entry)))) ⌝ }
 {
     if !spelled(table, state) {
         return false;

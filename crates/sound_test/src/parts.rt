@@ -68,7 +68,8 @@ pub(crate) fn parts_fit_in(table: &[u64], state: &[u64], magnitude: u8, t: Ticks
     requires { ⌜ WordsThere (now table) (now state) ⌝ }
     requires { ⌜ part-count (now table) ≤ most-parts ⌝ }
     requires { ⌜ magnitude ≤ last-magnitude ⌝ }
-    ensures { λ r. ⌜ r ≡ every (part-fits (part-count (now (table .entry))) magnitude (t .0)) (trimmed (model-in (now (table .entry)) (now (state .entry))) .parts) ⌝ }
+    ensures { λ r. ⌜ r ≡ every (part-fits (part-count (now (table .entry))) magnitude (t .0))
+        (trimmed (model-in (now (table .entry)) (now (state .entry))) .parts) ⌝ }
 {
     let count = parts_of(table);
     let mut i: usize = 0;

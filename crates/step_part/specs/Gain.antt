@@ -7,6 +7,7 @@ use Rattle.machine.specs.Time.{gained, local-count}
 use Rattle.machine.specs.Step.{gain-of}
 
 -- they are that count less the part's own
-pub gain-to : (t h d : ℕ) (end : LocalTicks) (p : Part) → end ≡ local-count (t + h) (p .ratio) → d ≡ end .0 - p .state .local .0 → d ≡ gain-of t h p
+pub gain-to : (t h d : ℕ) (end : LocalTicks) (p : Part) → end ≡ local-count (t + h) (p .ratio) →
+    d ≡ end .0 - p .state .local .0 → d ≡ gain-of t h p
 unfolding gain-of gained
 gain-to t h d end p leads is = is ∙ ap (λ (l : LocalTicks). l .0 - p .state .local .0) leads

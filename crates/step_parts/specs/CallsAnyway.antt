@@ -1,6 +1,6 @@
--- Request 6, "Each call keeps its answers, whatever outputs those records held before", of a step and of the start point as whole calls: the step of every sound
--- model, and the fresh model of every table that fits, are those of any parts that agree with the moved ones, or with the first ones, but for the outputs held.
--- Assumes nothing.
+-- Request 6, "Each call keeps its answers, whatever outputs those records held before", of a step and of the start
+-- point as whole calls: the step of every sound model, and the fresh model of every table that fits, are those of any
+-- parts that agree with the moved ones, or with the first ones, but for the outputs held. Assumes nothing.
 use Prim.Native.Nat.{ℕ}
 use mathlib.Core.Path.{_≡_}
 use mathlib.Core.Bool.{true}
@@ -19,8 +19,10 @@ use Rattle.order_laws.specs.Models.{fresh-anyway, step-anyway}
 
 -- a step of a sound model
 pub sound-step-anyway :
-    (m : Model) (h : ℕ) → sound m ≡ true → (ps : List Part) → map unshown ps ≡ map unshown (all-moved (tick (m .point)) h (m .parts)) →
-    with-parts m (led-to (m .point) h) (all-settled (filled (m .parts) (led-to (m .point) h) (m .order) ps)) ≡ step-made m h
+    (m : Model) (h : ℕ) → sound m ≡ true → (ps : List Part) →
+    map unshown ps ≡ map unshown (all-moved (tick (m .point)) h (m .parts)) →
+    with-parts m (led-to (m .point) h) (all-settled (filled (m .parts) (led-to (m .point) h) (m .order) ps)) ≡
+    step-made m h
 unfolding table-of
 sound-step-anyway m h is-sound =
     let facts = sound-facts m is-sound in

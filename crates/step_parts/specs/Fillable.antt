@@ -1,4 +1,5 @@
--- What a model must be for its outputs to be filled, and for its parts to be settled, and what that says of the places in use. Assumes nothing.
+-- What a model must be for its outputs to be filled, and for its parts to be settled, and what that says of the places
+-- in use. Assumes nothing.
 use Prim.Native.Nat.{ℕ, _≤_, _<_}
 use native.Mathlib.Omega.{arith}
 use mathlib.Core.Path.{_≡_, refl, sym, subst, _∙_}
@@ -12,7 +13,8 @@ use Rattle.machine.specs.Lists.{All}
 use Rattle.machine.specs.Time.{last-tick}
 use Rattle.machine.specs.Signal.{is-signal}
 use Rattle.machine.specs.Kind.{period}
-use Rattle.machine.specs.Model.{most-parts, blank-part, part-at, with-parts, reading, trimmed, trimmed-part, trimmed-component}
+use Rattle.machine.specs.Model.{most-parts, blank-part, part-at, with-parts, reading, trimmed, trimmed-part}
+use Rattle.machine.specs.Model.{trimmed-component}
 use Rattle.laws.specs.Alls.{all-same-map, length-same-map, members-all}
 use Rattle.laws.specs.ListLaws.{all-at}
 use Rattle.laws.specs.Partway.{mapped-places}
@@ -35,9 +37,17 @@ InRangeUnshown p = InRange (unshown p)
 -- as every part is that is in range
 pub in-range-unshown : (p : Part) → InRange p → InRangeUnshown p
 unfolding is-signal
-in-range-unshown p r = record { a = r .a; b = r .b; held = r .held; speed = r .speed; signal = r .signal; output = refl }
+in-range-unshown p r = record {
+  a = r .a;
+  b = r .b;
+  held = r .held;
+  speed = r .speed;
+  signal = r .signal;
+  output = refl;
+}
 
--- the outputs of the model `new` can be filled, `old` standing at the point before. Nothing is asked of the outputs that `new` has stored
+-- the outputs of the model `new` can be filled, `old` standing at the point before. Nothing is asked of the outputs
+-- that `new` has stored
 pub record Fillable (old new : Model) : Type 0 where
   pub wired : Wired new
   pub counted : old .count ≡ length (old .parts)
@@ -56,7 +66,8 @@ fillable-numbers old new fit =
 
 -- a model with other parts of the same components is wired as before
 pub kept-wired :
-    (m : Model) (now : Point) (qs : List Part) → map (λ (p : Part). p .component) qs ≡ map (λ (p : Part). p .component) (m .parts) →
+    (m : Model) (now : Point) (qs : List Part) →
+    map (λ (p : Part). p .component) qs ≡ map (λ (p : Part). p .component) (m .parts) →
     Wired m → Wired (with-parts m now qs)
 kept-wired m now qs kept wired =
     record {
@@ -68,7 +79,8 @@ kept-wired m now qs kept wired =
 -- so is a changed one
 pub changed-wired :
     (m : Model) (qs : List Part) (r : Model) → Changed m qs r →
-    map (λ (p : Part). p .component) qs ≡ map (λ (p : Part). p .component) (trimmed m .parts) → Wired (trimmed m) → Wired (trimmed r)
+    map (λ (p : Part). p .component) qs ≡ map (λ (p : Part). p .component) (trimmed m .parts) → Wired (trimmed m) →
+    Wired (trimmed r)
 changed-wired m qs r c kept wired = subst Wired (sym (c .is)) (kept-wired (trimmed m) (m .point) qs kept wired)
 
 -- what a wired model, once trimmed, says of the places in use of the model itself
@@ -92,7 +104,8 @@ module _ (m : Model) (wired : Wired (trimmed m)) where
   pub wired-at : (i : ℕ) → i < m .count → WiredBelow (m .count) (part-at (m .parts) i .component)
   unfolding trimmed trimmed-part trimmed-component
   wired-at i h =
-      let q = all-at (λ (p : Part). WiredBelow (m .count) (p .component)) (trimmed m .parts) blank-part i (wired .sources) (rw (← wired .counted) h) in
+      let q = all-at (λ (p : Part). WiredBelow (m .count) (p .component)) (trimmed m .parts) blank-part i
+      (wired .sources) (rw (← wired .counted) h) in
       let r = rw (← part-in-use i h) at q in
       record { port0 = r .port0; port1 = r .port1 }
 

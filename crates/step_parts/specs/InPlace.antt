@@ -1,5 +1,6 @@
--- Parts changed one after the other in place, by a change that reads port 0, keeps every component and stored output, and reads nothing that trimming
--- cuts away: the readings in a half changed model are those in the model before. Moving and settling are such changes. Assumes nothing.
+-- Parts changed one after the other in place, by a change that reads port 0, keeps every component and stored output,
+-- and reads nothing that trimming cuts away: the readings in a half changed model are those in the model before. Moving
+-- and settling are such changes. Assumes nothing.
 use Prim.Native.Nat.{ℕ, _+_, _≤_, _<_}
 use native.Mathlib.Omega.{arith}
 use mathlib.Core.Path.{_≡_, ap, ap₂, subst, _∙_}
@@ -9,7 +10,8 @@ use lib.Seq.{take-all}
 use Rattle.machine.specs.declared.signal.Signal.{Signal}
 use Rattle.machine.specs.declared.part.Part.{Part}
 use Rattle.machine.specs.declared.model.Model.{Model}
-use Rattle.machine.specs.Model.{blank-part, part-at, with-parts, reading, reading0, trimmed, trimmed-part, trimmed-component}
+use Rattle.machine.specs.Model.{blank-part, part-at, with-parts, reading, reading0, trimmed, trimmed-part}
+use Rattle.machine.specs.Model.{trimmed-component}
 use Rattle.laws.specs.Alls.{same-at}
 use Rattle.laws.specs.Partway.{partway, partway-next, partway-same, partway-later, partway-kept}
 use Rattle.order_laws.specs.Row.{reading-same}
@@ -30,14 +32,17 @@ by-reading g ps p = g (reading0 ps p) p
 abbrev pub changed-to : (Signal → Part → Part) → Model → ℕ → List Part
 changed-to g m i = partway (by-reading g (trimmed m .parts)) i (trimmed m .parts)
 
--- a turn of a loop that changes the parts of m by g, at the place i of the model `next` that it holds: what it reads, and what it comes to
+-- a turn of a loop that changes the parts of m by g, at the place i of the model `next` that it holds: what it reads,
+-- and what it comes to
 pub record LoopTurn (g : Signal → Part → Part) (m next : Model) (i : ℕ) : Type 0 where
   -- the model is wired as m is, and the part there reads what it reads in m
   pub wired : Wired (trimmed next)
-  pub reads : reading0 (trimmed next .parts) (part-at (next .parts) i) ≡ reading0 (trimmed m .parts) (part-at (trimmed m .parts) i)
+  pub reads : reading0 (trimmed next .parts) (part-at (next .parts) i) ≡
+      reading0 (trimmed m .parts) (part-at (trimmed m .parts) i)
   -- so it is changed next
   pub changes :
-      (x : Signal) (v : Part) → x ≡ reading0 (trimmed m .parts) (part-at (trimmed m .parts) i) → v ≡ g x (part-at (next .parts) i) →
+      (x : Signal) (v : Part) → x ≡ reading0 (trimmed m .parts) (part-at (trimmed m .parts) i) →
+      v ≡ g x (part-at (next .parts) i) →
       Changed m (changed-to g m (i + 1)) (with-parts next (next .point) (set (next .parts) i v))
   -- or passed over, where g keeps it
   pub passes :
@@ -58,7 +63,8 @@ module _
   half-wired =
       let ps = trimmed m .parts in
       changed-wired m (changed-to g m i) next half
-      (partway-kept (by-reading g ps) (λ (p : Part). p .component) i ps (λ p. in-place .component (reading0 ps p) p)) wired
+      (partway-kept (by-reading g ps) (λ (p : Part). p .component) i ps (λ p. in-place .component (reading0 ps p) p))
+      wired
 
   -- so its next part is that of m
   next-part : trimmed-part (part-at (next .parts) i) ≡ part-at (trimmed m .parts) i
@@ -68,7 +74,8 @@ module _
       partway-later (by-reading g ps) i ps i blank-part (omega arith)
 
   -- and reads the same
-  next-reading : reading0 (trimmed next .parts) (part-at (next .parts) i) ≡ reading0 (trimmed m .parts) (part-at (trimmed m .parts) i)
+  next-reading : reading0 (trimmed next .parts) (part-at (next .parts) i) ≡
+      reading0 (trimmed m .parts) (part-at (trimmed m .parts) i)
   unfolding reading0 trimmed-part trimmed-component
   next-reading =
       let ps = trimmed m .parts in
@@ -76,7 +83,8 @@ module _
       ap (λ (x : Model). reading (x .parts) s) (half .is) ∙
       reading-same (changed-to g m i) ps s
       (λ k from. same-at (λ (p : Part). p .state .output) (changed-to g m i) ps k blank-part
-      (partway-kept (by-reading g ps) (λ (p : Part). p .state .output) i ps (λ p. in-place .output (reading0 ps p) p))) ∙
+      (partway-kept (by-reading g ps) (λ (p : Part). p .state .output) i ps
+      (λ p. in-place .output (reading0 ps p) p))) ∙
       ap (λ (p : Part). reading ps (p .component .port0)) next-part
 
   pub turn : LoopTurn g m next i
@@ -96,7 +104,8 @@ module _
             subst (λ (qs : List Part). Changed m qs (with-parts next (next .point) (set (next .parts) i v)))
             (ap (set (changed-to g m i) i) is ∙ partway-next f i ps blank-part inside)
             (changed-more m (changed-to g m i) next i v half within);
-        passes = λ same. subst (λ (qs : List Part). Changed m qs next) (partway-same f i ps blank-part same inside) half;
+        passes = λ same. subst (λ (qs : List Part). Changed m qs next)
+            (partway-same f i ps blank-part same inside) half;
       }
 
 -- all elements of a list changed
@@ -105,7 +114,8 @@ partway-all f i ps past = rw (drop-of-length-le ps {i = i} past, append-nil) (ap
 
 -- once all parts in use are changed, so are all of the trimmed model
 pub all-changed :
-    (g : Signal → Part → Part) (m : Model) → Wired (trimmed m) → (r : Model) (i : ℕ) → Changed m (changed-to g m i) r → r .count ≤ i →
+    (g : Signal → Part → Part) (m : Model) → Wired (trimmed m) → (r : Model) (i : ℕ) → Changed m (changed-to g m i) r →
+    r .count ≤ i →
     Changed m (map (by-reading g (trimmed m .parts)) (trimmed m .parts)) r
 unfolding trimmed
 all-changed g m wired r i half past =

@@ -1,6 +1,6 @@
--- What a turn of filling outputs in the words of a state asks, and what it comes to: the laws of showing the next part, over the models that the words mean.
--- The idea: the parts, the numbers and the outputs that are read from the words are those of these models, and the output that is written changes one of
--- their parts. Assumes nothing.
+-- What a turn of filling outputs in the words of a state asks, and what it comes to: the laws of showing the next part,
+-- over the models that the words mean. The idea: the parts, the numbers and the outputs that are read from the words
+-- are those of these models, and the output that is written changes one of their parts. Assumes nothing.
 use Prim.Native.Nat.{ℕ, _+_, _≤_, _<_}
 use native.Mathlib.Omega.{arith}
 use mathlib.Core.Path.{_≡_, refl, sym, ap, subst, _∙_}
@@ -24,7 +24,8 @@ use Rattle.laws.specs.ListLaws.{all-intro}
 use Rattle.order_laws.specs.Row.{components-length}
 use Rattle.step_part.specs.PartRanges as point
 use Rattle.words_store.specs.Layout.{in-state, signal-field, signal-value-field, output-field, output-value-field}
-use Rattle.words_store.specs.ModelIn.{WordsThere, table-words, state-words, part-count, ordered-part, stored-part, stored-point, stored-state, model-in}
+use Rattle.words_store.specs.ModelIn.{WordsThere, table-words, state-words, part-count, ordered-part, stored-part}
+use Rattle.words_store.specs.ModelIn.{stored-point, stored-state, model-in}
 use Rattle.words_store.specs.Updated.{SameBehind}
 use Rattle.words_store.specs.StoreFrame.{held-number, held-part}
 use Rattle.words_store.specs.Clean.{CleanOutput, CleanOrKept, SignalsKept, CleanAfter, clean-kept, kept-through}
@@ -34,7 +35,8 @@ use Rattle.step_parts.specs.Reading.{WiredBelow, source-index, index-bel
 use Rattle.step_parts.specs.Trimmed.{Changed}
 use Rattle.step_parts.specs.Fillable.{Fillable}
 use Rattle.step_parts.specs.Anyway.{FilledAnyway, filled-whatever}
-use Rattle.step_parts.specs.Showing.{partly, Showable, number-below, half-wired, showable, shown-next, all-filled, heard-shown}
+use Rattle.step_parts.specs.Showing.{partly, Showable, number-below, half-wired, showable, shown-next, all-filled}
+use Rattle.step_parts.specs.Showing.{heard-shown}
 use Rattle.step_parts.specs.LentReading.{heard-in, lent-heard, lent-wired}
 
 -- the words of each part are there
@@ -48,8 +50,8 @@ state-room ts ss room j low = omega (arith, room .state, low)
 pub room-kept : (ts a b : List ℕ) (n : ℕ) → SameBehind n a b → WordsThere ts a → WordsThere ts b
 room-kept ts a b n same room = record { table = room .table; state = rw (same .size) (room .state) }
 
--- a turn that shows the part p with the number k, which is the i-th of the order, in the words ns; the words os stand at the point before, and ns₀ are those before
--- the first turn: what it asks, and what it comes to
+-- a turn that shows the part p with the number k, which is the i-th of the order, in the words ns; the words os are at
+-- the point before, and ns₀ are those before the first turn: what it asks, and what it comes to
 pub record LentTurn (ts os ns₀ ns : List ℕ) (i k : ℕ) (p : Part) : Type 0 where
   pub place : i < most-parts
   pub number : k < part-count ts
@@ -89,17 +91,20 @@ module _
 
   -- what the law of the next part says of them
   next-showable : Showable (model-in ts ns .parts) i (ordered-part ts i)
-  next-showable = subst (Showable (model-in ts ns .parts) i) next-number (showable (model-in ts os) (model-in ts ns₀) fit (model-in ts ns) i half within)
+  next-showable = subst (Showable (model-in ts ns .parts) i) next-number
+      (showable (model-in ts os) (model-in ts ns₀) fit (model-in ts ns) i half within)
 
   next-wired : WiredBelow (part-count ts) (stored-part ts ns (ordered-part ts i) .component)
   unfolding stored-part
-  next-wired = lent-wired ts ns (half-wired (model-in ts os) (model-in ts ns₀) fit (model-in ts ns) i half within) (ordered-part ts i) number-low
+  next-wired = lent-wired ts ns (half-wired (model-in ts os) (model-in ts ns₀) fit (model-in ts ns) i half within)
+      (ordered-part ts i) number-low
 
   -- the part shown, and its output written, fills one output more
   next-filled :
       (out : Signal) (then : List ℕ) →
       with-output (stored-part ts ns (ordered-part ts i)) out ≡
-      shown (model-in ts os .parts) (model-in ts ns₀ .point) (model-in ts ns .parts) (stored-part ts ns (ordered-part ts i)) →
+      shown (model-in ts os .parts) (model-in ts ns₀ .point) (model-in ts ns .parts)
+      (stored-part ts ns (ordered-part ts i)) →
       OutputPut (ordered-part ts i) out ns then →
       Changed (model-in ts ns₀) (partly (model-in ts os) (model-in ts ns₀) (i + 1)) (model-in ts then)
   unfolding stored-part
@@ -110,10 +115,13 @@ module _
       let k = ordered-part ts i in
       let p = stored-part ts ns k in
       let v = with-output p out in
-      let part : p ≡ part-at (next .parts) (getD (next .order) i 0) = sym (ap (part-at (next .parts)) next-number ∙ next-part) in
-      let is : model-in ts then ≡ with-parts next (next .point) (set (next .parts) k v) = held-shown ts ns then k out put number-low in
+      let part : p ≡ part-at (next .parts) (getD (next .order) i 0) =
+      sym (ap (part-at (next .parts)) next-number ∙ next-part) in
+      let is : model-in ts then ≡ with-parts next (next .point) (set (next .parts) k v) =
+      held-shown ts ns then k out put number-low in
       subst (Changed new (partly old new (i + 1))) (sym is)
-      (subst (λ (j : ℕ). Changed new (partly old new (i + 1)) (with-parts next (next .point) (set (next .parts) j v))) next-number
+      (subst (λ (j : ℕ). Changed new (partly old new (i + 1)) (with-parts next (next .point) (set (next .parts) j v)))
+      next-number
       (shown-next old new fit next i half within v (shows ∙ ap (shown (old .parts) (new .point) (next .parts)) part)))
 
   -- so it is a turn
@@ -125,12 +133,16 @@ module _
       let p = stored-part ts ns k in
       let qs = model-in ts ns .parts in
       let some : 0 < n = omega arith in
-      let below0 : source-index (p .component .port0) < n = index-below n (p .component .port0) some (next-wired .port0) in
-      let below1 : source-index (p .component .port1) < n = index-below n (p .component .port1) some (next-wired .port1) in
+      let below0 : source-index (p .component .port0) < n =
+      index-below n (p .component .port0) some (next-wired .port0) in
+      let below1 : source-index (p .component .port1) < n =
+      index-below n (p .component .port1) some (next-wired .port1) in
       let signals0 : direct0 (p .component .kind) ≡ true → is-signal (reading0 qs p) ≡ true =
-      subst (λ (q : Part). direct0 (q .component .kind) ≡ true → is-signal (reading0 qs q) ≡ true) next-part (next-showable .signal0) in
+      subst (λ (q : Part). direct0 (q .component .kind) ≡ true → is-signal (reading0 qs q) ≡ true) next-part
+      (next-showable .signal0) in
       let signals1 : direct1 (p .component .kind) ≡ true → is-signal (reading1 qs p) ≡ true =
-      subst (λ (q : Part). direct1 (q .component .kind) ≡ true → is-signal (reading1 qs q) ≡ true) next-part (next-showable .signal1) in
+      subst (λ (q : Part). direct1 (q .component .kind) ≡ true → is-signal (reading1 qs q) ≡ true) next-part
+      (next-showable .signal1) in
       record {
         place = next-showable .place;
         number = number-low;
@@ -200,7 +212,8 @@ of-member P k (x ∷ l) all among = cases (List·Memᴰ·cases-cons among) (of-m
 
 -- since the order has every part, all outputs are clean at last
 pub clean-done :
-    (ts os a b : List ℕ) → Fillable (trimmed (model-in ts os)) (trimmed (model-in ts a)) → (i : ℕ) → FilledClean ts a i b →
+    (ts os a b : List ℕ) → Fillable (trimmed (model-in ts os)) (trimmed (model-in ts a)) → (i : ℕ) →
+    FilledClean ts a i b →
     part-count ts ≤ i →
     CleanAfter (part-count ts) a b
 unfolding trimmed model-in
@@ -228,4 +241,5 @@ pub lent-filled :
     FilledAnyway (model-in ts os) (model-in ts ns₀) (model-in ts ns)
 unfolding model-in
 lent-filled ts os ns₀ ns fit i half past =
-    filled-whatever (model-in ts os) (model-in ts ns₀) (model-in ts ns) fit (all-filled (model-in ts os) (model-in ts ns₀) fit (model-in ts ns) i half past)
+    filled-whatever (model-in ts os) (model-in ts ns₀) (model-in ts ns) fit
+    (all-filled (model-in ts os) (model-in ts ns₀) fit (model-in ts ns) i half past)

@@ -1,5 +1,6 @@
--- Parts moved, and parts settled, in the words of a state: what holds after i parts, after one part more, and after all. Each part is read from words and
--- its state alone is written, of a moved part three numbers, so that each turn of these loops is told of the model that the words mean. Assumes nothing.
+-- Parts moved, and parts settled, in the words of a state: what holds after i parts, after one part more, and after
+-- all. Each part is read from words and its state alone is written, of a moved part three numbers, so that each turn of
+-- these loops is told of the model that the words mean. Assumes nothing.
 use Prim.Native.Nat.{ℕ, _+_, _≤_, _<_}
 use native.Mathlib.Omega.{arith}
 use mathlib.Core.Path.{_≡_, refl, sym, ap, ap₂, subst, _∙_}
@@ -17,17 +18,21 @@ use Rattle.machine.specs.declared.part.State.{State}
 use Rattle.machine.specs.declared.part.Part.{Part}
 use Rattle.machine.specs.declared.model.Model.{Model}
 use Rattle.machine.specs.Time.{last-tick, tick}
-use Rattle.machine.specs.Model.{blank-part, part-at, with-state, with-parts, reading0, trimmed, trimmed-part, trimmed-component}
+use Rattle.machine.specs.Model.{blank-part, part-at, with-state, with-parts, reading0, trimmed, trimmed-part}
+use Rattle.machine.specs.Model.{trimmed-component}
 use Rattle.machine.specs.Step.{moved, all-moved, settled, all-settled}
 use Rattle.machine.specs.Sound.{sound}
 use Rattle.laws.specs.Bools.{either}
 use Rattle.laws.specs.ListLaws.{getD-map-in}
-use Rattle.words_store.specs.ModelIn.{part-count, state-words, stored-component, stored-part, stored-point, stored-state, model-in}
+use Rattle.words_store.specs.ModelIn.{part-count, state-words, stored-component, stored-part, stored-point}
+use Rattle.words_store.specs.ModelIn.{stored-state, model-in}
 use Rattle.words_store.specs.Updated.{state-spelled, StatePut, Copied, SameBehind}
-use Rattle.words_store.specs.StoreFrame.{held-part, same-state, held-put, held-copied, copied-spelled, behind-put, behind-none, behind-through}
+use Rattle.words_store.specs.StoreFrame.{held-part, same-state, held-put, held-copied, copied-spelled, behind-put}
+use Rattle.words_store.specs.StoreFrame.{behind-none, behind-through}
 use Rattle.words_store.specs.Clean.{SignalsKept, signals-through}
 use Rattle.words_store.specs.CleanKept.{kept-numbered, kept-put, kept-copied}
-use Rattle.words_store.specs.NumbersPut.{state-numbered, NumbersPut, state-unnumbered, point-unnumbered, behind-numbered}
+use Rattle.words_store.specs.NumbersPut.{state-numbered, NumbersPut, state-unnumbered, point-unnumbered}
+use Rattle.words_store.specs.NumbersPut.{behind-numbered}
 use Rattle.step_parts.specs.Trimmed.{Changed, none-changed}
 use Rattle.step_parts.specs.Fillable.{Wired}
 use Rattle.step_parts.specs.LentReading.{heard-in, lent-many, lent-part, lent-kind, lent-reading}
@@ -66,7 +71,8 @@ module _
   at = turn settled settling (model-in ts a) wired (model-in ts b) i (so-far .changed) low
 
   -- it is passed over, where settling keeps parts of its kind
-  pub settled-passes : (kind : Kind) → kind ≡ stored-component ts i .kind → settles kind ≡ false → LentSettled ts a (i + 1) b
+  pub settled-passes : (kind : Kind) → kind ≡ stored-component ts i .kind → settles kind ≡ false →
+      LentSettled ts a (i + 1) b
   settled-passes kind of none =
       let ps = trimmed (model-in ts a) .parts in
       let q = part-at ps i in
@@ -74,8 +80,7 @@ module _
       record {
         changed = at .passes (settled-same (reading0 ps q) q kept);
         behind = so-far .behind;
-        signals =
-            so-far .signals;
+        signals = so-far .signals;
       }
 
   -- or read, settled, and its state is written
@@ -90,34 +95,41 @@ module _
       lent-reading ts b (at .wired) i low p x is hears ∙ ap (reading0 (trimmed next .parts)) same ∙ at .reads in
       let v = with-state (stored-part ts b i) (q .state) in
       let becomes : v ≡ settled x (part-at (next .parts) i) =
-      ap (λ (r : Part). with-state (stored-part ts b i) (r .state)) (settles ∙ ap (settled x) is) ∙ ap (settled x) (sym (held-part ts b i low)) in
+      ap (λ (r : Part). with-state (stored-part ts b i) (r .state)) (settles ∙ ap (settled x) is) ∙
+      ap (settled x) (sym (held-part ts b i low)) in
       record {
         changed =
-            subst (Changed (model-in ts a) (changed-to settled (model-in ts a) (i + 1))) (sym (held-put ts b c i (q .state) put low)) (at .changes x v reads becomes);
-        behind = behind-through (part-count ts) a b c (so-far .behind) (behind-put (part-count ts) i (q .state) b c put low);
+            subst (Changed (model-in ts a) (changed-to settled (model-in ts a) (i + 1)))
+            (sym (held-put ts b c i (q .state) put low)) (at .changes x v reads becomes);
+        behind = behind-through (part-count ts) a b c (so-far .behind)
+            (behind-put (part-count ts) i (q .state) b c put low);
         signals = λ j. signals-through a b c j (so-far .signals j) (kept-put b c i (q .state) put j);
       }
 
 -- and at last all are
 pub settled-done :
-    (ts a : List ℕ) → Wired (trimmed (model-in ts a)) → (i : ℕ) (b : List ℕ) → LentSettled ts a i b → part-count ts ≤ i →
+    (ts a : List ℕ) → Wired (trimmed (model-in ts a)) → (i : ℕ) (b : List ℕ) → LentSettled ts a i b →
+    part-count ts ≤ i →
     Changed (model-in ts a) (all-settled (trimmed (model-in ts a) .parts)) (model-in ts b)
 unfolding all-settled model-in
-settled-done ts a wired i b so-far past = all-changed settled (model-in ts a) wired (model-in ts b) i (so-far .changed) past
+settled-done ts a wired i b so-far past =
+    all-changed settled (model-in ts a) wired (model-in ts b) i (so-far .changed) past
 
 -- the state of part j of the old words, moved by its reading among them
 abbrev pub moved-state : List ℕ → List ℕ → ℕ → ℕ → ℕ → State
-moved-state ts old t h j = moved t h (reading0 (trimmed (model-in ts old) .parts) (stored-part ts old j)) (stored-part ts old j) .state
+moved-state ts old t h j =
+    moved t h (reading0 (trimmed (model-in ts old) .parts) (stored-part ts old j)) (stored-part ts old j) .state
 
 -- a state with the three numbers of another; moving a state changes these alone
 abbrev numbered-as : State → State → State
 numbered-as s from = state-numbered s (from .local .0) (from .held) (from .speed)
 
-three-moved : (ts old : List ℕ) (t h j : ℕ) → numbered-as (stored-state old j) (moved-state ts old t h j) ≡ moved-state ts old t h j
+three-moved : (ts old : List ℕ) (t h j : ℕ) → numbered-as (stored-state old j) (moved-state ts old t h j) ≡
+    moved-state ts old t h j
 unfolding moved stored-part
 three-moved ts old t h j = refl
 
--- in the words b, which were a, stand the point and the states of the old words, of which the first i are moved, all
+-- in the words b, which were a, are the point and the states of the old words, of which the first i are moved, all
 -- within their limits, and the old words' signals
 pub record LentMoved (ts old : List ℕ) (t h : ℕ) (a : List ℕ) (i : ℕ) (b : List ℕ) : Type 0 where
   pub states : (j : ℕ) → j < i → stored-state b j ≡ moved-state ts old t h j
@@ -127,7 +139,7 @@ pub record LentMoved (ts old : List ℕ) (t h : ℕ) (a : List ℕ) (i : ℕ) (b
   pub behind : SameBehind (part-count ts) a b
   pub signals : (j : ℕ) → j < part-count ts → SignalsKept old b j
 
--- the tick that the old words are read to stand at is that of their model
+-- the tick that the old words are read to be at is that of their model
 pub lent-tick : (ts old : List ℕ) (now : Point) → now ≡ stored-point old → now .t .0 ≡ tick (model-in ts old .point)
 unfolding model-in
 lent-tick ts old now is = ap tick is
@@ -151,17 +163,21 @@ none-moved ts old t h a b copy spells =
 module _ (ts old : List ℕ) (i : ℕ) (low : i < part-count ts) (p : Part) (is : p ≡ stored-part ts old i) where
   -- it can be moved
   pub lent-movable :
-      sound (trimmed (model-in ts old)) ≡ true → (t h : ℕ) → t ≡ tick (model-in ts old .point) → h ≤ 1_000_000_000 → tick (model-in ts old .point) + h ≤ last-tick →
+      sound (trimmed (model-in ts old)) ≡ true → (t h : ℕ) → t ≡ tick (model-in ts old .point) → h ≤ 1_000_000_000 →
+      tick (model-in ts old .point) + h ≤ last-tick →
       Movable t h p
   unfolding trimmed
   lent-movable is-sound t h now small far =
       let can = movable (trimmed (model-in ts old)) is-sound h i (rw (lent-many ts old) low) small far in
-      rw (now, is) (movable-untrimmed (tick (model-in ts old .point)) h (stored-part ts old i) (rw (lent-part ts old i low) at can))
+      rw (now, is) (movable-untrimmed (tick (model-in ts old .point)) h (stored-part ts old i)
+      (rw (lent-part ts old i low) at can))
 
   -- moved, it differs in its three numbers, which are written
   pub moved-more :
-      (t h : ℕ) (a b c : List ℕ) (x : Signal) (q : Part) → LentMoved ts old t h a i b → x ≡ reading0 (trimmed (model-in ts old) .parts) p →
-      q ≡ moved t h x p → NumbersPut i (q .state .local .0) (q .state .held) (q .state .speed) b c → LentMoved ts old t h a (i + 1) c
+      (t h : ℕ) (a b c : List ℕ) (x : Signal) (q : Part) → LentMoved ts old t h a i b →
+      x ≡ reading0 (trimmed (model-in ts old) .parts) p →
+      q ≡ moved t h x p → NumbersPut i (q .state .local .0) (q .state .held) (q .state .speed) b c →
+      LentMoved ts old t h a (i + 1) c
   moved-more t h a b c x q so-far reads moves put =
       let numbers = q .state in
       let kept = behind-numbered i (numbers .local .0) (numbers .held) (numbers .speed) b c put (part-count ts) low in
@@ -179,7 +195,8 @@ module _ (ts old : List ℕ) (i : ℕ) (low : i < part-count ts) (p : Part) (is 
       other : (j : ℕ) → (j ≡ i → ⊥) → stored-state c j ≡ stored-state b j
       other = state-unnumbered i (q .state .local .0) (q .state .held) (q .state .speed) b c put
 
-      state-at : (j : ℕ) → j < i + 1 → (ltb j i ≡ true) ⊎ (ltb j i ≡ false) → stored-state c j ≡ moved-state ts old t h j
+      state-at : (j : ℕ) → j < i + 1 → (ltb j i ≡ true) ⊎ (ltb j i ≡ false) →
+          stored-state c j ≡ moved-state ts old t h j
       state-at j below (inl e) =
           let before = ltb-true j i e in other j (λ same. omega arith) ∙ so-far .states j before
       state-at j below (inr e) =
@@ -191,15 +208,18 @@ module _ (ts old : List ℕ) (i : ℕ) (low : i < part-count ts) (p : Part) (is 
           ap (λ (r : Part). numbered-as (stored-state old i) (r .state)) becomes ∙ three-moved ts old t h i)
 
 -- and at last all are: the new words mean the moved parts
-module _ (ts old : List ℕ) (t h : ℕ) (a : List ℕ) (i : ℕ) (b : List ℕ) (so-far : LentMoved ts old t h a i b) (past : part-count ts ≤ i) where
+module _ (ts old : List ℕ) (t h : ℕ) (a : List ℕ) (i : ℕ) (b : List ℕ) (so-far : LentMoved ts old t h a i b)
+    (past : part-count ts ≤ i) where
   moved-part-at :
       (j : ℕ) → j < part-count ts →
-      trimmed-part (stored-part ts b j) ≡ by-reading (moved t h) (trimmed (model-in ts old) .parts) (trimmed-part (stored-part ts old j))
+      trimmed-part (stored-part ts b j) ≡ by-reading (moved t h) (trimmed (model-in ts old) .parts)
+      (trimmed-part (stored-part ts old j))
   unfolding stored-part moved reading0 trimmed-part trimmed-component
   moved-part-at j low =
       let p = stored-part ts old j in
       let ps = trimmed (model-in ts old) .parts in
-      ap (λ (s : State). trimmed-part (with-state p s)) (so-far .states j (omega arith)) ∙ moving t h .unread (reading0 ps p) p
+      ap (λ (s : State). trimmed-part (with-state p s)) (so-far .states j (omega arith)) ∙
+      moving t h .unread (reading0 ps p) p
 
   all-parts : trimmed (model-in ts b) .parts ≡ all-moved t h (trimmed (model-in ts old) .parts)
   unfolding all-moved
@@ -211,11 +231,13 @@ module _ (ts old : List ℕ) (t h : ℕ) (a : List ℕ) (i : ℕ) (b : List ℕ)
       (λ j inside.
       let low : j < part-count ts = omega arith in
       let within : j < length ps = omega (arith, lent-many ts old) in
-      lent-part ts b j low ∙ moved-part-at j low ∙ sym (getD-map-in f ps j blank-part blank-part within ∙ ap f (lent-part ts old j low)))
+      lent-part ts b j low ∙ moved-part-at j low ∙
+      sym (getD-map-in f ps j blank-part blank-part within ∙ ap f (lent-part ts old j low)))
 
   pub moved-done :
       t ≡ tick (model-in ts old .point) →
-      Changed (model-in ts old) (all-moved (tick (model-in ts old .point)) h (trimmed (model-in ts old) .parts)) (model-in ts b)
+      Changed (model-in ts old) (all-moved (tick (model-in ts old .point)) h (trimmed (model-in ts old) .parts))
+      (model-in ts b)
   unfolding trimmed model-in
   moved-done now =
       let moves : ℕ → List Part = λ u. all-moved u h (trimmed (model-in ts old) .parts) in

@@ -21,15 +21,19 @@ use Rattle.step_parts.specs.Fillable.{Wired, wired-at, reading-in-use}
 -- the parts that words mean, trimmed: as many as the table says, each that of its words
 pub lent-many : (ts ss : List ℕ) → length (trimmed (model-in ts ss) .parts) ≡ part-count ts
 unfolding trimmed model-in
-lent-many ts ss = mapped-length trimmed-part (part-count ts) (model-in ts ss .parts) (rw (held-many ts ss) (omega arith))
+lent-many ts ss = mapped-length trimmed-part (part-count ts) (model-in ts ss .parts)
+    (rw (held-many ts ss) (omega arith))
 
-pub lent-part : (ts ss : List ℕ) (i : ℕ) → i < part-count ts → part-at (trimmed (model-in ts ss) .parts) i ≡ trimmed-part (stored-part ts ss i)
+pub lent-part : (ts ss : List ℕ) (i : ℕ) → i < part-count ts →
+    part-at (trimmed (model-in ts ss) .parts) i ≡ trimmed-part (stored-part ts ss i)
 unfolding trimmed model-in
 lent-part ts ss i low =
-    part-trimmed (part-count ts) (model-in ts ss .parts) i low (rw (held-many ts ss) (omega arith)) ∙ ap trimmed-part (held-part ts ss i low)
+    part-trimmed (part-count ts) (model-in ts ss .parts) i low (rw (held-many ts ss) (omega arith)) ∙
+    ap trimmed-part (held-part ts ss i low)
 
 -- and of the kind that the table says
-pub lent-kind : (ts ss : List ℕ) (i : ℕ) → i < part-count ts → part-at (trimmed (model-in ts ss) .parts) i .component .kind ≡ stored-component ts i .kind
+pub lent-kind : (ts ss : List ℕ) (i : ℕ) → i < part-count ts →
+    part-at (trimmed (model-in ts ss) .parts) i .component .kind ≡ stored-component ts i .kind
 unfolding stored-part trimmed-part trimmed-component
 lent-kind ts ss i low = ap (λ (p : Part). p .component .kind) (lent-part ts ss i low)
 

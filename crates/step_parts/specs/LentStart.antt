@@ -1,6 +1,6 @@
--- The start point in words: what filling and settling ask of the words of a model before its start point is filled, and what the model comes to that takes
--- their state. The idea: the new state's words are those of the old one, copied whole, so that the model in words stands for the one at the point before
--- too. Assumes nothing.
+-- The start point in words: what filling and settling ask of the words of a model before its start point is filled, and
+-- what the model comes to that takes their state. The idea: the new state's words are those of the old one, copied
+-- whole, so that the model in words means the one at the point before too. Assumes nothing.
 use Prim.Native.Nat.{ℕ, _≤_}
 use mathlib.Core.Path.{_≡_, refl, sym, ap, subst, _∙_}
 use mathlib.Core.List.{List}
@@ -39,17 +39,23 @@ module _ (m : Model) (u : Unfilled m) (ts os ns : List ℕ) (put : ModelPut m ts
     -- what settling asks
     pub start-settleable : Wired (trimmed (model-in ts fs))
     start-settleable =
-        filled-settleable (trimmed (model-in ts os) .parts) (model-in ts ns) (model-in ts fs) (start-fillable .wired) (fills (trimmed (model-in ts ns) .parts) refl)
+        filled-settleable (trimmed (model-in ts os) .parts) (model-in ts ns) (model-in ts fs) (start-fillable .wired)
+        (fills (trimmed (model-in ts ns) .parts) refl)
 
     -- the words ss, the parts settled: the model that takes their state is the fresh one
     pub start-is :
-        (ss : List ℕ) (r : Model) → Changed (model-in ts fs) (all-settled (trimmed (model-in ts fs) .parts)) (model-in ts ss) → Recalled m ss r →
+        (ss : List ℕ) (r : Model) →
+        Changed (model-in ts fs) (all-settled (trimmed (model-in ts fs) .parts)) (model-in ts ss) →
+        Recalled m ss r →
         (t : Table) → trimmed m ≡ unfilled t → trimmed r ≡ fresh t
     start-is ss r settles back t e =
         let old = trimmed (model-in ts os) .parts in
         back .is ts os (put .is) ∙
         started-is (model-in ts os) (model-in ts ss)
         (subst
-        (λ (ws : List ℕ). Changed (model-in ts ws) (all-settled (filled old (model-in ts ws .point) (trimmed (model-in ts ws) .order) (trimmed (model-in ts ws) .parts))) (model-in ts ss))
-        copied (filled-settled old (model-in ts ns) (model-in ts fs) (model-in ts ss) (fills (trimmed (model-in ts ns) .parts) refl) settles))
+        (λ (ws : List ℕ). Changed (model-in ts ws)
+        (all-settled (filled old (model-in ts ws .point) (trimmed (model-in ts ws) .order)
+        (trimmed (model-in ts ws) .parts))) (model-in ts ss))
+        copied (filled-settled old (model-in ts ns) (model-in ts fs) (model-in ts ss)
+        (fills (trimmed (model-in ts ns) .parts) refl) settles))
         t (put .is ∙ e)

@@ -1,4 +1,5 @@
--- A model's parts changed place by place: readings of ports, what trimming keeps, parts moved, filled and settled, the step that they make, and the start point.
+-- A model's parts changed place by place: readings of ports, what trimming keeps, parts moved, filled and settled, the
+-- step that they make, and the start point.
 pub mod Reading
 pub mod Trimmed
 pub mod Fillable

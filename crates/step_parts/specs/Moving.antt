@@ -37,7 +37,12 @@ pub movable-untrimmed : (t h : ℕ) (p : Part) → Movable t h (trimmed-part p) 
 unfolding trimmed-part trimmed-component gain-of
 movable-untrimmed t h p m =
     record {
-      ranges = record { a = m .ranges .a; held = m .ranges .held; speed = m .ranges .speed; period = m .ranges .period };
+      ranges = record {
+        a = m .ranges .a;
+        held = m .ranges .held;
+        speed = m .ranges .speed;
+        period = m .ranges .period;
+      };
       fits = record { time = m .fits .time; local = m .fits .local };
       gain = m .gain;
     }
@@ -53,7 +58,8 @@ module _ (m : Model) (is-sound : sound m ≡ true) where
       let p = part-at (m .parts) i in
       let range = all-at InRange (m .parts) blank-part i (in-range m is-sound) within in
       let state = all-at (StateFits t) (m .parts) blank-part i (sound-facts m is-sound .states) within in
-      let most = all-at (λ (q : Part). period q ≤ last-tick) (m .parts) blank-part i (sound-periods m is-sound) within in
+      let most = all-at (λ (q : Part). period q ≤ last-tick) (m .parts) blank-part i
+      (sound-periods m is-sound) within in
       let local : p .state .local .0 ≡ t / p .ratio = state .local in
       let grows = div-grows (p .ratio) t (t + h) (omega arith) in
       let gains = div-more (p .ratio) t h in

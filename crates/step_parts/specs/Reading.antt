@@ -1,5 +1,5 @@
--- What a port reads, of the part that it is wired to alone, so that no function is handed a model for it; and that it is the same once the places
--- in no use are cut away. Assumes nothing.
+-- What a port reads, of the part that it is wired to alone, so that no function is handed a model for it; and that it
+-- is the same once the places in no use are cut away. Assumes nothing.
 use Prim.Native.Nat.{ℕ, _≤_, _<_}
 use mathlib.Core.Path.{_≡_, refl, ap}
 use mathlib.Core.List.{List, map}
@@ -46,11 +46,13 @@ index-below n Unwired some below = some
 index-below n (From k) some below = below
 
 -- the part k of the places in use, trimmed
-pub part-trimmed : (n : ℕ) (ps : List Part) (k : ℕ) → k < n → n ≤ length ps → part-at (map trimmed-part (take n ps)) k ≡ trimmed-part (part-at ps k)
+pub part-trimmed : (n : ℕ) (ps : List Part) (k : ℕ) → k < n → n ≤ length ps →
+    part-at (map trimmed-part (take n ps)) k ≡ trimmed-part (part-at ps k)
 part-trimmed n ps k h l = mapped-at trimmed-part n ps k blank-part blank-part h l
 
 -- a port reads the same of the places in use
-pub reading-trimmed : (n : ℕ) (ps : List Part) (s : Source) → SourceBelow n s → n ≤ length ps → reading (map trimmed-part (take n ps)) s ≡ reading ps s
+pub reading-trimmed : (n : ℕ) (ps : List Part) (s : Source) → SourceBelow n s → n ≤ length ps →
+    reading (map trimmed-part (take n ps)) s ≡ reading ps s
 unfolding reading SourceBelow trimmed-part
 reading-trimmed n ps Unwired below l = refl
 reading-trimmed n ps (From k) below l = ap (λ (p : Part). p .state .output) (part-trimmed n ps k below l)

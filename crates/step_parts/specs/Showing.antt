@@ -1,4 +1,5 @@
--- What showing the next part asks, where the outputs before it in the order are filled, and that showing it fills one output more. Assumes nothing.
+-- What showing the next part asks, where the outputs before it in the order are filled, and that showing it fills one
+-- output more. Assumes nothing.
 use Prim.Native.Nat.{ℕ, suc, _+_, _≤_, _<_}
 use native.Mathlib.Omega.{arith}
 use mathlib.Core.Path.{_≡_, refl, sym, ap, subst, _∙_}
@@ -17,7 +18,8 @@ use Rattle.machine.specs.Lists.{All}
 use Rattle.machine.specs.Time.{last-tick}
 use Rattle.machine.specs.Signal.{is-signal}
 use Rattle.machine.specs.Kind.{direct0, direct1, period, output}
-use Rattle.machine.specs.Model.{most-parts, blank-part, part-at, with-parts, reading, reading0, reading1, trimmed, trimmed-part, trimmed-component}
+use Rattle.machine.specs.Model.{most-parts, blank-part, part-at, with-parts, reading, reading0, reading1, trimmed}
+use Rattle.machine.specs.Model.{trimmed-part, trimmed-component}
 use Rattle.machine.specs.Step.{with-output, shown, filled}
 use Rattle.laws.specs.Alls.{all-same-map, same-at}
 use Rattle.laws.specs.ListLaws.{all-at}
@@ -28,11 +30,13 @@ use Rattle.order_laws.specs.Row.{unshown, Feeds}
 use Rattle.step_part.specs.PartRanges as point
 use Rattle.step_parts.specs.Reading.{SourceBelow}
 use Rattle.step_parts.specs.Trimmed.{Changed, changed-count, changed-more}
-use Rattle.step_parts.specs.Fillable.{Wired, Fillable, InRangeUnshown, fillable-numbers, changed-wired, place-in-use, part-in-use, wired-at, reading-in-use}
+use Rattle.step_parts.specs.Fillable.{Wired, Fillable, InRangeUnshown, fillable-numbers, changed-wired}
+use Rattle.step_parts.specs.Fillable.{place-in-use, part-in-use, wired-at, reading-in-use}
 use Rattle.step_parts.specs.Anyway.{direct-signal}
 use Rattle.step_parts.specs.FillingInOrder.{filled-next, shown-trimmed}
 
--- the parts of `new`, trimmed, with the outputs of the first j numbers of its order filled; `old` stands at the point before
+-- the parts of `new`, trimmed, with the outputs of the first j numbers of its order filled; `old` is at the point
+-- before
 abbrev pub partly : Model → Model → ℕ → List Part
 partly old new j = filled (trimmed old .parts) (new .point) (take j (trimmed new .order)) (trimmed new .parts)
 
@@ -53,7 +57,8 @@ module _
   -- the number that is next in the order
   number-next : getD (next .order) i 0 ≡ getD (trimmed new .order) i 0
   unfolding trimmed
-  number-next = sym (getD-take (next .count) (next .order) i 0 within) ∙ ap (λ (x : Model). getD (x .order) i 0) (half .is)
+  number-next = sym (getD-take (next .count) (next .order) i 0 within) ∙
+      ap (λ (x : Model). getD (x .order) i 0) (half .is)
 
   -- there is such a number
   inside : i < length (trimmed new .order)
@@ -65,13 +70,15 @@ module _
   unfolding trimmed
   number-below =
       rw (number-next, changed-count new (partly old new i) next half)
-      (all-at (λ (k : ℕ). k < new .count) (trimmed new .order) 0 i (fillable-numbers (trimmed old) (trimmed new) fit) inside)
+      (all-at (λ (k : ℕ). k < new .count) (trimmed new .order) 0 i
+      (fillable-numbers (trimmed old) (trimmed new) fit) inside)
 
   -- the half filled model is wired as `new` is
   pub half-wired : Wired (trimmed next)
   half-wired =
       changed-wired new (partly old new i) next half
-      (filled-kept (λ (p : Part). p .component) (λ p out. refl) (trimmed old .parts) (new .point) (take i (trimmed new .order)) (trimmed new .parts))
+      (filled-kept (λ (p : Part). p .component) (λ p out. refl) (trimmed old .parts) (new .point)
+      (take i (trimmed new .order)) (trimmed new .parts))
       (fit .wired)
 
   -- its parts are in range, their stored outputs aside
@@ -79,25 +86,29 @@ module _
   half-ranges =
       rw (half .is)
       (all-same-map unshown InRange (partly old new i) (trimmed new .parts)
-      (filled-kept unshown (λ p out. refl) (trimmed old .parts) (new .point) (take i (trimmed new .order)) (trimmed new .parts)) (fit .ranges))
+      (filled-kept unshown (λ p out. refl) (trimmed old .parts) (new .point) (take i (trimmed new .order))
+      (trimmed new .parts)) (fit .ranges))
 
   -- and no P is above 10^18
   half-periods : All (λ (p : Part). period p ≤ last-tick) (trimmed next .parts)
   half-periods =
       rw (half .is)
       (all-same-map (λ (p : Part). period p) (λ (n : ℕ). n ≤ last-tick) (partly old new i) (trimmed new .parts)
-      (filled-kept (λ (p : Part). period p) (λ p out. refl) (trimmed old .parts) (new .point) (take i (trimmed new .order)) (trimmed new .parts))
+      (filled-kept (λ (p : Part). period p) (λ p out. refl) (trimmed old .parts) (new .point)
+      (take i (trimmed new .order)) (trimmed new .parts))
       (fit .periods))
 
   -- the next part's component is that of `new`
-  next-component : trimmed-component (part-at (next .parts) (getD (next .order) i 0) .component) ≡ part-at (trimmed new .parts) (getD (next .order) i 0) .component
+  next-component : trimmed-component (part-at (next .parts) (getD (next .order) i 0) .component) ≡
+      part-at (trimmed new .parts) (getD (next .order) i 0) .component
   unfolding trimmed-part
   next-component =
       let k = getD (next .order) i 0 in
       ap (λ (p : Part). p .component) (part-in-use next half-wired k number-below) ∙
       ap (λ (x : Model). part-at (x .parts) k .component) (half .is) ∙
       same-at (λ (p : Part). p .component) (partly old new i) (trimmed new .parts) k blank-part
-      (filled-kept (λ (p : Part). p .component) (λ p out. refl) (trimmed old .parts) (new .point) (take i (trimmed new .order)) (trimmed new .parts))
+      (filled-kept (λ (p : Part). p .component) (λ p out. refl) (trimmed old .parts) (new .point)
+      (take i (trimmed new .order)) (trimmed new .parts))
 
   -- `new` has such a part
   next-there : getD (next .order) i 0 < length (trimmed new .parts)
@@ -113,7 +124,8 @@ module _
       let ks = trimmed new .order in
       let k = getD (next .order) i 0 in
       rw (reading-in-use next half-wired s below, half .is)
-      (direct-signal (trimmed old .parts) (new .point) (trimmed new .parts) ks (fit .complete) (fit .before) (fit .ranges) (take i ks) (drop (suc i) ks) k s
+      (direct-signal (trimmed old .parts) (new .point) (trimmed new .parts) ks (fit .complete) (fit .before)
+      (fit .ranges) (take i ks) (drop (suc i) ks) k s
       (rw number-next (split-at ks i 0 inside)) next-there (λ j from. subst (Feeds j) next-component (feeds j from)))
 
   -- so the next part can be shown
@@ -125,37 +137,44 @@ module _
       let wired = wired-at next half-wired k number-below in
       let part = part-in-use next half-wired k number-below in
       let range = rw (← part) at (all-at InRangeUnshown (trimmed next .parts) blank-part k half-ranges there) in
-      let most = rw (← part) at (all-at (λ (p : Part). period p ≤ last-tick) (trimmed next .parts) blank-part k half-periods there) in
+      let most = rw (← part) at (all-at (λ (p : Part). period p ≤ last-tick)
+      (trimmed next .parts) blank-part k half-periods there) in
       record {
         place = place-in-use next half-wired i within;
         ranges = record { a = range .a; held = range .held; speed = speed-value _ _ (range .speed); period = most };
-        signal0 = λ direct. port-signal (part-at (next .parts) k .component .port0) (wired .port0) (λ j from. inl (direct, from));
-        signal1 = λ direct. port-signal (part-at (next .parts) k .component .port1) (wired .port1) (λ j from. inr (direct, from));
+        signal0 = λ direct. port-signal (part-at (next .parts) k .component .port0) (wired .port0)
+            (λ j from. inl (direct, from));
+        signal1 = λ direct. port-signal (part-at (next .parts) k .component .port1) (wired .port1)
+            (λ j from. inr (direct, from));
       }
 
   -- showing it fills one output more
   pub shown-next :
       (v : Part) → v ≡ shown (old .parts) (new .point) (next .parts) (part-at (next .parts) (getD (next .order) i 0)) →
-      Changed new (partly old new (i + 1)) (with-parts next (next .point) (set (next .parts) (getD (next .order) i 0) v))
+      Changed new (partly old new (i + 1))
+      (with-parts next (next .point) (set (next .parts) (getD (next .order) i 0) v))
   unfolding trimmed
   shown-next v shows =
       let k = getD (next .order) i 0 in
       let p = part-at (next .parts) k in
       let ks = trimmed new .order in
       let same : old .count ≡ next .count = fit .same ∙ sym (changed-count new (partly old new i) next half) in
-      let is : trimmed-part v ≡ shown (trimmed old .parts) (new .point) (trimmed next .parts) (part-at (trimmed next .parts) k) =
+      let is : trimmed-part v ≡ shown (trimmed old .parts) (new .point) (trimmed next .parts)
+      (part-at (trimmed next .parts) k) =
       ap trimmed-part shows ∙
       shown-trimmed old next (new .point) p half-wired same (fit .counted) (wired-at next half-wired k number-below) ∙
       ap (shown (trimmed old .parts) (new .point) (trimmed next .parts)) (part-in-use next half-wired k number-below) in
       subst (λ (qs : List Part). Changed new qs (with-parts next (next .point) (set (next .parts) k v)))
       (ap (set (partly old new i) k) is ∙
-      ap (λ (x : Model). set (partly old new i) k (shown (trimmed old .parts) (new .point) (x .parts) (part-at (x .parts) k))) (half .is) ∙
+      ap (λ (x : Model). set (partly old new i) k
+      (shown (trimmed old .parts) (new .point) (x .parts) (part-at (x .parts) k))) (half .is) ∙
       (rw number-next (filled-next (trimmed old .parts) (new .point) ks i (trimmed new .parts) inside)))
       (changed-more new (partly old new i) next k v half number-below)
 
 -- all of them filled is the trimmed model filled
 pub all-filled :
-    (old new : Model) → Fillable (trimmed old) (trimmed new) → (r : Model) (i : ℕ) → Changed new (partly old new i) r → r .count ≤ i →
+    (old new : Model) → Fillable (trimmed old) (trimmed new) → (r : Model) (i : ℕ) → Changed new (partly old new i) r →
+    r .count ≤ i →
     Changed new (filled (trimmed old .parts) (new .point) (trimmed new .order) (trimmed new .parts)) r
 unfolding trimmed
 all-filled old new fit r i half past =

@@ -1,4 +1,5 @@
--- The start point: a model of a table before its outputs are filled, and that no delay reads the point before there. Assumes nothing.
+-- The start point: a model of a table before its outputs are filled, and that no delay reads the point before there.
+-- Assumes nothing.
 use Prim.Native.Nat.{ℕ, _*_, _≤_}
 use mathlib.Core.Path.{_≡_, refl, sym, ap, _∙_}
 use mathlib.Core.Bool.{true}
@@ -8,7 +9,8 @@ use lib.Dec.{leb}
 use borrow.Author.Tests.{leb-true}
 use Rattle.machine.specs.declared.signal.Signal.{Signal}
 use Rattle.machine.specs.declared.part.Kind.{Kind}
-use Rattle.machine.specs.declared.part.Kind.the-variants.{Constant, Gain, Adder, Square, Pulse, Delay, Integrator, ResetIntegrator, Detector, Hold, Sampler, Drive, Clapper}
+use Rattle.machine.specs.declared.part.Kind.the-variants.{Constant, Gain, Adder, Square, Pulse, Delay, Integrator}
+use Rattle.machine.specs.declared.part.Kind.the-variants.{ResetIntegrator, Detector, Hold, Sampler, Drive, Clapper}
 use Rattle.machine.specs.declared.part.Component.{Component}
 use Rattle.machine.specs.declared.part.Part.{Part}
 use Rattle.machine.specs.declared.model.Model.{Model}
@@ -33,7 +35,13 @@ use Rattle.step_parts.specs.WiredParts.{component-wired}
 -- the model of a table before its start point is filled
 unfoldable pub unfilled : Table → Model
 unfilled t =
-    record { magnitude = t .magnitude; count = length (t .parts); order = part-order (t .parts); point = start; parts = first-parts t }
+    record {
+      magnitude = t .magnitude;
+      count = length (t .parts);
+      order = part-order (t .parts);
+      point = start;
+      parts = first-parts t;
+    }
 
 -- a model is that of a table that fits
 pub record Unfilled (m : Model) : Type 0 where
@@ -54,16 +62,19 @@ unfilled-fillable t fits =
             few = table .few;
             counted = sym (length-map (t .parts) (first-part t));
             sources =
-                all-map (first-part t) (ComponentFits n) (λ (p : Part). WiredBelow n (p .component)) (t .parts) (component-wired n) (table .components);
+                all-map (first-part t) (ComponentFits n) (λ (p : Part). WiredBelow n (p .component)) (t .parts)
+                (component-wired n) (table .components);
           };
       counted = sym (length-map (t .parts) (first-part t));
       same = refl;
       places = sym (order-length (t .parts) (table .order));
       complete = rw (first-components t) (order-complete (t .parts) (table .order));
       periods =
-          all-map (first-part t) (λ (c : Component). c .p * component-ratio t c ≤ last-tick) (λ (p : Part). period p ≤ last-tick) (t .parts)
+          all-map (first-part t) (λ (c : Component). c .p * component-ratio t c ≤ last-tick)
+          (λ (p : Part). period p ≤ last-tick) (t .parts)
           (λ c small. small)
-          (every-all (λ (c : Component). c .p * component-ratio t c ≤ last-tick) (λ (c : Component). leb (c .p * component-ratio t c) last-tick) (t .parts)
+          (every-all (λ (c : Component). c .p * component-ratio t c ≤ last-tick)
+          (λ (c : Component). leb (c .p * component-ratio t c) last-tick) (t .parts)
           (λ c small. leb-true (c .p * component-ratio t c) last-tick small) (table .periods));
       before = ranges;
       ranges = all-give InRange InRangeUnshown (first-parts t) in-range-unshown ranges;
@@ -71,7 +82,8 @@ unfilled-fillable t fits =
 
 -- at the start point no output reads the point before
 output-at-start :
-    (k : Kind) (p : Part) (x y before before′ : Signal) → output-as k p start x y before ≡ output-as k p start x y before′
+    (k : Kind) (p : Part) (x y before before′ : Signal) →
+    output-as k p start x y before ≡ output-as k p start x y before′
 unfolding output-as
 output-at-start Constant p x y before before′ = refl
 output-at-start Gain p x y before before′ = refl
@@ -88,7 +100,8 @@ output-at-start Drive p x y before before′ = refl
 output-at-start Clapper p x y before before′ = refl
 
 -- so filling it does not depend on the parts of the point before
-filled-at-start : (old old′ : List Part) (ks : List ℕ) (ps : List Part) → filled old start ks ps ≡ filled old′ start ks ps
+filled-at-start : (old old′ : List Part) (ks : List ℕ) (ps : List Part) →
+    filled old start ks ps ≡ filled old′ start ks ps
 unfolding filled shown output
 filled-at-start old old′ [] ps = refl
 filled-at-start old old′ (k ∷ ks) ps =
@@ -99,10 +112,12 @@ filled-at-start old old′ (k ∷ ks) ps =
 
 -- filled and settled, it is the fresh model of the table
 pub started-is :
-    (m r : Model) → Changed m (all-settled (filled (trimmed m .parts) (m .point) (trimmed m .order) (trimmed m .parts))) r →
+    (m r : Model) → Changed m (all-settled (filled (trimmed m .parts) (m .point) (trimmed m .order) (trimmed m .parts)))
+    r →
     (t : Table) → trimmed m ≡ unfilled t → trimmed r ≡ fresh t
 unfolding trimmed fresh unfilled
 started-is m r settles t e =
     settles .is ∙
     ap (λ (x : Model). with-parts x (x .point) (all-settled (filled (x .parts) (x .point) (x .order) (x .parts)))) e ∙
-    ap (λ (ps : List Part). with-parts (unfilled t) start (all-settled ps)) (filled-at-start (first-parts t) [] (part-order (t .parts)) (first-parts t))
+    ap (λ (ps : List Part). with-parts (unfilled t) start (all-settled ps))
+    (filled-at-start (first-parts t) [] (part-order (t .parts)) (first-parts t))

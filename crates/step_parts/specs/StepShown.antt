@@ -1,5 +1,5 @@
--- A step made up to its settling: the parts moved, the time taken on and all outputs shown. A trial is asked for objections there, and settled only where it
--- is taken up. Assumes nothing.
+-- A step made up to its settling: the parts moved, the time taken on and all outputs shown. A trial is asked for
+-- objections there, and settled only where it is taken up. Assumes nothing.
 use Prim.Native.Nat.{ℕ, _≤_}
 use mathlib.Core.Path.{_≡_, refl, ap, _∙_}
 use mathlib.Core.Bool.{true}
@@ -36,14 +36,18 @@ shown-settleable m h is-sound =
     let fit : Fillable m moved = moved-fillable m now h is-sound in
     let parts = filled (m .parts) now (m .order) (moved .parts) in
     record {
-      wired = kept-wired moved now parts (filled-kept (λ (p : Part). p .component) (λ p out. refl) (m .parts) now (m .order) (moved .parts)) (fit .wired);
+      wired = kept-wired moved now parts
+          (filled-kept (λ (p : Part). p .component) (λ p out. refl) (m .parts) now (m .order) (moved .parts))
+          (fit .wired);
       periods =
           all-same-map (λ (p : Part). period p) (λ (n : ℕ). n ≤ last-tick) parts (moved .parts)
-          (filled-kept (λ (p : Part). period p) (λ p out. refl) (m .parts) now (m .order) (moved .parts)) (fit .periods);
+          (filled-kept (λ (p : Part). period p) (λ p out. refl) (m .parts) now (m .order) (moved .parts))
+          (fit .periods);
     }
 
 -- settled, it is the step made
-pub settled-made : (m b r : Model) (h : ℕ) → trimmed b ≡ step-shown m h → Changed b (all-settled (trimmed b .parts)) r → trimmed r ≡ step-made m h
+pub settled-made : (m b r : Model) (h : ℕ) → trimmed b ≡ step-shown m h → Changed b (all-settled (trimmed b .parts)) r →
+    trimmed r ≡ step-made m h
 unfolding step-shown step-made trimmed
 settled-made m b r h shows settles =
     settles .is ∙ ap (λ (x : Model). with-parts x (x .point) (all-settled (x .parts))) shows

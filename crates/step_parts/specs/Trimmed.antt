@@ -1,5 +1,6 @@
--- Models once the places in no use are cut away, and what changing one place in use does to them: moving, filling and settling change one place after
--- the other, so that what they come to is told of the trimmed parts alone. Assumes nothing.
+-- Models once the places in no use are cut away, and what changing one place in use does to them: moving, filling and
+-- settling change one place after the other, so that what they come to is told of the trimmed parts alone. Assumes
+-- nothing.
 use Prim.Native.Nat.{ℕ, _<_}
 use mathlib.Core.Path.{_≡_, refl, ap, _∙_}
 use mathlib.Core.List.{List, map}
@@ -31,7 +32,8 @@ pub changed-more :
 unfolding trimmed
 changed-more m ps next k v c below =
     let n = next .count in
-    let parts : map trimmed-part (take n (set (next .parts) k v)) ≡ set (map trimmed-part (take n (next .parts))) k (trimmed-part v) =
+    let parts : map trimmed-part (take n (set (next .parts) k v)) ≡
+    set (map trimmed-part (take n (next .parts))) k (trimmed-part v) =
     ap (map trimmed-part) (take-set-lt n (next .parts) k v below) ∙ map-set trimmed-part (take n (next .parts)) k v in
     record {
       is =

@@ -1,4 +1,5 @@
--- What soundness says of the parts of a model: where their ports are wired to, and that no P is above 10^18. Assumes nothing.
+-- What soundness says of the parts of a model: where their ports are wired to, and that no P is above 10^18. Assumes
+-- nothing.
 use Prim.Native.Nat.{ℕ, _*_, _≤_, _<_}
 use mathlib.Core.Path.{_≡_, sym, _∙_}
 use mathlib.Core.Bool.{true}
@@ -59,7 +60,8 @@ module _ (m : Model) (is-sound : sound m ≡ true) where
             all-intro (λ (p : Part). WiredBelow (m .count) (p .component)) (m .parts) blank-part
             (λ i h.
             rw sound-many at
-            (component-wired (length (table-of m .parts)) (part-at (m .parts) i .component) (sound-component m is-sound i h)));
+            (component-wired (length (table-of m .parts)) (part-at (m .parts) i .component)
+            (sound-component m is-sound i h)));
       }
 
   -- no P is above 10^18
@@ -70,7 +72,9 @@ module _ (m : Model) (is-sound : sound m ≡ true) where
       (λ i h.
       let within : i < length (table-of m .parts) = rw (sound-many, facts .counted) h in
       let fits =
-      every-at (λ (c : Component). leb (c .p * component-ratio (table-of m) c) last-tick) (table-of m .parts) blank-component i (table .periods) within in
+      every-at (λ (c : Component). leb (c .p * component-ratio (table-of m) c) last-tick)
+      (table-of m .parts) blank-component i (table .periods) within in
       rw (sound-ratio-given m is-sound i h)
-      (leb-true (part-at (m .parts) i .component .p * component-ratio (table-of m) (part-at (m .parts) i .component)) last-tick
+      (leb-true (part-at (m .parts) i .component .p * component-ratio (table-of m) (part-at (m .parts) i .component))
+      last-tick
       (rw (table-component m i) at fits)))

@@ -13,9 +13,9 @@ ghost use Rattle.words_store.specs.ModelIn.{WordsThere, model-in};
 ghost use Rattle.step_parts.specs.Fillable.{Fillable};
 ghost use Rattle.step_parts.specs.StepInto.{FilledInto};
 
-// The outputs of `new` at its point, in the table's part order, worked out in its own words: there is no array of signals. `old`
-// stands at the point before, which delays read. Nothing is asked of the outputs that `new` holds: whatever they are, the
-// definition's are there afterwards.
+// The outputs of `new` at its point, in the table's part order, worked out in its own words: there is no array of
+// signals. `old` is at the point before, which delays read. Nothing is asked of the outputs that `new` holds: whatever
+// they are, the definition's are there afterwards.
 pub(crate) fn filled_into(table: &[u64], old: &[u64], new: &mut [u64])
     requires { ⌜ WordsThere (now table) (now old) ⌝ }
     requires { ⌜ WordsThere (now table) (now new) ⌝ }

@@ -17,7 +17,7 @@ ghost use Rattle.machine.specs.Fresh.{fresh};
 ghost use Rattle.step_parts.specs.Start.{Unfilled, unfilled};
 
 // The model with its start point filled, in words of its own. No delay reads the point before, so the state that is
-// filled stands for it too.
+// filled means it too.
 pub fn started(m: Model) -> Model
     requires { ⌜ Unfilled m ⌝ }
     ensures { λ r. ⌜ ((t : Table) → trimmed m ≡ unfilled t → trimmed r ≡ fresh t) ⌝ }

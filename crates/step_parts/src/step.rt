@@ -14,9 +14,9 @@ ghost use Rattle.machine.specs.Time.{last-microstep};
 ghost use Rattle.words_store.specs.ModelIn.{model-in};
 ghost use Rattle.step_parts.specs.StepInto.{Steppable, TrialInto};
 
-// The model of `old` after a step of `h`, in `new`, before it is settled: a trial is settled only where it is taken up. The
-// words behind the model's are kept. The words of the old state are copied once; then what the step changes of each part
-// is written over them. What is required rules out a step past the time.
+// The model of `old` after a step of `h`, in `new`, before it is settled: a trial is settled only where it is taken up.
+// The words after the model's are kept. The words of the old state are copied once; then what the step changes of each
+// part is written over them. What is required rules out a step past the time.
 pub fn trial_into(table: &[u64], old: &[u64], h: Ticks, new: &mut [u64])
     requires { ⌜ Steppable (now table) (now old) (now new) (h .0) ⌝ }
     requires { ⌜ (h .0 ≡ 0 → model-in (now table) (now old) .point .n < last-microstep) ⌝ }

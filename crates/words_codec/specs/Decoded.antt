@@ -1,5 +1,5 @@
--- What words mean as fields of a part, whatever words they are: a port's number is taken modulo its field's width, and a code that no case has stands for
--- the first case. Assumes nothing.
+-- What words mean as fields of a part, whatever words they are: a port's number is taken modulo its field's width, and
+-- a code that no case has means the first case. Assumes nothing.
 use Prim.Native.Nat.{ℕ, _-_, _%_}
 use mathlib.Core.Bool.{cond}
 use lib.Dec.{eqb}

@@ -1,4 +1,5 @@
--- Laws of tables: how long they are and what stands where; and an array that is filled from the front with a table's elements. Assumes nothing.
+-- Laws of tables: how long they are and what is where; and an array that is filled from the front with a table's
+-- elements. Assumes nothing.
 use Prim.Native.Nat.{ℕ, zero, suc, _+_, _<_, _≤_}
 use native.Mathlib.Numerals.{add-one}
 use native.Mathlib.Omega.{arith}
@@ -27,7 +28,8 @@ module _ {ℓ} {A : Type ℓ} where
   Filled f n i l = (i ≤ n) × (length l ≡ n) × (take i l ≡ tabulate f i)
 
   -- one place more, and all of them
-  pub filled-more : (f : ℕ → A) (n i : ℕ) (l : List A) (v : A) → Filled f n i l → i < n → v ≡ f i → Filled f n (i + 1) (set l i v)
+  pub filled-more : (f : ℕ → A) (n i : ℕ) (l : List A) (v : A) → Filled f n i l → i < n → v ≡ f i →
+      Filled f n (i + 1) (set l i v)
   unfolding tabulate
   filled-more f n i l v filled low e =
       let inside : i < length l = omega (arith, filled .1) in
@@ -38,13 +40,14 @@ module _ {ℓ} {A : Type ℓ} where
       let done : i ≡ n = omega (arith, filled .0) in
       sym (take-all i l (omega (arith, filled .1))) ∙ filled .2 ∙ ap (tabulate f) done
 
-  -- what stands at a place
+  -- what is at a place
   pub table-at : (f : ℕ → A) (n i : ℕ) (d : A) → i < n → getD (tabulate f n) i d ≡ f i
   unfolding tabulate
   table-at f zero i d h = absurd (omega arith)
   table-at f (suc n) i d h = cases (either (ltb i n)) (table-at f n i d)
     where
-      cases : (ltb i n ≡ true) ⊎ (ltb i n ≡ false) → (i < n → getD (tabulate f n) i d ≡ f i) → getD (tabulate f (suc n)) i d ≡ f i
+      cases : (ltb i n ≡ true) ⊎ (ltb i n ≡ false) → (i < n → getD (tabulate f n) i d ≡ f i) →
+          getD (tabulate f (suc n)) i d ≡ f i
       cases (inl e) later =
           let low = ltb-true i n e in
           let inside : i < length (tabulate f n) = rw (length-table f n) low in

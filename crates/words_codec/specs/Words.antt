@@ -1,4 +1,5 @@
--- Numbers as words: a signed one is in two's complement of 64 bits; and a list given by what stands at each place. Assumes nothing.
+-- Numbers as words: a signed one is in two's complement of 64 bits; and a list given by what is at each place. Assumes
+-- nothing.
 use Prim.Native.Nat.{ℕ, zero, suc, _-_}
 use mathlib.Core.Bool.{cond}
 use mathlib.Core.List.{List, [], _∷_, _++_}

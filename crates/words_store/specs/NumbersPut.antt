@@ -55,7 +55,7 @@ module _
   abbrev after : List ℕ
   after = written a (state-record * i) header three
 
-  -- they stand at their places, and every other word is kept
+  -- they are at their places, and every other word is kept
   place : (n : ℕ) → n < 3 → slot after (in-state i (header + n)) ≡ getD three n 0
   place n low = written-at a (state-record * i) header n three low (omega arith)
 
@@ -113,7 +113,7 @@ module _
   three-put is e1 e2 fits0 fits1 fits2 =
       subst (NumbersPut i local held speed a) (sym is) (three-written e1 e2 fits0 fits1 fits2)
 
--- the words outside the record are kept: the states of the other parts, the point, and the words behind the model's
+-- the words outside the record are kept: the states of the other parts, the point, and the words after the model's
 module _ (i local : ℕ) (held speed : ℤ) (a b : List ℕ) (put : NumbersPut i local held speed a b) where
   pub numbers-outside : KeptOutside i a b
   numbers-outside x (inl low) = put .others x (inl low)

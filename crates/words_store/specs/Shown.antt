@@ -66,7 +66,7 @@ module _ (a : List ℕ) (i : ℕ) (out : Signal) (tag word : ℕ) (room : state-
   abbrev after : List ℕ
   after = written a (state-record * i) output-field two
 
-  -- they stand at their places, and every other word is kept: of the record, those before them and those behind them
+  -- they are at their places, and every other word is kept: of the record, those before them and those after them
   place : (n : ℕ) → n < 2 → slot after (in-state i (output-field + n)) ≡ getD two n 0
   place n low = written-at a (state-record * i) output-field n two low (omega arith)
 
@@ -145,6 +145,6 @@ pub held-shown : (ts a b : List ℕ) (i : ℕ) (out : Signal) → OutputPut i ou
 held-shown ts a b i out put low =
     held-outside a b i (output-outside a b i out put) ts (state-shown (stored-state a i) out) (put .is) low
 
--- the words behind the model's are kept
+-- the words after the model's are kept
 pub behind-shown : (n i : ℕ) (out : Signal) (a b : List ℕ) → OutputPut i out a b → i < n → SameBehind n a b
 behind-shown n i out a b put low = behind-outside a b i (output-outside a b i out put) n (put .size) (put .form) low

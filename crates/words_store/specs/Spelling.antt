@@ -17,7 +17,7 @@ use Rattle.words_store.specs.ModelIn.{slot, part-count, table-words, sta
 use Rattle.words_store.specs.Form.{any-32, spans-used, span-limits, words-within}
 use Rattle.words_store.specs.Form.{part-spelled, parts-spelled, spelled}
 
--- the words at k and the limits, from place j on: the first of them, and those behind it
+-- the words at k and the limits, from place j on: the first of them, and those after it
 module _ (ws : List ℕ) (k : ℕ) (ls : List ℕ) where
   within-on :
       (j : ℕ) → j < length ls →
@@ -33,7 +33,7 @@ module _ (ws : List ℕ) (k : ℕ) (ls : List ℕ) where
   pub within-start : words-within ws k ls ≡ words-within ws (k + 0) (drop 0 ls)
   within-start = let same : k ≡ k + 0 = omega arith in ap (λ (x : ℕ). words-within ws x ls) same
 
-  -- a word within its limit leaves the test to those behind it
+  -- a word within its limit leaves the test to those after it
   pub within-more : (all : Bool) (j : ℕ) → j < length ls → all ≡ words-within ws (k + j) (drop j ls) →
       slot ws (k + j) ≤ getD ls j 0 →
       all ≡ words-within ws (k + (j + 1)) (drop (j + 1) ls)
@@ -45,7 +45,7 @@ module _ (ws : List ℕ) (k : ℕ) (ls : List ℕ) where
       all ≡ false
   within-fails all j low e above = e ∙ simp (lt-leb _ _ above) at (within-on j low)
 
-  -- behind the last limit it holds
+  -- after the last limit it holds
   pub within-end : (all : Bool) (j : ℕ) → length ls ≤ j → all ≡ words-within ws (k + j) (drop j ls) → all ≡ true
   unfolding words-within
   within-end all j past e = e ∙ rw (drop-of-length-le ls past) refl

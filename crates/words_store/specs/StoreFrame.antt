@@ -116,7 +116,7 @@ module _ (a b : List ℕ) (i : ℕ) (kept : KeptOutside i a b) where
   unfolding stored-point
   point-outside = rw (kept 0 (inl (omega arith)), kept 1 (inl (omega arith))) refl
 
-  -- and the words behind the model's, where the words of part i's state are within their limits still
+  -- and the words after the model's, where the words of part i's state are within their limits still
   pub behind-outside : (n : ℕ) → length b ≡ length a → (state-spelled a i ≡ true → state-spelled b i ≡ true) → i < n →
       SameBehind n a b
   behind-outside n size form low =
@@ -132,7 +132,7 @@ module _ (a b : List ℕ) (i : ℕ) (kept : KeptOutside i a b) where
           rw same (form (rw same at before))
       form-at j before (inr e) = spelled-outside j (eqb-false j i e) ∙ before
 
-  -- and the model is the one before with part i's state set to the one that stands there
+  -- and the model is the one before with part i's state set to the one that is there
   pub held-outside : (ts : List ℕ) (s : State) → stored-state b i ≡ s → i < part-count ts →
       model-in ts b ≡ with-parts (model-in ts a) (model-in ts a .point)
       (set (model-in ts a .parts) i (with-state (stored-part ts a i) s))
@@ -185,7 +185,7 @@ held-copied ts l a b copy =
 pub copied-whole : (n : ℕ) (l a b : List ℕ) → Copied n l a b → length l ≡ n → length b ≡ n → b ≡ l
 copied-whole n l a b copy all same = ext-getD 0 b l (same ∙ sym all) (λ x inside. copy .front x (omega (arith, same)))
 
--- states within their limits are so still once they are copied, and the words behind them are kept
+-- states within their limits are so still once they are copied, and the words after them are kept
 pub copied-spelled : (n : ℕ) (l a b : List ℕ) → Copied (state-words n) l a b →
     ((j : ℕ) → j < n → state-spelled l j ≡ true) →
     (j : ℕ) → j < n → state-spelled b j ≡ true
@@ -203,7 +203,7 @@ behind-copied n l a b copy spells =
         let high = ltb-false j n e in
         within-same a b (state-words j) state-limits (λ x from to. copy .behind x (omega arith)) ∙ before
 
--- the words behind the model's are kept by both, by nothing, and by one change after another
+-- the words after the model's are kept by both, by nothing, and by one change after another
 pub behind-put : (n i : ℕ) (s : State) (a b : List ℕ) → StatePut i s a b → i < n → SameBehind n a b
 behind-put n i s a b put low = behind-outside a b i (put .others) n (put .size) (λ before. put .form) low
 

@@ -60,7 +60,7 @@ pub record Copied (n : ℕ) (l a b : List ℕ) : Type 0 where
   pub front : (x : ℕ) → x < n → slot b x ≡ slot l x
   pub behind : (x : ℕ) → n ≤ x → slot b x ≡ slot a x
 
--- the words behind a state of n parts, and how many there are, are the same; and states within their limits are so
+-- the words after a state of n parts, and how many there are, are the same; and states within their limits are so
 -- still
 pub record SameBehind (n : ℕ) (a b : List ℕ) : Type 0 where
   pub size : length b ≡ length a

@@ -1,4 +1,4 @@
--- Words written one behind another: what a slice holds after stores at k + j, k + j + 1 and so on, and what stands
+-- Words written one after another: what a slice holds after stores at k + j, k + j + 1 and so on, and what is
 -- where. Assumes nothing.
 use Prim.Native.Nat.{ℕ, zero, suc, _+_, _≤_, _<_}
 use native.Mathlib.Omega.{arith}
@@ -26,7 +26,7 @@ pair-put {l = l} {w = w} first second =
 pub pair-after : {k v l w : ℕ} {a b c : List ℕ} → b ≡ a → PairPut k v l w b c → c ≡ set (set a k v) l w
 pair-after {k} {v} {l} {w} before put = put .is ∙ ap (λ (s : List ℕ). set (set s k v) l w) before
 
--- the words vs put at k + j and the places behind it
+-- the words vs put at k + j and the places after it
 unfoldable pub written : List ℕ → ℕ → ℕ → List ℕ → List ℕ
 written l k j [] = l
 written l k j (v ∷ vs) = written (set l (k + j) v) k (j + 1) vs
@@ -37,7 +37,7 @@ unfolding written
 length-written l k j [] = refl
 length-written l k j (v ∷ vs) = length-written (set l (k + j) v) k (j + 1) vs ∙ length-set l (k + j) v
 
--- a place before them or behind them
+-- a place before them or after them
 abbrev pub Outside : ℕ → ℕ → ℕ → Type 0
 Outside from to x = (x < from) ⊎ (to ≤ x)
 

@@ -1,4 +1,4 @@
-// The model in words that the caller lends: where each number stands, a part read as a record, a part's state written
+// The model in words that the caller lends: where each number is, a part read as a record, a part's state written
 // anew, and whether words spell a model. The contracts cite `specs/ModelIn.antt`, which says what model words mean.
 pub mod form;
 pub mod layout;

@@ -1,5 +1,5 @@
 // How many words a table and a state have, and a part, a point and a place of the part order, read from them. Each
-// function that reads asks that the words of what it reads are there; what stands in them is free.
+// function that reads asks that the words of what it reads are there; what is in them is free.
 //
 // The contracts cite `specs/ModelIn.antt`, and `specs/Form.antt` for the largest word.
 use crate::layout;
@@ -69,7 +69,7 @@ pub fn magnitude_of(table: &[u64]) -> u8
     (table[0] % 256) as u8
 }
 
-// The point at which a state stands.
+// The point at which a state is.
 pub fn point_of(state: &[u64]) -> Point
     requires { ⌜ 2 ≤ length (now state) ⌝ }
     ensures { λ r. ⌜ r ≡ stored-point (now (state .entry)) ⌝ }

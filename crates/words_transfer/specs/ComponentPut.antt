@@ -19,7 +19,8 @@ use Rattle.words_store.specs.WordsWritten.{Outside}
 use Rattle.words_store.specs.Updated.{within-same}
 use Rattle.words_transfer.specs.TableRuns.{OperandsPut, SpansPut, WiresPut}
 
--- the words b are the words a with the record of part i written anew: what the table fixes of it, its ratio, and the number at its place of the order
+-- the words b are the words a with the record of part i written anew: what the table fixes of it, its ratio, and the
+-- number at its place of the order
 pub record ComponentPut (i : ℕ) (c : Component) (ratio number : ℕ) (a b : List ℕ) : Type 0 where
   pub size : length b ≡ length a
   pub is : trimmed-component (stored-component b i) ≡ trimmed-component c

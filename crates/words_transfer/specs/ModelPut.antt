@@ -1,5 +1,6 @@
--- A model by value, put into words: they spell a model, and it is that one, but for the places in no use. The idea: the parts are put one after the other,
--- and a record's words lie behind those of the records before it, so that what is put is still read back at the end. Assumes nothing.
+-- A model by value, put into words: they spell a model, and it is that one, but for the places in no use. The idea: the
+-- parts are put one after the other, and a record's words lie after those of the records before it, so that what is put
+-- is still read back at the end. Assumes nothing.
 use Prim.Native.Nat.{ℕ, _+_, _*_, _%_, _≤_, _<_}
 use native.Mathlib.Omega.{arith}
 use mathlib.Core.Path.{_≡_, refl, sym, ap, _∙_}
@@ -13,7 +14,8 @@ use Rattle.machine.specs.declared.model.Model.{Model}
 use Rattle.machine.specs.Model.{most-parts, blank-part, part-at, trimmed-part, trimmed}
 use Rattle.words_codec.specs.Words.{tabulate}
 use Rattle.words_codec.specs.Tables.{length-table, table-at, below-more}
-use Rattle.words_store.specs.ModelIn.{slot, part-count, table-words, state-words, stored-ratio, ordered-part, stored-part, stored-point, model-in}
+use Rattle.words_store.specs.ModelIn.{slot, part-count, table-words, state-words, stored-ratio, ordered-part}
+use Rattle.words_store.specs.ModelIn.{stored-part, stored-point, model-in}
 use Rattle.words_store.specs.Form.{component-spelled, spelled}
 use Rattle.words_store.specs.Clean.{CleanHeld, CleanOutput, CleanSpans, CleanWords, clean-kept}
 use Rattle.words_store.specs.Updated.{state-spelled, StatePut, PointPut, component-same}
@@ -34,7 +36,7 @@ pub record ModelPut (m : Model) (ts ss : List ℕ) : Type 0 where
 abbrev pub KeptFrom : ℕ → List ℕ → List ℕ → Type 0
 KeptFrom n a b = (x : ℕ) → n ≤ x → slot b x ≡ slot a x
 
--- the words behind a model of n parts are kept, of a table, a and b, and of a state, s and t
+-- the words after a model of n parts are kept, of a table, a and b, and of a state, s and t
 pub record KeptBehind (n : ℕ) (a b s t : List ℕ) : Type 0 where
   pub table : KeptFrom (table-words n) a b
   pub state : KeptFrom (state-words n) s t
@@ -54,11 +56,13 @@ header-put a magnitude count room octet =
     let inside : 1 < length (set a 0 magnitude) = rw (length-set a 0 magnitude) (omega arith) in
     record {
       size = length-set (set a 0 magnitude) 1 count ∙ length-set a 0 magnitude;
-      magnitude-is = getD-set-other (set a 0 magnitude) 1 0 count 0 (λ e. omega arith) ∙ getD-set-same a 0 magnitude 0 (omega arith);
+      magnitude-is = getD-set-other (set a 0 magnitude) 1 0 count 0 (λ e. omega arith) ∙
+          getD-set-same a 0 magnitude 0 (omega arith);
       octet = octet;
       count-is = getD-set-same (set a 0 magnitude) 1 count 0 inside;
       others = λ x far.
-          getD-set-other (set a 0 magnitude) 1 x count 0 (λ e. omega arith) ∙ getD-set-other a 0 x magnitude 0 (λ e. omega arith);
+          getD-set-other (set a 0 magnitude) 1 x count 0 (λ e. omega arith) ∙
+          getD-set-other a 0 x magnitude 0 (λ e. omega arith);
     }
 
 -- part j of m is in the words, but for its places in no use, and so is the number at place j of its order, all in words
@@ -72,7 +76,8 @@ pub record PutAt (m : Model) (j : ℕ) (ts ss : List ℕ) : Type 0 where
   pub held-clean : CleanHeld ss j
   pub output-clean : CleanOutput ss j
 
--- the magnitude, the count, the point and the first i parts of m stand in the words, which are as many as a and s, and the same behind the model's
+-- the magnitude, the count, the point and the first i parts of m are in the words, which are as many as a and s, and
+-- the same after the model's
 pub record PutFirst (m : Model) (i : ℕ) (a s ts ss : List ℕ) : Type 0 where
   pub table-size : length ts ≡ length a
   pub state-size : length ss ≡ length s
@@ -105,14 +110,16 @@ module _
     (a s ts ss us vs : List ℕ)
     (low : i < m .count)
     (before : PutFirst m i a s ts ss)
-    (table-put : ComponentPut i (part-at (m .parts) i .component) (part-at (m .parts) i .ratio) (getD (m .order) i 0) ts us)
+    (table-put : ComponentPut i (part-at (m .parts) i .component) (part-at (m .parts) i .ratio)
+    (getD (m .order) i 0) ts us)
     (state-put : StatePut i (part-at (m .parts) i .state) ss vs) where
-  -- what stood there stays
+  -- what was there stays
   kept : (j : ℕ) → j < i → PutAt m j us vs
   unfolding stored-part stored-ratio ordered-part
   kept j low =
       let at = before .each j low in
-      let words : (x : ℕ) → x < table-words (j + 1) → slot us x ≡ slot ts x = λ x below. table-put .others x (inl (omega arith)) in
+      let words : (x : ℕ) → x < table-words (j + 1) → slot us x ≡ slot ts x =
+      λ x below. table-put .others x (inl (omega arith)) in
       let signals = kept-put ss vs i (part-at (m .parts) i .state) state-put j in
       record {
         part-is =
@@ -196,15 +203,19 @@ trimmed-front k l n long-k long-l each =
 
 -- models are equal trimmed where each field is, of the places in use
 pub trimmed-same :
-    (h m : Model) → h .magnitude ≡ m .magnitude → h .count ≡ m .count → take (m .count) (h .order) ≡ take (m .count) (m .order) →
-    h .point ≡ m .point → map trimmed-part (take (m .count) (h .parts)) ≡ map trimmed-part (take (m .count) (m .parts)) → trimmed h ≡ trimmed m
+    (h m : Model) → h .magnitude ≡ m .magnitude → h .count ≡ m .count →
+    take (m .count) (h .order) ≡ take (m .count) (m .order) →
+    h .point ≡ m .point → map trimmed-part (take (m .count) (h .parts)) ≡
+    map trimmed-part (take (m .count) (m .parts)) → trimmed h ≡ trimmed m
 unfolding trimmed
 trimmed-same h m magnitude count order point parts = rw (magnitude, count, order, point, parts) refl
 
 -- once all parts are put, so is the model
 pub model-put :
-    (m : Model) (a s ts ss : List ℕ) → PutFirst m (m .count) a s ts ss → m .count ≤ most-parts → m .count ≤ length (m .order) →
-    m .count ≤ length (m .parts) → table-words (m .count) ≤ length a → state-words (m .count) ≤ length s → ModelPut m ts ss
+    (m : Model) (a s ts ss : List ℕ) → PutFirst m (m .count) a s ts ss → m .count ≤ most-parts →
+    m .count ≤ length (m .order) →
+    m .count ≤ length (m .parts) → table-words (m .count) ≤ length a → state-words (m .count) ≤ length s →
+    ModelPut m ts ss
 unfolding model-in
 model-put m a s ts ss put few orders parts table-room state-room =
     let n = m .count in
@@ -242,7 +253,8 @@ model-put m a s ts ss put few orders parts table-room state-room =
 
 -- and what was kept since the header and the point were written was kept since before them
 pub behind-put-words :
-    (m : Model) (a b s t ts ss : List ℕ) → HeaderPut (m .magnitude) (m .count) a b → PointPut (m .point) s t → KeptBehind (m .count) b ts t ss → KeptBehind (m .count) a ts s ss
+    (m : Model) (a b s t ts ss : List ℕ) → HeaderPut (m .magnitude) (m .count) a b → PointPut (m .point) s t →
+    KeptBehind (m .count) b ts t ss → KeptBehind (m .count) a ts s ss
 behind-put-words m a b s t ts ss header point behind =
     record {
       table = λ x far. behind .table x far ∙ header .others x (omega arith);

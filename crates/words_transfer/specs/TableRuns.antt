@@ -1,5 +1,6 @@
--- The three runs of words that the record of a part has in a table: its operands, its spans and its wires. Each is written one word behind another, and then
--- read back, from words within their limits, while every other word is kept. Assumes nothing.
+-- The three runs of words that the record of a part has in a table: its operands, its spans and its wires. Each is
+-- written one word after another, and then read back, from words within their limits, while every other word is kept.
+-- Assumes nothing.
 use Prim.Native.Nat.{ℕ, _+_, _-_, _*_, _%_, _≤_, _<_}
 use native.Mathlib.Omega.{arith}
 use mathlib.Core.Path.{_≡_, refl, sym, ap, _∙_}
@@ -12,7 +13,8 @@ use lib.ListN.{length, getD, set, take, length-set, length-replicate, getD-repli
 use lib.Seq.{getD-set-same, getD-set-other}
 use borrow.Author.Tests.{le-leb, lt-ltb, le-ltb, ne-eqb}
 use Rattle.machine.specs.declared.part.Kind.{Kind}
-use Rattle.machine.specs.declared.part.Kind.the-variants.{Constant, Gain, Adder, Square, Pulse, Delay, Integrator, ResetIntegrator, Detector, Hold, Sampler, Drive, Clapper}
+use Rattle.machine.specs.declared.part.Kind.the-variants.{Constant, Gain, Adder, Square, Pulse, Delay, Integrator}
+use Rattle.machine.specs.declared.part.Kind.the-variants.{ResetIntegrator, Detector, Hold, Sampler, Drive, Clapper}
 use Rattle.machine.specs.declared.part.Source.{Source}
 use Rattle.machine.specs.declared.part.Source.the-variants.{Unwired, From}
 use Rattle.machine.specs.Kind.{kind-number, kind-of}
@@ -26,7 +28,8 @@ use Rattle.words_codec.specs.Sized.{FitsSource}
 use Rattle.words_codec.specs.Tables.{length-table, table-at, below-more}
 use Rattle.words_store.specs.ModelIn.{slot, table-words, stored-spans, stored-ratio, ordered-part}
 use Rattle.words_store.specs.Form.{any-word, any-32, operand-limits, spans-used, span-limits, wire-limits, words-within}
-use Rattle.words_store.specs.WordsWritten.{Outside, written, length-written, written-at, written-before, written-outside}
+use Rattle.words_store.specs.WordsWritten.{Outside, written, length-written, written-at, written-before}
+use Rattle.words_store.specs.WordsWritten.{written-outside}
 use Rattle.words_store.specs.Updated.{within-all}
 
 -- the word of span place j, where a part counts so many spans: the span, or 0 where no span is there
@@ -71,7 +74,8 @@ Below (v ∷ vs) [] = ⊥
 Below (v ∷ vs) (l ∷ ls) = (v ≤ l) × Below vs ls
 
 -- such words, as many as the limits, are within them where they are written
-written-within : (a : List ℕ) (k j : ℕ) (vs ls : List ℕ) → length ls ≡ length vs → Below vs ls → k + j + length vs ≤ length a →
+written-within : (a : List ℕ) (k j : ℕ) (vs ls : List ℕ) → length ls ≡ length vs → Below vs ls →
+    k + j + length vs ≤ length a →
     words-within (written a k j vs) (k + j) ls ≡ true
 unfolding words-within written
 written-within a k j vs [] many below room = refl
@@ -84,7 +88,8 @@ written-within a k j (v ∷ vs) (l ∷ ls) many below room =
     let rest : k + (j + 1) + length vs ≤ length (set a (k + j) v) = rw (length-set a (k + j) v) (omega arith) in
     and-intro (leb (slot after (k + j)) l) (words-within after (k + j + 1) ls)
     (ap (λ (x : ℕ). leb x l) here ∙ le-leb v l (below .0))
-    (ap (λ (x : ℕ). words-within after x ls) next ∙ written-within (set a (k + j) v) k (j + 1) vs ls (omega arith) (below .1) rest)
+    (ap (λ (x : ℕ). words-within after x ls) next ∙
+    written-within (set a (k + j) v) k (j + 1) vs ls (omega arith) (below .1) rest)
 
 -- a place outside a run, with the run's end spelled in another way
 outside-as : (from to end k : ℕ) → end ≤ to → Outside from to k → Outside from end k
@@ -118,10 +123,13 @@ source-kept (From k) fits =
 -- six words that are read back as a part's operands, written at their places
 pub operands-put :
     (a : List ℕ) (i : ℕ) (kind : Kind) (preference : ℕ) (x y : ℤ) (p count kind-word x-word y-word : ℕ) →
-    table-words (i + 1) ≤ length a → kind-word ≡ kind-number kind → preference ≤ 255 → decode-signed x-word ≡ x → x-word ≤ any-word →
+    table-words (i + 1) ≤ length a → kind-word ≡ kind-number kind → preference ≤ 255 → decode-signed x-word ≡ x →
+    x-word ≤ any-word →
     decode-signed y-word ≡ y → y-word ≤ any-word → p ≤ any-32 → count ≤ any-word →
-    OperandsPut i kind preference x y p count a (written a (18 * i) 2 (kind-word ∷ preference ∷ x-word ∷ y-word ∷ p ∷ count ∷ []))
-operands-put a i kind preference x y p count kind-word x-word y-word room coded octet x-back x-fits y-back y-fits p-fits count-fits =
+    OperandsPut i kind preference x y p count a
+    (written a (18 * i) 2 (kind-word ∷ preference ∷ x-word ∷ y-word ∷ p ∷ count ∷ []))
+operands-put a i kind preference x y p count kind-word x-word y-word room coded octet x-back x-fits y-back y-fits p-fits
+    count-fits =
     let six : List ℕ = kind-word ∷ preference ∷ x-word ∷ y-word ∷ p ∷ count ∷ [] in
     let place : (n : ℕ) → n < 6 → slot (written a (18 * i) 2 six) (18 * i + (2 + n)) ≡ getD six n 0 =
     λ n low. written-at a (18 * i) 2 n six low (omega arith) in
@@ -134,14 +142,17 @@ operands-put a i kind preference x y p count kind-word x-word y-word room coded 
       b-is = rw (place 3 (omega arith)) y-back;
       p-is = rw (place 4 (omega arith)) (omega arith);
       count-is = place 5 (omega arith);
-      form = written-within a (18 * i) 2 six operand-limits refl (few, (octet, (x-fits, (y-fits, (p-fits, (count-fits, tt)))))) (omega arith);
-      others = λ k out. written-outside a (18 * i) 2 k six (outside-as (18 * i + 2) (18 * i + 8) (18 * i + 2 + 6) k (omega arith) out);
+      form = written-within a (18 * i) 2 six operand-limits refl
+          (few, (octet, (x-fits, (y-fits, (p-fits, (count-fits, tt)))))) (omega arith);
+      others = λ k out. written-outside a (18 * i) 2 k six
+          (outside-as (18 * i + 2) (18 * i + 8) (18 * i + 2 + 6) k (omega arith) out);
     }
 
 -- four words that are read back as a part's wires, written at their places
 pub wires-put :
     (a : List ℕ) (i : ℕ) (port0 port1 : Source) (ratio number word0 word1 : ℕ) → table-words (i + 1) ≤ length a →
-    word0 ≡ encode-source port0 → FitsSource port0 → word1 ≡ encode-source port1 → FitsSource port1 → ratio ≤ any-word → number ≤ 65535 →
+    word0 ≡ encode-source port0 → FitsSource port0 → word1 ≡ encode-source port1 → FitsSource port1 → ratio ≤ any-word →
+    number ≤ 65535 →
     WiresPut i port0 port1 ratio number a (written a (18 * i) 16 (word0 ∷ word1 ∷ ratio ∷ number ∷ []))
 unfolding stored-ratio ordered-part
 wires-put a i port0 port1 ratio number word0 word1 room coded0 fits0 coded1 fits1 ratio-fits number-fits =
@@ -156,8 +167,10 @@ wires-put a i port0 port1 ratio number word0 word1 room coded0 fits0 coded1 fits
       port1-is = rw (place 1 (omega arith), coded1) (source-kept port1 fits1 .1);
       ratio-is = place 2 (omega arith);
       number-is = rw (place 3 (omega arith)) (omega arith);
-      form = written-within a (18 * i) 16 four wire-limits refl (few0, (few1, (ratio-fits, (number-fits, tt)))) (omega arith);
-      others = λ k out. written-outside a (18 * i) 16 k four (outside-as (18 * i + 16) (18 * i + 20) (18 * i + 16 + 4) k (omega arith) out);
+      form = written-within a (18 * i) 16 four wire-limits refl (few0, (few1, (ratio-fits, (number-fits, tt))))
+          (omega arith);
+      others = λ k out. written-outside a (18 * i) 16 k four
+          (outside-as (18 * i + 16) (18 * i + 20) (18 * i + 16 + 4) k (omega arith) out);
     }
 
 -- the words b are the words a with the words of the first j span places written from the place k on
@@ -170,7 +183,13 @@ pub record SpansFirst (k j count : ℕ) (spans a b : List ℕ) : Type 0 where
 -- none at first, and then one place more
 pub spans-none : (k count : ℕ) (spans a : List ℕ) → SpansFirst k 0 count spans a a
 spans-none k count spans a =
-    record { size = refl; front = λ n low. absurd (omega arith); fits = λ n low. absurd (omega arith); others = λ x out. refl }
+    record {
+      size = refl;
+      front = λ n low. absurd (omega arith);
+      fits = λ n low. absurd (omega arith);
+      others =
+          λ x out. refl;
+    }
 
 pub spans-more : (k j count : ℕ) (spans a b : List ℕ) (v : ℕ) → SpansFirst k j count spans a b → k + j < length b →
     v ≡ used-span count spans j → v < 4294967296 → SpansFirst k (j + 1) count spans a (set b (k + j) v)

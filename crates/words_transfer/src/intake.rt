@@ -118,7 +118,8 @@ pub fn put_fitting(m: Model, table: &mut [u64], state: &mut [u64])
     requires { ⌜ table-words (m .count) ≤ length (now table) ⌝ }
     requires { ⌜ state-words (m .count) ≤ length (now state) ⌝ }
     ensures { λ r. ⌜ ModelPut m (now (table .exit)) (now (state .exit)) ⌝ }
-    ensures { λ r. ⌜ KeptBehind (m .count) (now (table .entry)) (now (table .exit)) (now (state .entry)) (now (state .exit)) ⌝ }
+    ensures { λ r. ⌜ KeptBehind (m .count) (now (table .entry)) (now (table .exit)) (now (state .entry))
+        (now (state .exit)) ⌝ }
 {
     let now = m.point;
     put_header(table, m.magnitude, m.count);

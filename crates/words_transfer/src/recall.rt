@@ -21,7 +21,7 @@ fn in_state(mut p: Part, s: State) -> Part
     p
 }
 
-// The model at the point of a state's words, each of its parts in the state that stands there.
+// The model at the point of a state's words, each of its parts in the state that is there.
 pub fn recalled(m: Model, state: &[u64]) -> Model
     requires { ⌜ m .count ≤ 32 ⌝ }
     requires { ⌜ state-words (m .count) ≤ length (now state) ⌝ }

@@ -1,4 +1,4 @@
--- Laws of `Put`: nothing put, one byte put, a piece put behind another, and a text by another name. Assumes nothing.
+-- Laws of `Put`: nothing put, one byte put, a piece put after another, and a text by another name. Assumes nothing.
 use Prim.Native.Nat.{ℕ, _+_, _-_, _≤_, _<_}
 use native.Mathlib.Numerals.{add-one}
 use native.Mathlib.Omega.{arith}
@@ -10,7 +10,12 @@ use Rattle.write_bytes.specs.Put.{Put}
 
 -- nothing
 pub put-nothing : (at : ℕ) (l : List ℕ) → Put 0 [] at l l at
-put-nothing at l = record { position = omega arith; line = sym (append-nil (take at l)); behind = refl; short = omega arith }
+put-nothing at l = record {
+  position = omega arith;
+  line = sym (append-nil (take at l));
+  behind = refl;
+  short = omega arith;
+}
 
 -- one byte, stored at its place
 pub put-one : (at : ℕ) (l : List ℕ) (b : ℕ) → at < length l → Put 1 (b ∷ []) at l (set l at b) (at + 1)
@@ -22,14 +27,15 @@ put-one at l b h =
       short = omega arith;
     }
 
--- what is kept behind a position is kept behind a later one
+-- what is kept after a position is kept after a later one
 pub drop-more : (p q : ℕ) (l₀ l₁ : List ℕ) → p ≤ q → drop p l₁ ≡ drop p l₀ → drop q l₁ ≡ drop q l₀
 drop-more p q l₀ l₁ h e =
     let sum : q ≡ p + (q - p) = omega arith in
     rw (sum, ← drop-drop (q - p) p l₁, ← drop-drop (q - p) p l₀, e) refl
 
--- a piece behind another
-pub put-then : {a b : ℕ} {t u : List ℕ} {at p q : ℕ} {l₀ l₁ l₂ : List ℕ} → Put a t at l₀ l₁ p → Put b u p l₁ l₂ q → Put (a + b) (t ++ u) at l₀ l₂ q
+-- a piece after another
+pub put-then : {a b : ℕ} {t u : List ℕ} {at p q : ℕ} {l₀ l₁ l₂ : List ℕ} → Put a t at l₀ l₁ p → Put b u p l₁ l₂ q →
+    Put (a + b) (t ++ u) at l₀ l₂ q
 put-then {t = t} {u = u} {p = p} {q = q} {l₀ = l₀} {l₁ = l₁} first second =
     record {
       position = simp length-append (omega arith);
@@ -38,11 +44,13 @@ put-then {t = t} {u = u} {p = p} {q = q} {l₀ = l₀} {l₁ = l₁} first secon
       short = simp length-append (omega arith);
     }
 
--- the line behind a piece, whole
-pub put-whole : {a : ℕ} {t : List ℕ} {at p : ℕ} {l₀ l₁ : List ℕ} → Put a t at l₀ l₁ p → l₁ ≡ (take at l₀ ++ t) ++ drop p l₀
+-- the line after a piece, whole
+pub put-whole : {a : ℕ} {t : List ℕ} {at p : ℕ} {l₀ l₁ : List ℕ} → Put a t at l₀ l₁ p →
+    l₁ ≡ (take at l₀ ++ t) ++ drop p l₀
 put-whole {p = p} {l₁ = l₁} put = sym (take-append-drop p l₁) ∙ ap₂ _++_ (put .line) (put .behind)
 
 -- an equal text, with another bound
-pub put-as : {a b : ℕ} {t u : List ℕ} {at p : ℕ} {l₀ l₁ : List ℕ} → Put a t at l₀ l₁ p → t ≡ u → length u ≤ b → Put b u at l₀ l₁ p
+pub put-as : {a b : ℕ} {t u : List ℕ} {at p : ℕ} {l₀ l₁ : List ℕ} → Put a t at l₀ l₁ p → t ≡ u → length u ≤ b →
+    Put b u at l₀ l₁ p
 put-as put e h =
     record { position = rw (← e) (put .position); line = rw (← e) (put .line); behind = put .behind; short = h }

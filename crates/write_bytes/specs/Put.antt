@@ -4,8 +4,8 @@ use mathlib.Core.List.{List, _++_}
 use Prim.Native.Nat.{ℕ, _+_, _≤_}
 use lib.ListN.{length, take, drop}
 
--- A text of at most `most` characters was put at position `at` of a line, and `next` is the position after it: what lay before it is kept, the text
--- follows, and what lay behind it is kept.
+-- A text of at most `most` characters was put at position `at` of a line, and `next` is the position after it: what lay
+-- before it is kept, the text follows, and what lay after it is kept.
 pub record Put (most : ℕ) (text : List ℕ) (at : ℕ) (before after : List ℕ) (next : ℕ) : Type 0 where
   pub position : next ≡ at + length text
   pub line : take next after ≡ take at before ++ text

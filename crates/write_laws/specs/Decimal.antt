@@ -1,6 +1,7 @@
--- Laws of `decimal`: it is the digits of the tenth part with the last digit behind them, and a number below 10 ^ k has at most k digits; and of `signed-decimal`, by the sign.
--- The definition puts digits in front of characters, with fuel; that the characters stand behind, and that more fuel changes nothing
--- (`digits-enough` of `printing`), give the laws. Assumes nothing.
+-- Laws of `decimal`: it is the digits of the tenth part with the last digit after them, and a number below 10 ^ k has
+-- at most k digits; and of `signed-decimal`, by the sign. The definition puts digits in front of characters, with fuel;
+-- that the characters are after, and that more fuel changes nothing (`digits-enough` of `printing`), give the laws.
+-- Assumes nothing.
 use Prim.Native.Nat.{ℕ, zero, suc, _+_, _/_, _%_, _^_, _≤_, _<_}
 use native.Mathlib.Nat.{pow-suc}
 use native.Mathlib.Omega.{arith}
@@ -20,11 +21,13 @@ use Rattle.laws.specs.Bools.{either}
 use Rattle.laws.specs.Signed.{negative, not-negative}
 use Rattle.write_laws.specs.LineFuel.{digits-enough}
 
--- the characters given stand behind the digits
+-- the characters given are after the digits
 before-append : (f n : ℕ) (cs : List ℕ) → digits-before f n cs ≡ digits-before f n [] ++ cs
 unfolding digits-before
 before-append zero n cs = refl
-before-append (suc f) n cs = cases (either (ltb n 10)) (before-append f (n / 10) ((48 + n % 10) ∷ cs)) (before-append f (n / 10) ((48 + n % 10) ∷ []))
+before-append (suc f) n cs =
+    cases (either (ltb n 10)) (before-append f (n / 10) ((48 + n % 10) ∷ cs))
+    (before-append f (n / 10) ((48 + n % 10) ∷ []))
   where
     cases :
         (ltb n 10 ≡ true) ⊎ (ltb n 10 ≡ false) →
@@ -78,7 +81,12 @@ tenth-digits n h = simp (more-digits n h, length-append)
 pub hundredth-digits : (n : ℕ) → 100 ≤ n → length (decimal n) ≡ length (decimal (n / 100)) + 2
 hundredth-digits n h =
     let same : n / 10 / 10 ≡ n / 100 = omega arith in
-    omega (arith, tenth-digits n (omega arith), tenth-digits (n / 10) (omega arith), ap (λ (k : ℕ). length (decimal k)) same)
+    omega (
+      arith,
+      tenth-digits n (omega arith),
+      tenth-digits (n / 10) (omega arith),
+      ap (λ (k : ℕ). length (decimal k)) same,
+    )
 
 -- a value's text, by its sign
 pub negative-text : (v : ℤ) → ltZ v (pos 0) ≡ true → signed-decimal v ≡ hyphen ∷ decimal (natAbs v)

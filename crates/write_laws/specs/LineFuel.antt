@@ -1,5 +1,6 @@
--- The turns that `lines-from` may take and the places that `digits-before` may fill are never all used: any larger number gives the same text.
--- The idea: a score command takes a byte or more, and a number of more than one digit is larger than its tenth. Assumes nothing.
+-- The turns that `lines-from` may take and the places that `digits-before` may fill are never all used: any larger
+-- number gives the same text. The idea: a score command takes a byte or more, and a number of more than one digit is
+-- larger than its tenth. Assumes nothing.
 use Prim.Native.Nat.{ℕ, zero, suc, _+_, _/_, _%_, _≤_, _<_}
 use native.Mathlib.Omega.{arith}
 use mathlib.Core.Path.{_≡_, refl, ap}
@@ -37,7 +38,8 @@ command-later bs at b =
 
 score-later : (bs : List ℕ) (at : ℕ) → LaterScore at (score-at bs at)
 unfolding score-at
-score-later bs at = cond-cases (LaterScore at) (ltb at (length bs)) _ _ (λ inside. command-later bs at (byte-at bs at)) (λ past. tt)
+score-later bs at = cond-cases (LaterScore at) (ltb at (length bs)) _ _ (λ inside. command-later bs at (byte-at bs at))
+    (λ past. tt)
 
 -- where a step is wanted, its position lies within the stream
 abbrev Inside : ℕ → ℕ → Score → Type 0
@@ -81,7 +83,8 @@ lines-enough (suc n) (suc k) bs at m few many = by-score (score-at bs at) (score
   where
     by-score :
         (s : Score) → LaterScore at s →
-        ((next : ℕ) (z : Model) → length bs < next + n → length bs < next + k → lines-from n bs next z ≡ lines-from k bs next z) →
+        ((next : ℕ) (z : Model) → length bs < next + n → length bs < next + k →
+        lines-from n bs next z ≡ lines-from k bs next z) →
         score-lines s (λ r next. lines-from n bs next (r .model)) (advance m) ≡
         score-lines s (λ r next. lines-from k bs next (r .model)) (advance m)
     by-score End later rest = refl

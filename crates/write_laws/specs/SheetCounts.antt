@@ -1,5 +1,5 @@
--- What a sound committed answer shows fits the fields of a sheet line: t, n, the step, the counts and each chosen output. The idea is `few-digits`: a number
--- below 10 ^ k has at most k digits. Assumes nothing.
+-- What a sound committed answer shows fits the fields of a sheet line: t, n, the step, the counts and each chosen
+-- output. The idea is `few-digits`: a number below 10 ^ k has at most k digits. Assumes nothing.
 use Prim.Native.Nat.{ℕ, suc, _≤_}
 use native.Mathlib.Omega.{arith}
 use mathlib.Core.Path.{_≡_}
@@ -14,7 +14,8 @@ use Rattle.machine.specs.Time.{last-tick, last-microstep}
 use Rattle.machine.specs.Advance.{longest-wanted}
 use Rattle.machine.specs.WholeList.{most-rounds, most-revisions}
 use Rattle.machine.specs.Rehearse.{decimal, signed-decimal, signal-text}
-use Rattle.machine.specs.Sheet.{ShownStep, shown-fits, texts-fit, field-texts, tick-width, microstep-width, step-width, rounds-width, revisions-width, output-width}
+use Rattle.machine.specs.Sheet.{ShownStep, shown-fits, texts-fit, field-texts, tick-width, microstep-width, step-width}
+use Rattle.machine.specs.Sheet.{rounds-width, revisions-width, output-width}
 use Rattle.write_laws.specs.Decimal.{few-digits}
 
 -- the tick, the microstep, the step and the counts
@@ -48,8 +49,10 @@ signal-short (Value (negsuc n)) h =
 
 -- all of them at once
 pub answer-fits :
-    (m t n step rounds revisions : ℕ) (x y z : Signal) → m ≤ 600 → t ≤ last-tick → n ≤ last-microstep → step ≤ longest-wanted → rounds ≤ most-rounds m →
-    revisions ≤ most-revisions → is-signal x ≡ true → is-signal y ≡ true → is-signal z ≡ true → shown-fits (ShownStep t n step rounds revisions x y z) ≡ true
+    (m t n step rounds revisions : ℕ) (x y z : Signal) → m ≤ 600 → t ≤ last-tick → n ≤ last-microstep →
+    step ≤ longest-wanted → rounds ≤ most-rounds m →
+    revisions ≤ most-revisions → is-signal x ≡ true → is-signal y ≡ true → is-signal z ≡ true →
+    shown-fits (ShownStep t n step rounds revisions x y z) ≡ true
 unfolding shown-fits texts-fit field-texts
 answer-fits m t n step rounds revisions x y z parts ticks micros wanted many most first second third =
     rw (

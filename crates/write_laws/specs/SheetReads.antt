@@ -1,5 +1,6 @@
--- A field of a sheet line reads back as what was put into it: a number in base ten as itself, and an output as itself, whatever blanks stand before. The
--- characters of `decimal n` are digits and spell n, by induction from a number to its tenth part; blanks and hyphens are no digits. Assumes nothing.
+-- A field of a sheet line reads back as what was put into it: a number in base ten as itself, and an output as itself,
+-- whatever blanks are before. The characters of `decimal n` are digits and spell n, by induction from a number to its
+-- tenth part; blanks and hyphens are no digits. Assumes nothing.
 use Prim.Native.Nat.{ℕ, zero, suc, _+_, _-_, _*_, _/_, _%_, _≤_, _<_}
 use native.Mathlib.Omega.{arith}
 use mathlib.Core.Path.{_≡_, refl, _∙_}
@@ -24,9 +25,10 @@ use Rattle.write_laws.specs.Decimal.{one-digit, more-digits, some-digits
 abbrev pub Digit : ℕ → Type 0
 Digit c = (48 ≤ c) × (c ≤ 57)
 
--- induction on a number's digits: what holds of numbers below 10, and of a larger number where it holds of its tenth part, holds of all numbers. First of
--- those up to a bound
-up-to : (P : ℕ → Type 0) → ((n : ℕ) → n < 10 → P n) → ((n : ℕ) → 10 ≤ n → P (n / 10) → P n) → (most n : ℕ) → n ≤ most → P n
+-- induction on a number's digits: what holds of numbers below 10, and of a larger number where it holds of its tenth
+-- part, holds of all numbers. First of those up to a bound
+up-to : (P : ℕ → Type 0) → ((n : ℕ) → n < 10 → P n) → ((n : ℕ) → 10 ≤ n → P (n / 10) → P n) → (most n : ℕ) → n ≤ most →
+    P n
 up-to P one more zero n h = one n (omega arith)
 up-to P one more (suc most) n h = by-test (either (ltb n 10)) (up-to P one more most (n / 10))
   where
@@ -53,7 +55,7 @@ digit-passes : (c : ℕ) → Digit c → is-digit c ≡ true
 unfolding is-digit
 digit-passes c h = and-intro (leb 48 c) (leb c 57) (le-leb 48 c (h .0)) (le-leb c 57 (h .1))
 
--- what is read of a text behind another
+-- what is read of a text after another
 pub read-append : (n : ℕ) (a b : List ℕ) → digits-read n (a ++ b) ≡ digits-read (digits-read n a) b
 unfolding digits-read
 read-append n [] b = refl
@@ -76,7 +78,12 @@ unfolding number-read
 decimal-read =
     by-digits (λ n. digits-read 0 (decimal n) ≡ n)
     (λ n h. rw (one-digit n h, read-digit 0 (48 + n % 10) (last-digit n)) (omega arith))
-    (λ n h tenth. rw (more-digits n h, read-append 0 (decimal (n / 10)) ((48 + n % 10) ∷ []), tenth, read-digit (n / 10) (48 + n % 10) (last-digit n))
+    (λ n h tenth. rw (
+      more-digits n h,
+      read-append 0 (decimal (n / 10)) ((48 + n % 10) ∷ []),
+      tenth,
+      read-digit (n / 10) (48 + n % 10) (last-digit n),
+    )
     (omega arith))
 
 -- the blanks before a text in a field change nothing of the number read

@@ -1,5 +1,6 @@
--- Rows of texts in fields: where each text is as wide as its field or less, the row is its columns and a line feed, and its fields are the texts, each
--- right-aligned. The idea: a field then has its width, so that the next begins one character behind it. Assumes nothing.
+-- Rows of texts in fields: where each text is as wide as its field or less, the row is its columns and a line feed, and
+-- its fields are the texts, each right-aligned. The idea: a field then has its width, so that the next begins one
+-- character after it. Assumes nothing.
 use Prim.Native.Nat.{ℕ, zero, suc, _+_, _-_, _≤_}
 use native.Mathlib.Numerals.{add-one}
 use native.Mathlib.Omega.{arith}
@@ -21,7 +22,7 @@ pub aligned-length : (w : ℕ) (t : List ℕ) → length t ≤ w → length (rig
 unfolding right-aligned
 aligned-length w t h = simp (length-append, length-replicate) (omega arith)
 
--- so does one filled up behind
+-- so does one filled up after
 pub filled-length : (w : ℕ) (t : List ℕ) → length t ≤ w → length (filled-up w t) ≡ w
 unfolding filled-up
 filled-length w t h = simp (length-append, length-replicate) (omega arith)
@@ -39,7 +40,8 @@ Filled P (w ∷ ws) [] = ⊥
 Filled P (w ∷ ws) (t ∷ ts) = (length t ≤ w) × All P t × Filled P ws ts
 
 -- so it is with texts that fit, as many as there are fields
-pub fit-filled : (P : ℕ → Type 0) (ws : List ℕ) (ts : List (List ℕ)) → length ts ≡ length ws → All (All P) ts → texts-fit ws ts ≡ true → Filled P ws ts
+pub fit-filled : (P : ℕ → Type 0) (ws : List ℕ) (ts : List (List ℕ)) → length ts ≡ length ws → All (All P) ts →
+    texts-fit ws ts ≡ true → Filled P ws ts
 unfolding texts-fit
 fit-filled P [] [] same all fit = tt
 fit-filled P [] (t ∷ ts) same all fit = absurd (omega arith)
@@ -55,7 +57,7 @@ abbrev pub columns-wide : ℕ → List ℕ → ℕ
 columns-wide w [] = w
 columns-wide w (v ∷ ws) = w + suc (columns-wide v ws)
 
--- a line's columns, so many and of characters that have P, with the line feed behind them
+-- a line's columns, so many and of characters that have P, with the line feed after them
 pub record LineColumns (P : ℕ → Type 0) (wide : ℕ) (line : List ℕ) : Type 0 where
   pub columns : List ℕ
   pub many : length columns ≡ wide
@@ -73,11 +75,17 @@ all-filled P w t p h = all-append P t (replicate (w - length t) blank) h (all-bl
 
 -- a row has columns
 pub row-columns :
-    (P : ℕ → Type 0) (w : ℕ) (ws : List ℕ) (ts : List (List ℕ)) → P blank → Filled P (w ∷ ws) ts → LineColumns P (columns-wide w ws) (row (w ∷ ws) ts)
+    (P : ℕ → Type 0) (w : ℕ) (ws : List ℕ) (ts : List (List ℕ)) → P blank → Filled P (w ∷ ws) ts →
+    LineColumns P (columns-wide w ws) (row (w ∷ ws) ts)
 unfolding row
 row-columns P w ws [] p h = absurd h
 row-columns P w [] (t ∷ []) p h =
-    record { columns = right-aligned w t; many = aligned-length w t (h .0); each = all-aligned P w t p (h .1); whole = refl }
+    record {
+      columns = right-aligned w t;
+      many = aligned-length w t (h .0);
+      each = all-aligned P w t p (h .1);
+      whole = refl;
+    }
 row-columns P w [] (t ∷ u ∷ ts) p h = absurd (h .2)
 row-columns P w (v ∷ ws) (t ∷ ts) p h =
     let rest = row-columns P v ws ts p (h .2) in
@@ -86,7 +94,8 @@ row-columns P w (v ∷ ws) (t ∷ ts) p h =
       columns = text ++ (blank ∷ rest .columns);
       many = simp (length-append, aligned-length w t (h .0), rest .many) refl;
       each = all-append P text (blank ∷ rest .columns) (all-aligned P w t p (h .1)) (p, rest .each);
-      whole = ap (λ l. text ++ (blank ∷ l)) (rest .whole) ∙ sym (append-assoc text (blank ∷ rest .columns) (line-feed ∷ []));
+      whole = ap (λ l. text ++ (blank ∷ l)) (rest .whole) ∙
+          sym (append-assoc text (blank ∷ rest .columns) (line-feed ∷ []));
     }
 
 -- the texts in their fields
@@ -95,12 +104,13 @@ aligned [] ts = []
 aligned (w ∷ ws) [] = []
 aligned (w ∷ ws) (t ∷ ts) = right-aligned w t ∷ aligned ws ts
 
--- what stands behind a field of width w and the character behind it
+-- what is after a field of width w and the character after it
 drop-field : (w b : ℕ) (t rest : List ℕ) → length t ≡ w → drop (suc w) (t ++ (b ∷ rest)) ≡ rest
 drop-field w b t rest e = rw (← e, ← add-one (length t)) (drop-append-add t (b ∷ rest) 1)
 
 -- a row's fields are those
-pub row-fields : (P : ℕ → Type 0) (ws : List ℕ) (ts : List (List ℕ)) → Filled P ws ts → fields-of ws (row ws ts) ≡ aligned ws ts
+pub row-fields : (P : ℕ → Type 0) (ws : List ℕ) (ts : List (List ℕ)) → Filled P ws ts →
+    fields-of ws (row ws ts) ≡ aligned ws ts
 unfolding fields-of row
 row-fields P [] ts h = refl
 row-fields P (w ∷ ws) [] h = absurd h

@@ -1,5 +1,5 @@
--- A line whose length was worked out before: refused where the buffer is shorter, or put at its front, each with a bound of its length; and how long
--- lines and their pieces are, by the digits of their numbers. Assumes nothing.
+-- A line whose length was worked out before: refused where the buffer is shorter, or put at its front, each with a
+-- bound of its length; and how long lines and their pieces are, by the digits of their numbers. Assumes nothing.
 use Prim.Native.Nat.{ℕ, _+_, _≤_, _<_}
 use native.Mathlib.Omega.{arith}
 use mathlib.Core.Path.{_≡_, refl}
@@ -22,7 +22,8 @@ use Rattle.write_lines.specs.LineNumbers.{numbers-text}
 abbrev pub Bounded : ℕ → List ℕ → List ℕ → List ℕ → Written → Type 0
 Bounded most text before after w = WrittenAs 0 text before after w × (w .length ≤ most)
 
-bounded : {text before after : List ℕ} {w : Written} (most : ℕ) → WrittenAs 0 text before after w → length text ≤ most → Bounded most text before after w
+bounded : {text before after : List ℕ} {w : Written} (most : ℕ) → WrittenAs 0 text before after w → length text ≤ most →
+    Bounded most text before after w
 bounded most written short = (written, rw (size-told written) short)
 
 -- one that has no room, and one that was put
@@ -30,7 +31,8 @@ pub no-room : (most : ℕ) (text buf : List ℕ) (n : ℕ) → n ≡ length text
     Bounded most text buf buf (record { number = too-short; length = n })
 no-room most text buf n size few short = rw size (bounded most (left-out text buf (rw size at short)) few)
 
-pub room : {bound end : ℕ} {text before after : List ℕ} (most : ℕ) → Put bound text 0 before after end → length text ≤ most →
+pub room : {bound end : ℕ} {text before after : List ℕ} (most : ℕ) → Put bound text 0 before after end →
+    length text ≤ most →
     length text ≤ length before → Bounded most text before after (record { number = 0; length = end })
 room most put few long = bounded most (put-in long put) few
 
@@ -39,13 +41,15 @@ pub refused-size : (number : ℕ) → length (refused-line number) ≡ length (d
 unfolding refused-line
 refused-size number = simp length-append (omega arith)
 
-pub refused-at-size : (number position : ℕ) → length (refused-at-line number position) ≡ length (decimal number) + length (decimal position) + 13
+pub refused-at-size : (number position : ℕ) →
+    length (refused-at-line number position) ≡ length (decimal number) + length (decimal position) + 13
 unfolding refused-at-line
 refused-at-size number position = simp length-append (omega arith)
 
 pub numbers-size : (t n step rounds revisions : ℕ) →
     length (numbers-text t n step rounds revisions) ≡
-    length (decimal t) + length (decimal n) + length (decimal step) + length (decimal rounds) + length (decimal revisions) + 4
+    length (decimal t) + length (decimal n) + length (decimal step) + length (decimal rounds) + length
+    (decimal revisions) + 4
 unfolding numbers-text
 numbers-size t n step rounds revisions = simp length-append (omega arith)
 
@@ -62,7 +66,8 @@ value-size same = rw same refl
 digits-most : {n : ℕ} → Fits w64 n → length (decimal n) ≤ 20
 digits-most {n} fits = word-digits n (omega arith)
 
-pub numbers-most : {t n step rounds revisions : ℕ} → Fits w64 t → Fits w64 n → Fits w64 step → Fits w64 rounds → Fits w64 revisions →
+pub numbers-most : {t n step rounds revisions : ℕ} → Fits w64 t → Fits w64 n → Fits w64 step → Fits w64 rounds →
+    Fits w64 revisions →
     length (numbers-text t n step rounds revisions) ≤ 104
 numbers-most {t} {n} {step} {rounds} {revisions} ft fn fstep frounds frevisions =
     omega (

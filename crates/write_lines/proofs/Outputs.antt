@@ -1,6 +1,6 @@
--- Laws of the line of a call on lent words: its outputs one by one, as the words hold them, how long they are, and its text as the pieces in which the
--- code puts it. The idea: the model that the words mean has as many places as parts, trimming it leaves its outputs, and whatever a word is, the signed
--- number that it means has 64 bits. Assumes nothing.
+-- Laws of the line of a call on lent words: its outputs one by one, as the words hold them, how long they are, and its
+-- text as the pieces in which the code puts it. The idea: the model that the words mean has as many places as parts,
+-- trimming it leaves its outputs, and whatever a word is, the signed number that it means has 64 bits. Assumes nothing.
 use Prim.Native.Nat.{ℕ, zero, suc, _+_, _*_, _-_, _≤_, _<_}
 use native.Mathlib.Numerals.{add-one}
 use native.Mathlib.Omega.{arith}
@@ -16,7 +16,8 @@ use Rattle.machine.specs.declared.time.Point.{Point}
 use Rattle.machine.specs.declared.part.Part.{Part}
 use Rattle.machine.specs.Time.{tick}
 use Rattle.machine.specs.Model.{blank-part, trimmed, trimmed-part}
-use Rattle.machine.specs.Rehearse.{answer-line, blank, committed-line, line-feed, outputs-text, refused-line, signal-text, signed-decimal}
+use Rattle.machine.specs.Rehearse.{answer-line, blank, committed-line, line-feed, outputs-text, refused-line}
+use Rattle.machine.specs.Rehearse.{signal-text, signed-decimal}
 use Rattle.laws.specs.Bools.{either}
 use Rattle.write_laws.specs.Decimal.{few-digits}
 use Rattle.words_codec.specs.Words.{decode-signed}
@@ -55,7 +56,8 @@ outputs-trimmed [] = refl
 outputs-trimmed (p ∷ ps) = simp (outputs-trimmed ps)
 
 -- the stored output of a part of the model that words mean
-pub lent-output : (ts ss : List ℕ) (i : ℕ) → i < part-count ts → stored-state ss i .output ≡ getD (model-in ts ss .parts) i blank-part .state .output
+pub lent-output : (ts ss : List ℕ) (i : ℕ) → i < part-count ts →
+    stored-state ss i .output ≡ getD (model-in ts ss .parts) i blank-part .state .output
 unfolding stored-part
 lent-output ts ss i low = sym (ap (λ (p : Part). p .state .output) (held-part ts ss i low))
 
@@ -64,9 +66,11 @@ value-short : (w : ℕ) → length (signed-decimal (decode-signed w)) ≤ 20
 unfolding decode-signed signed-decimal
 value-short w = cases (either (ltb w 9223372036854775808))
   where
-    cases : (ltb w 9223372036854775808 ≡ true) ⊎ (ltb w 9223372036854775808 ≡ false) → length (signed-decimal (decode-signed w)) ≤ 20
+    cases : (ltb w 9223372036854775808 ≡ true) ⊎ (ltb w 9223372036854775808 ≡ false) →
+        length (signed-decimal (decode-signed w)) ≤ 20
     cases (inl e) = rw e (omega (arith, few-digits 18 w (omega (arith, ltb-true w 9223372036854775808 e))))
-    cases (inr e) = rw e (omega (arith, few-digits 18 (suc (18446744073709551615 - w)) (omega (arith, ltb-false w 9223372036854775808 e))))
+    cases (inr e) = rw e (omega
+        (arith, few-digits 18 (suc (18446744073709551615 - w)) (omega (arith, ltb-false w 9223372036854775808 e))))
 
 signal-short : (code w : ℕ) → length (signal-text (decode-signal code w)) ≤ 20
 unfolding decode-signal signal-text
@@ -88,7 +92,8 @@ outputs-longer ts ss i low =
     let inside : i < length (model-in ts ss .parts) = rw (held-many ts ss) low in
     rw (← outputs-more (model-in ts ss .parts) i blank-part inside, length-append, lent-output ts ss i low) refl
 
-pub outputs-few : (ts ss : List ℕ) (i : ℕ) → i ≤ part-count ts → length (outputs-text (take i (model-in ts ss .parts))) ≤ 21 * i
+pub outputs-few : (ts ss : List ℕ) (i : ℕ) → i ≤ part-count ts →
+    length (outputs-text (take i (model-in ts ss .parts))) ≤ 21 * i
 unfolding outputs-text
 outputs-few ts ss zero h = omega arith
 outputs-few ts ss (suc i) h =
@@ -110,7 +115,8 @@ lent-text ts ss now step rounds revisions =
 module _ (ts ss : List ℕ) (now : Point) (step rounds revisions : ℕ) where
   pub lent-size :
       length (lent-text ts ss now step rounds revisions) ≡
-      length (numbers-text (tick now) (now .n) step rounds revisions) + length (outputs-text (model-in ts ss .parts)) + 1
+      length (numbers-text (tick now) (now .n) step rounds revisions) + length
+      (outputs-text (model-in ts ss .parts)) + 1
   lent-size = simp length-append (omega arith)
 
   pub lent-most : length (numbers-text (tick now) (now .n) step rounds revisions) ≤ 104 →
@@ -123,7 +129,8 @@ pub refused-lent : (ts ss : List ℕ) (number step rounds revisions : ℕ) → (
 unfolding answer-line
 refused-lent ts ss number step rounds revisions h ceiling = simp (ne-eqb _ _ h)
 
-pub committed-lent : (ts ss : List ℕ) (number step rounds revisions : ℕ) {now : Point} → number ≡ 0 → now ≡ stored-point ss → (ceiling : ℕ) →
+pub committed-lent : (ts ss : List ℕ) (number step rounds revisions : ℕ) {now : Point} → number ≡ 0 →
+    now ≡ stored-point ss → (ceiling : ℕ) →
     lent-text ts ss now step rounds revisions ≡ answer-line (lent-answer ts ss number step rounds revisions ceiling)
 unfolding answer-line committed-line numbers-text trimmed model-in
 committed-lent ts ss number step rounds revisions h same ceiling =

@@ -15,7 +15,14 @@ use Rattle.words_store.specs.Form.{spelled}
 -- the numbers of a call, with the model that the words of its table and state mean
 abbrev pub lent-answer : List ℕ → List ℕ → (number step rounds revisions ceiling : ℕ) → Answer
 lent-answer ts ss number step rounds revisions ceiling =
-    record { model = trimmed (model-in ts ss); number = number; step = step; rounds = rounds; revisions = revisions; ceiling = ceiling }
+    record {
+      model = trimmed (model-in ts ss);
+      number = number;
+      step = step;
+      rounds = rounds;
+      revisions = revisions;
+      ceiling = ceiling;
+    }
 
 -- what refuses a line before 25 is tested: 24, if the words spell no model. An unsound model has a line too: any
 -- answer's numbers are written

@@ -6,4 +6,5 @@ use Rattle.machine.specs.Rehearse.{blank, decimal}
 -- the numbers that begin the line of a committed advance
 unfoldable pub numbers-text : ℕ → ℕ → ℕ → ℕ → ℕ → List ℕ
 numbers-text t n step rounds revisions =
-    decimal t ++ (blank ∷ (decimal n ++ (blank ∷ (decimal step ++ (blank ∷ (decimal rounds ++ (blank ∷ decimal revisions)))))))
+    decimal t ++ (blank ∷ (decimal n ++
+    (blank ∷ (decimal step ++ (blank ∷ (decimal rounds ++ (blank ∷ decimal revisions)))))))

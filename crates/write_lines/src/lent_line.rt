@@ -21,6 +21,7 @@ ghost use lib.ListN.{length};
 ghost use Rattle.machine.specs.Rehearse.{answer-line, outputs-text};
 ghost use Rattle.words_store.specs.ModelIn.{WordsThere, model-in, part-count};
 ghost use Rattle.machine.specs.Writing.{WrittenAs};
+ghost use Rattle.machine.specs.Model.{most-parts};
 ghost use Rattle.write_bytes.specs.Put.{Put};
 ghost use Rattle.write_lines.specs.LentLines.{LineInto, lent-answer};
 
@@ -33,7 +34,7 @@ const MOST_OUTPUT: usize = 21;
 // How many bytes the outputs of all parts take.
 fn outputs_length(table: &[u64], state: &[u64]) -> usize
     requires { ⌜ WordsThere (now table) (now state) ⌝ }
-    requires { ⌜ part-count (now table) ≤ 32 ⌝ }
+    requires { ⌜ part-count (now table) ≤ most-parts ⌝ }
     ensures { λ r. ⌜ r ≡ length (outputs-text (model-in (now (table .entry)) (now (state .entry)) .parts)) ⌝ }
 {
     let count = parts_of(table);
@@ -46,11 +47,13 @@ fn outputs_length(table: &[u64], state: &[u64]) -> usize
     length
 }
 
-// The outputs of all parts, one behind the other, into a line that has room for them.
+// The outputs of all parts, one after the other, into a line that has room for them.
 fn put_outputs(line: &mut [u8], at: usize, table: &[u64], state: &[u64]) -> usize
     requires { ⌜ WordsThere (now table) (now state) ⌝ }
     requires { ⌜ at + length (outputs-text (model-in (now table) (now state) .parts)) ≤ length (now line) ⌝ }
-    ensures { λ r. ⌜ Put (21 * part-count (now (table .entry))) (outputs-text (model-in (now (table .entry)) (now (state .entry)) .parts)) at (now (line .entry)) (now (line .exit)) r ⌝ }
+    ensures { λ r. ⌜ Put (21 * part-count (now (table .entry)))
+        (outputs-text (model-in (now (table .entry)) (now (state .entry)) .parts)) at (now (line .entry))
+        (now (line .exit)) r ⌝ }
 {
     let count = parts_of(table);
     let mut next = at;
@@ -76,8 +79,10 @@ pub fn write_spelled(
     buf: &mut [u8],
 ) -> Written
     requires { ⌜ WordsThere (now table) (now state) ⌝ }
-    requires { ⌜ part-count (now table) ≤ 32 ⌝ }
-    ensures { λ w. ⌜ ((ceiling : ℕ) → WrittenAs 0 (answer-line (lent-answer (now (table .entry)) (now (state .entry)) number step rounds revisions ceiling)) (now (buf .entry)) (now (buf .exit)) w) ⌝ }
+    requires { ⌜ part-count (now table) ≤ most-parts ⌝ }
+    ensures { λ w. ⌜ ((ceiling : ℕ) →
+        WrittenAs 0 (answer-line (lent-answer (now (table .entry))
+        (now (state .entry)) number step rounds revisions ceiling)) (now (buf .entry)) (now (buf .exit)) w) ⌝ }
     ensures { λ w. ⌜ w .length ≤ 1024 ⌝ }
 {
     if number != 0 {

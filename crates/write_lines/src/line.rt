@@ -1,6 +1,6 @@
-// The lines of a rehearsal's refusals, each written into a buffer that the caller lends, and the numbers that begin the line of
-// a committed advance. A line's length is worked out before the buffer is touched, and the line is put straight into it. The
-// promises cite the machine's `Rehearse.antt` and `Writing.antt`, and `writing`'s `specs/Put.antt`.
+// The lines of a rehearsal's refusals, each written into a buffer that the caller lends, and the numbers that begin the
+// line of a committed advance. A line's length is worked out before the buffer is touched, and the line is put straight
+// into it. The promises cite the machine's `Rehearse.antt` and `Writing.antt`, and `writing`'s `specs/Put.antt`.
 use crate::length::digits_of;
 use crate::text::put_decimal;
 use machine::model::Written;
@@ -80,7 +80,7 @@ pub(crate) fn put_numbers(
     put_decimal(line, at, revisions)
 }
 
-// How many bytes those take, with a blank behind each but the last.
+// How many bytes those take, with a blank after each but the last.
 pub(crate) fn numbers_length(t: u64, n: u64, step: u64, rounds: u64, revisions: u64) -> usize
     ensures { λ r. ⌜ r ≡ length (numbers-text t n step rounds revisions) ⌝ }
 {

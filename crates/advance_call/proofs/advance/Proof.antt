@@ -1,5 +1,6 @@
--- `advance` is the machine's: a model of more parts than there are places is not sound, and any other is put into words, where `advance_into` ends as the
--- machine does; the answer is then the model handed in, or the one that takes the new state.
+-- `advance` is the machine's: a model of more parts than there are places is not sound, and any other is put into
+-- words, where `advance_into` ends as the machine does; the answer is then the model handed in, or the one that takes
+-- the new state.
 use Prim.Native.Nat.{ℕ}
 use native.Mathlib.Omega.{arith}
 use mathlib.Core.Path.{_≡_}
@@ -63,7 +64,8 @@ returns-2 c =
     let advances = c .before .before .before in
     let puts = puts-of advances in
     let s = start-of puts in
-    refused-by-value (s .args .m) (s .args .w) 290 (table-of puts) (old-of puts) _ (new-of advances) (advances .advance-into .result)
+    refused-by-value (s .args .m) (s .args .w) 290 (table-of puts) (old-of puts) _ (new-of advances)
+    (advances .advance-into .result)
     (puts .put-fitting .ensures .0) (omega arith) (advances .advance-into .ensures) (c .if2 .taken)
 
 slice-aggregate-recalled : tie.Need-slice-aggregate-recalled
@@ -78,7 +80,8 @@ returns-3 c =
     let advances = test .before .before .before in
     let puts = puts-of advances in
     let s = start-of puts in
-    committed-by-value (s .args .m) (s .args .w) 290 (table-of puts) (old-of puts) _ (new-of advances) (advances .advance-into .result)
+    committed-by-value (s .args .m) (s .args .w) 290 (table-of puts) (old-of puts) _ (new-of advances)
+    (advances .advance-into .result)
     (puts .put-fitting .ensures .0) (omega arith) (advances .advance-into .ensures) (c .recalled .result)
     (c .recalled .ensures) (test .if2 .left)
 

@@ -1,4 +1,5 @@
--- `advance_into` is the machine's outcome for every argument: 24 where the words spell no sound model, and otherwise what the call promises that asks for one.
+-- `advance_into` is the machine's outcome for every argument: 24 where the words spell no sound model, and otherwise
+-- what the call promises that asks for one.
 use mathlib.Core.Path.{_≡_, sym, subst, _∙_}
 use mathlib.Core.Bool.{true}
 use borrow.Author.Needs.{needs}
@@ -32,13 +33,16 @@ returns c =
 passed : (c : tie.Else1) →
     let sounds = c .before in
     let s = sounds .before .before .before .before in
-    (spelled (s .args .table .now) (s .args .old .now) ≡ true) × (sound (lent-model (s .args .table .now) (s .args .old .now)) ≡ true)
+    (spelled (s .args .table .now) (s .args .old .now) ≡ true) ×
+    (sound (lent-model (s .args .table .now) (s .args .old .now)) ≡ true)
 passed c =
     let sounds = c .before in
     let s = sounds .before .before .before .before in
     let both = sym (sounds .is-sound-in .ensures) ∙ not-false (sounds .is-sound-in .result) (c .if1 .left) in (
-      and-left (spelled (s .args .table .now) (s .args .old .now)) (sound (lent-model (s .args .table .now) (s .args .old .now))) both,
-      and-right (spelled (s .args .table .now) (s .args .old .now)) (sound (lent-model (s .args .table .now) (s .args .old .now))) both,
+      and-left (spelled (s .args .table .now) (s .args .old .now))
+          (sound (lent-model (s .args .table .now) (s .args .old .now))) both,
+      and-right (spelled (s .args .table .now) (s .args .old .now))
+          (sound (lent-model (s .args .table .now) (s .args .old .now))) both,
     )
 
 advance-sound-into-requires : tie.Need-advance-sound-into-requires
@@ -52,7 +56,8 @@ returns-2 c =
     let advances = c .before .before in
     let test = advances .before .before in
     let s = test .before .before .before .before .before in
-    spelled-call (s .args .table .now) (s .args .old .now) (s .args .new .now) (advances .advance-sound-into .last .1 .1 .1 .0) (s .args .w)
+    spelled-call (s .args .table .now) (s .args .old .now) (s .args .new .now)
+    (advances .advance-sound-into .last .1 .1 .1 .0) (s .args .w)
     (advances .advance-sound-into .result) (passed test .0) (advances .advance-sound-into .ensures)
 
 pub advance-into-spec : {M : Type 1} → statement M

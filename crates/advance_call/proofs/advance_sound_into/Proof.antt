@@ -1,5 +1,5 @@
--- `advance_sound_into` is the machine's outcome, and 25: where a number bars the call nothing is written, and where none does the step is within the time,
--- which is what the search asks, and there is room for the new state.
+-- `advance_sound_into` is the machine's outcome, and 25: where a number bars the call nothing is written, and where
+-- none does the step is within the time, which is what the search asks, and there is room for the new state.
 use Prim.Native.Nat.{_≤_}
 use native.Mathlib.Omega.{arith}
 use mathlib.Core.Path.{_≡_, sym, subst, _∙_}
@@ -27,11 +27,13 @@ room s = spelled-room (s .args .table .now) (s .args .old .now) (s .pre .0)
 -- the number is the machine's
 bars-by :
     (bars : tie.After-barred-number) →
-    bars .barred-number .result ≡ barred (lent-model (start-of bars .args .table .now) (start-of bars .args .old .now)) (start-of bars .args .w)
+    bars .barred-number .result ≡ barred (lent-model (start-of bars .args .table .now) (start-of bars .args .old .now))
+    (start-of bars .args .w)
 bars-by bars =
     let s = start-of bars in
     let point = bars .before in
-    bars-lent (s .args .table .now) (s .args .old .now) (point .point-of .result) (s .args .w) (bars .barred-number .result) (s .pre .1)
+    bars-lent (s .args .table .now) (s .args .old .now) (point .point-of .result) (s .args .w)
+    (bars .barred-number .result) (s .pre .1)
     (point .point-of .ensures) (bars .barred-number .ensures)
 
 -- and where it is 0, nothing bars the call
@@ -80,7 +82,8 @@ abbrev bars-of : tie.After-state-words → tie.After-barred-number
 bars-of sized = sized .before .before .before
 
 -- the size as the code counts it
-counted : (sized : tie.After-state-words) → sized .state-words .result ≡ state-words (part-count (start-of (bars-of sized) .args .table .now))
+counted : (sized : tie.After-state-words) →
+    sized .state-words .result ≡ state-words (part-count (start-of (bars-of sized) .args .table .now))
 counted sized = omega (arith, sized .state-words .ensures, sized .before .parts-of .ensures)
 
 barred-outcome-requires-2 : tie.Need-barred-outcome-requires-2

@@ -1,4 +1,5 @@
--- `load` is the definition: what reading the table concludes, finished. An accepted load stops within the stream, whose length is a usize.
+-- `load` is the definition: what reading the table concludes, finished. An accepted load stops within the stream, whose
+-- length is a usize.
 use Prim.Native.Nat.{ℕ, _≤_}
 use native.Mathlib.Omega.{arith}
 use mathlib.Core.Path.{_≡_, sym, _∙_}

@@ -1,5 +1,5 @@
--- `all_direct` maps every part to its direct sources. The loop's invariant: the first i places are so mapped, and the places behind are as they were.
--- The measure is what is left of the 32 places.
+-- `all_direct` maps every part to its direct sources. The loop's invariant: the first i places are so mapped, and the
+-- places after are as they were. The measure is what is left of the 32 places.
 use Prim.Native.Nat.{_-_, _≤_, _<_}
 use native.Mathlib.Omega.{arith}
 use mathlib.Core.Path.{_≡_, refl, _∙_}
@@ -47,8 +47,11 @@ loop-again c =
     let turn = c .before .before .before in
     let parts = turn .before .args .t1 in
     let full : length parts ≡ most-parts = turn .before .good .0 .1 .0 .1 in
-    let here : turn .loop .i < length parts = omega arith in
-    (omega arith, rw (turn .loop .inv .1, c .direct-sources .ensures) (mapped-more direct-of parts _ (turn .loop .i) blank-component here full))
+    let here : turn .loop .i < length parts = omega arith in (
+      omega arith,
+      rw (turn .loop .inv .1, c .direct-sources .ensures)
+          (mapped-more direct-of parts _ (turn .loop .i) blank-component here full),
+    )
 
 returns : tie.Need-returns Inv-loop μ-loop
 returns c =

@@ -1,4 +1,5 @@
--- `all_marked` gives the word of `count` ones: 2 ^ count fits a word of 64 digits, also where `count` is 32, so that the shift loses nothing.
+-- `all_marked` gives the word of `count` ones: 2 ^ count fits a word of 64 digits, also where `count` is 32, so that
+-- the shift loses nothing.
 use Prim.Native.Nat.{_^_, _≤_, _<_}
 use native.Mathlib.Omega.{arith}
 use lib.Pow.{pow-pos, pow-mono}

@@ -1,5 +1,6 @@
--- `lowest` finds the lowest marked part that is ready. The loop's invariant: among the candidates the same is found as among all marks. A turn looks at the
--- first candidate: it is found if it is ready, and without it the same is found if it is not. The measure is the word of candidates.
+-- `lowest` finds the lowest marked part that is ready. The loop's invariant: among the candidates the same is found as
+-- among all marks. A turn looks at the first candidate: it is found if it is ready, and without it the same is found if
+-- it is not. The measure is the word of candidates.
 use Prim.Native.Nat.{ℕ, _*_, _%_, _^_, _<_}
 use native.Mathlib.Omega.{arith}
 use native.Mathlib.Nat.{zero-add}
@@ -29,13 +30,15 @@ candidate w left fits =
 abbrev Inv-loop : tie.InvT-loop
 Inv-loop marks direct candidates₀ candidates =
     (candidates < 2 ^ 32) ×
-    (lowest-among (marks-of 32 candidates) (marks-of 32 marks) 0 direct ≡ lowest-among (marks-of 32 marks) (marks-of 32 marks) 0 direct)
+    (lowest-among (marks-of 32 candidates) (marks-of 32 marks) 0 direct ≡
+    lowest-among (marks-of 32 marks) (marks-of 32 marks) 0 direct)
 
 abbrev μ-loop : tie.MeasureT-loop
 μ-loop marks direct candidates₀ candidates = candidates
 
 -- the first candidate of a turn
-read-first : (c : tie.In-loop Inv-loop μ-loop) → Candidate (c .before .loop .candidates) (trailingZeros 32 (c .before .loop .candidates))
+read-first : (c : tie.In-loop Inv-loop μ-loop) →
+    Candidate (c .before .loop .candidates) (trailingZeros 32 (c .before .loop .candidates))
 read-first c = candidate (c .before .loop .candidates) (c .loop-test .taken) (c .before .loop .inv .0)
 
 loop-holds : tie.Need-loop-holds Inv-loop μ-loop
@@ -64,7 +67,8 @@ returns c =
     let below : trailingZeros 32 w < length direct = omega (arith, it .rest .below) in
     rw (
       ← turn .before .loop .inv .1,
-      found (marks-of 32 w) (marks-of 32 (start .args .marks)) 0 (trailingZeros 32 w) (trailingZeros 32 w) direct no-sources
+      found (marks-of 32 w) (marks-of 32 (start .args .marks)) 0 (trailingZeros 32 w)
+          (trailingZeros 32 w) direct no-sources
           (zero-add (trailingZeros 32 w)) below (it .first) (sym (c .before .ready .ensures) ∙ c .if1 .taken),
     )
 
@@ -89,7 +93,8 @@ loop-again c =
       omega (arith, turn .before .loop .inv .0),
       rw (it .rest .marks)
           (passed (marks-of 32 w) (marks-of 32 (start .args .marks)) 0 (trailingZeros 32 w) (start .args .t1) no-sources
-          (λ i at. let here : i ≡ trailingZeros 32 w = omega arith in rw here (sym (c .before .ready .ensures) ∙ c .if1 .left)) ∙
+          (λ i at. let here : i ≡ trailingZeros 32 w = omega arith in
+          rw here (sym (c .before .ready .ensures) ∙ c .if1 .left)) ∙
           turn .before .loop .inv .1),
     )
 

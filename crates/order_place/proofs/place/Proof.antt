@@ -1,5 +1,6 @@
--- `place` gives the part order. The loop's invariant is `Partway`: the parts placed so far, followed by those that are placed from the marks on, are the order.
--- A turn places the lowest marked part that is ready, and ends the loop where there is none. The measure is the count of ones in the word of marks.
+-- `place` gives the part order. The loop's invariant is `Partway`: the parts placed so far, followed by those that are
+-- placed from the marks on, are the order. A turn places the lowest marked part that is ready, and ends the loop where
+-- there is none. The measure is the count of ones in the word of marks.
 use Prim.Native.Nat.{ℕ, _-_, _*_, _%_, _^_, _≤_, _<_}
 use native.Mathlib.Omega.{arith}
 use mathlib.Core.Path.{_≡_, sym, _∙_}
@@ -36,7 +37,13 @@ turn count direct w k few fits answer =
     let found = sym (lowest-word count w direct few fits) ∙ found-at _ k answer in
     let rest = mark-cleared count w k (found-marked marks marks 0 k (take count direct) found) in
     let below : k < 32 = omega (arith, rest .below) in
-    record { found = found; rest = rest; below = below; shifted = one-mark 32 k below; room = omega (arith, rest .fewer) }
+    record {
+      found = found;
+      rest = rest;
+      below = below;
+      shifted = one-mark 32 k below;
+      room = omega (arith, rest .fewer);
+    }
 
 abbrev Inv-loop : tie.InvT-loop
 Inv-loop count direct order₀ marks₀ order marks = Partway count (take count direct) order marks
@@ -46,7 +53,8 @@ abbrev μ-loop : tie.MeasureT-loop
 
 -- the direct sources are those of the parts
 of-parts : (c : tie.After-all-direct Inv-loop μ-loop) →
-    take (c .before .args .count) (c .all-direct .result) ≡ map direct-of (take (c .before .args .count) (c .before .args .parts))
+    take (c .before .args .count) (c .all-direct .result) ≡
+    map direct-of (take (c .before .args .count) (c .before .args .parts))
 of-parts c = rw (c .all-direct .ensures) (take-map direct-of (c .before .args .count) (c .before .args .parts))
 
 -- there are at most as many ones as parts
@@ -61,7 +69,8 @@ few-ones c =
 turn-of : (c : tie.After-known-told Inv-loop μ-loop) →
     let loop = c .before .before .before .before in
     let start = loop .before .before .before in
-    PlacingTurn (start .args .count) (loop .before .before .all-direct .result) (loop .loop .marks) (c .before .k .given .0 .0)
+    PlacingTurn (start .args .count) (loop .before .before .all-direct .result) (loop .loop .marks)
+    (c .before .k .given .0 .0)
 turn-of c =
     let asked = c .before .before .before in
     let loop = asked .before in
@@ -112,7 +121,8 @@ returns c =
     let nothing =
     sym (lowest-word count (loop .loop .marks) direct (start .pre) (loop .loop .inv .fits)) ∙
     found-nothing _ (sym (asked .lowest .ensures) ∙ c .enum-told .given .1) in
-    ended count (start .args .parts) (take count direct) (loop .loop .order) (loop .loop .marks) (start .pre) (of-parts (loop .before .before))
+    ended count (start .args .parts) (take count direct) (loop .loop .order) (loop .loop .marks) (start .pre)
+    (of-parts (loop .before .before))
     (loop .loop .inv) nothing
 
 cast-order : tie.Need-cast-order Inv-loop μ-loop
@@ -139,7 +149,8 @@ loop-again c =
     let start = loop .before .before .before in
     let count = start .args .count in
     rw (turn-of c .shifted)
-    (turned count (take count (loop .before .before .all-direct .result)) (loop .loop .order) (loop .loop .marks) (c .before .k .given .0 .0)
+    (turned count (take count (loop .before .before .all-direct .result)) (loop .loop .order) (loop .loop .marks)
+    (c .before .k .given .0 .0)
     (start .pre) (loop .loop .inv) (turn-of c .found))
 
 pub place-spec : {M : Type 1} → statement M

@@ -18,7 +18,8 @@ source-placed-requires-2 c κs = search needs
 
 returns-2 : tie.Need-returns-2
 unfolding both-placed
-returns-2 c = simp (sym (c .before .before .source-placed .ensures) ∙ not-false _ (c .before .if1 .left)) (c .source-placed2 .ensures)
+returns-2 c = simp (sym (c .before .before .source-placed .ensures) ∙ not-false _ (c .before .if1 .left))
+    (c .source-placed2 .ensures)
 
 pub ready-spec : {M : Type 1} → statement M
 ready-spec = tie.close (tie.spec source-placed-requires returns source-placed-requires-2 returns-2)

@@ -1,5 +1,5 @@
--- `follows` passes the places of the order. The loop's invariant is `Passed`: the places before i are in turn. What a turn asks of place i decides whether
--- that is in turn too. The measure is what is left of the count.
+-- `follows` passes the places of the order. The loop's invariant is `Passed`: the places before i are in turn. What a
+-- turn asks of place i decides whether that is in turn too. The measure is what is left of the count.
 use Prim.Native.Nat.{_-_, _≤_}
 use native.Mathlib.Numerals.{add-one}
 use mathlib.Core.Path.{_≡_, refl}
@@ -14,7 +14,8 @@ use Rattle.machine.specs.Table.{ordered, part-order}
 use Rattle.machine.specs.Model.{most-parts}
 use Rattle.order_place.specs.Direct.{direct-of}
 use Rattle.order_test.specs.PlacesInTurn.{InTurn}
-use Rattle.order_test.specs.Passed.{Passed, none-passed, one-passed, placed-twice, before-source, after-higher, refused-at, all-accepted}
+use Rattle.order_test.specs.Passed.{Passed, none-passed, one-passed, placed-twice, before-source, after-higher}
+use Rattle.order_test.specs.Passed.{refused-at, all-accepted}
 use Rattle.order_test.proofs.follows.Statement.{statement}
 use Rattle.order_test.proofs.follows.Tie as tie
 
@@ -52,7 +53,8 @@ refused-here : (c : tie.In-loop Inv-loop μ-loop) →
     false ≡ (ordered cs && same (take (args .count) (args .t1)) (part-order cs))
 refused-here c never cs of-parts =
     let start = c .before .before in
-    refused-at (start .args .count) (start .args .t2) (start .args .t1) (sourced start) (long start) cs of-parts (c .before .loop .i)
+    refused-at (start .args .count) (start .args .t2) (start .args .t1) (sourced start) (long start) cs of-parts
+    (c .before .loop .i)
     (c .loop-test .taken) never
 
 loop-holds : tie.Need-loop-holds Inv-loop μ-loop
@@ -142,7 +144,8 @@ loop-again c =
     let back = rw (asked .ready-after .ensures) at (c .if4 .left) in
     rw add-one
     (one-passed _ _ _ _ _ _ (turn .before .loop .inv) (first .if1 .left) (second .if2 .left) ready
-    (c .before .walk-back .result) (c .before .walk-back .ensures .link) back (turn .loop-test .taken) (start .pre) (long start))
+    (c .before .walk-back .result) (c .before .walk-back .ensures .link) back (turn .loop-test .taken) (start .pre)
+    (long start))
 
 returns-5 : tie.Need-returns-5 Inv-loop μ-loop
 returns-5 c = λ cs of-parts.

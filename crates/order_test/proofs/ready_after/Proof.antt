@@ -22,11 +22,13 @@ source-after-requires-2 c κs = search needs
 
 returns : tie.Need-returns
 unfolding ready-after
-returns c = second-larger _ _ _ _ (c .before .before .source-after .ensures) (c .before .source-after2 .ensures) (c .if1 .taken)
+returns c = second-larger _ _ _ _ (c .before .before .source-after .ensures) (c .before .source-after2 .ensures)
+    (c .if1 .taken)
 
 returns-2 : tie.Need-returns-2
 unfolding ready-after
-returns-2 c = first-larger _ _ _ _ (c .before .before .source-after .ensures) (c .before .source-after2 .ensures) (c .if1 .left)
+returns-2 c = first-larger _ _ _ _ (c .before .before .source-after .ensures) (c .before .source-after2 .ensures)
+    (c .if1 .left)
 
 pub ready-after-spec : {M : Type 1} → statement M
 ready-after-spec =

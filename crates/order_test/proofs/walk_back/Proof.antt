@@ -1,4 +1,5 @@
--- `walk_back` follows the links. The loop's invariant: what is passed is no higher than the part at i. The measure is the place.
+-- `walk_back` follows the links. The loop's invariant: what is passed is no higher than the part at i. The measure is
+-- the place.
 use Prim.Native.Nat.{suc, _-_}
 use native.Mathlib.Omega.{arith}
 use mathlib.Core.Path.{_≡_}
@@ -61,7 +62,8 @@ loop-again c =
     let args = start .args in
     let place = turn .before .loop .place in
     let next : suc (place - 1) ≡ place = omega arith in
-    link-more (args .order .now) (args .i) (place - 1) (getD (args .links .now) (place - 1) 0) (rw next (turn .before .loop .inv))
+    link-more (args .order .now) (args .i) (place - 1) (getD (args .links .now) (place - 1) 0)
+    (rw next (turn .before .loop .inv))
     (c .before .if1 .left) (link-before turn)
 
 returns-2 : tie.Need-returns-2 Inv-loop μ-loop

@@ -17,7 +17,8 @@ start-of c = c .before .before .before
 
 -- they do: they were found to, or the call before has
 spells : (c : tie.Joined1) → spelled (start-of c .args .table .now) (start-of c .args .old .now) ≡ true
-spells c = ⊎-elim (λ w. sym (w .1 .ensures) ∙ not-false (w .1 .result) (w .2 .left)) (λ w. start-of c .pre (w .left)) (c .if1 .came)
+spells c = ⊎-elim (λ w. sym (w .1 .ensures) ∙ not-false (w .1 .result) (w .2 .left)) (λ w. start-of c .pre (w .left))
+    (c .if1 .came)
 
 spelled-requires : tie.Need-spelled-requires
 spelled-requires c κs = search needs
@@ -27,12 +28,17 @@ unfolding shows
 returns c = simp (sym (c .before .spelled .ensures) ∙ not-true (c .before .spelled .result) (c .if2 .taken))
 
 parts-of-requires : tie.Need-parts-of-requires
-parts-of-requires c κs = omega (arith, spelled-room (start-of c .args .table .now) (start-of c .args .old .now) (spells c) .table)
+parts-of-requires c κs = omega
+    (arith, spelled-room (start-of c .args .table .now) (start-of c .args .old .now) (spells c) .table)
 
 state-words-requires : tie.Need-state-words-requires
 state-words-requires c κs =
     let known = c .before in
-    omega (arith, spelled-few (start-of known .args .table .now) (start-of known .args .old .now) (spells known), c .parts-of .ensures)
+    omega (
+      arith,
+      spelled-few (start-of known .args .table .now) (start-of known .args .old .now) (spells known),
+      c .parts-of .ensures,
+    )
 
 returns-2 : tie.Need-returns-2
 unfolding shows

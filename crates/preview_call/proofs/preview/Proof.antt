@@ -1,4 +1,4 @@
--- `preview` hands back the model handed in, beside the answer of the advance.
+-- `preview` hands back the model handed in, with the answer of the advance.
 use mathlib.Core.Path.{refl}
 use borrow.Author.Needs.{needs}
 use Rattle.preview_call.proofs.preview.Statement.{statement}

@@ -1,4 +1,5 @@
--- `preview_into` is the advance on words; where that made no round, and a state can be shown, the state handed in is copied, which is the answer's.
+-- `preview_into` is the advance on words; where that made no round, and a state can be shown, the state handed in is
+-- copied, which is the answer's.
 use Prim.Native.Nat.{ℕ}
 use native.Mathlib.Omega.{arith}
 use mathlib.Core.Path.{_≡_, sym, _∙_}
@@ -8,7 +9,8 @@ use lib.ListN.{length}
 use borrow.Author.Needs.{needs}
 use Rattle.words_store.specs.ModelIn.{WordsThere}
 use Rattle.words_store.specs.Spelling.{spelled-room}
-use Rattle.preview_call.specs.PreviewedInto.{shows, shown-spelled, shown-room, found-spelled, searched-preview, unshown-preview, copied-preview}
+use Rattle.preview_call.specs.PreviewedInto.{shows, shown-spelled, shown-room, found-spelled, searched-preview}
+use Rattle.preview_call.specs.PreviewedInto.{unshown-preview, copied-preview}
 use Rattle.preview_call.proofs.preview_into.Statement.{statement}
 use Rattle.preview_call.proofs.preview_into.Tie as tie
 
@@ -36,14 +38,16 @@ returns : tie.Need-returns
 returns c =
     let advances = c .before .before .before .before in
     let s = start-of advances in
-    searched-preview (s .args .table .now) (s .args .old .now) (s .args .w) (s .args .new .now) (left-of advances) (advances .advance-into .result)
+    searched-preview (s .args .table .now) (s .args .old .now) (s .args .w) (s .args .new .now) (left-of advances)
+    (advances .advance-into .result)
     (advances .advance-into .ensures) (λ none. omega (arith, c .if1 .taken))
 
 can-show-requires : tie.Need-can-show-requires
 can-show-requires c κs =
     let advances = asked-of c in
     let s = start-of advances in
-    found-spelled (s .args .table .now) (s .args .old .now) (s .args .w) (s .args .new .now) (left-of advances) (advances .advance-into .result)
+    found-spelled (s .args .table .now) (s .args .old .now) (s .args .w) (s .args .new .now) (left-of advances)
+    (advances .advance-into .result)
     (advances .advance-into .ensures)
 
 -- a state can be shown in the words that the advance left
@@ -59,7 +63,10 @@ kept-in-requires c κs =
     let ts = s .args .table .now in
     let os = s .args .old .now in
     let there = spelled-room ts os (shown-spelled ts os _ (can test)) in
-    let spare : WordsThere ts (left-of (shown-of test)) = record { table = there .table; state = shown-room ts os _ (can test) } in
+    let spare : WordsThere ts (left-of (shown-of test)) = record {
+      table = there .table;
+      state = shown-room ts os _ (can test);
+    } in
     (there, spare)
 
 same-length-2 : tie.Need-same-length-2
@@ -71,8 +78,10 @@ returns-2 c =
     let test = keeps .before .before in
     let advances = shown-of test in
     let s = start-of advances in
-    copied-preview (s .args .table .now) (s .args .old .now) (s .args .w) (s .args .new .now) (left-of advances) (advances .advance-into .result)
-    (advances .advance-into .ensures) (keeps .kept-in .last .1 .1 .0) (omega (arith, test .before .before .if1 .left)) (can test) (keeps .kept-in .ensures)
+    copied-preview (s .args .table .now) (s .args .old .now) (s .args .w) (s .args .new .now) (left-of advances)
+    (advances .advance-into .result)
+    (advances .advance-into .ensures) (keeps .kept-in .last .1 .1 .0) (omega (arith, test .before .before .if1 .left))
+    (can test) (keeps .kept-in .ensures)
 
 same-length-3 : tie.Need-same-length-3
 same-length-3 c = search needs
@@ -82,8 +91,10 @@ returns-3 c =
     let asks = c .before in
     let advances = asked-of (asks .before) in
     let s = start-of advances in
-    unshown-preview (s .args .table .now) (s .args .old .now) (s .args .w) (s .args .new .now) (left-of advances) (advances .advance-into .result)
-    (advances .advance-into .ensures) (omega (arith, asks .before .if1 .left)) (sym (asks .can-show .ensures) ∙ c .if2 .left)
+    unshown-preview (s .args .table .now) (s .args .old .now) (s .args .w) (s .args .new .now) (left-of advances)
+    (advances .advance-into .result)
+    (advances .advance-into .ensures) (omega (arith, asks .before .if1 .left)) (sym (asks .can-show .ensures) ∙
+    c .if2 .left)
 
 pub preview-into-spec : {M : Type 1} → statement M
 preview-into-spec =

@@ -21,7 +21,8 @@ returns c =
     let refused = line .before .before in
     let loads = refused .before .before in
     let start = loads .before .before .before in
-    refusal-told _ _ _ (loads .load .result) _ (loads .load .ensures .0) (refused .if1 .taken) (start .pre) (line .write-refused-at .ensures .0)
+    refusal-told _ _ _ (loads .load .result) _ (loads .load .ensures .0) (refused .if1 .taken) (start .pre)
+    (line .write-refused-at .ensures .0)
     (line .write-refused-at .ensures .1)
 
 slice-aggregate-put-fitting : tie.Need-slice-aggregate-put-fitting

@@ -1,4 +1,5 @@
--- `line_end` walks on to a line feed or the text's end. The invariant: it is within the text, at `from` or behind; the measure is what is left of it.
+-- `line_end` walks on to a line feed or the text's end. The invariant: it is within the text, at `from` or after; the
+-- measure is what is left of it.
 use Prim.Native.Nat.{_-_, _≤_}
 use native.Mathlib.Omega.{arith}
 use lib.ListN.{length}

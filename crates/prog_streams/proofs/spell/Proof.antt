@@ -1,4 +1,5 @@
--- `spell` takes the characters in turn. The invariant: the count is within the bytes, which keep their length; the measure is what is left of the line.
+-- `spell` takes the characters in turn. The invariant: the count is within the bytes, which keep their length; the
+-- measure is what is left of the line.
 use native.Mathlib.Omega.{arith}
 use mathlib.Core.Path.{_≡_}
 use Prim.Native.Nat.{_-_, _≤_}

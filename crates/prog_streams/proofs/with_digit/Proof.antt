@@ -1,4 +1,5 @@
--- `with_digit` keeps the count within the bytes: a byte that is put lies within them, and storing it keeps their length.
+-- `with_digit` keeps the count within the bytes: a byte that is put lies within them, and storing it keeps their
+-- length.
 use native.Mathlib.Omega.{arith}
 use lib.ListN.{length-set}
 use borrow.Author.Needs.{needs}

@@ -1,4 +1,5 @@
--- `save` makes the definition's test, and then has the bytes of the table that the words mean, which is that of their model.
+-- `save` makes the definition's test, and then has the bytes of the table that the words mean, which is that of their
+-- model.
 use Prim.Native.Nat.{ℕ}
 use native.Mathlib.Omega.{arith}
 use mathlib.Core.Path.{_≡_, refl, sym, _∙_}
@@ -28,7 +29,8 @@ refused : (ts ss buf : List ℕ) → lent-refusal ts ss ≡ 24 → SavedInto ts 
 refused ts ss buf is = rw is (nothing-written 24 (saved-bytes (trimmed (model-in ts ss))) buf (λ e. omega arith))
 
 -- the bytes of a sound model's table
-accepted : (ts ss before after : List ℕ) (w : Written) → lent-refusal ts ss ≡ 0 → WrittenAs 0 (table-bytes (lent-table ts)) before after w →
+accepted : (ts ss before after : List ℕ) (w : Written) → lent-refusal ts ss ≡ 0 →
+    WrittenAs 0 (table-bytes (lent-table ts)) before after w →
     SavedInto ts ss before after w
 unfolding saved-bytes
 accepted ts ss before after w is written = rw (is, lent-table-is ts ss) written
@@ -57,8 +59,10 @@ save-table-requires c κs =
     let ts = args .table .now in
     let ss = args .state .now in
     let spells = and-left (spelled ts ss) (sound (trimmed (model-in ts ss))) (sounds test) in
-    let is-sound = and-right (spelled ts ss) (sound (trimmed (model-in ts ss))) (sounds test) in
-    (spelled-room ts ss spells .table, rw (lent-table-is ts ss) at (sound-facts (trimmed (model-in ts ss)) is-sound .table))
+    let is-sound = and-right (spelled ts ss) (sound (trimmed (model-in ts ss))) (sounds test) in (
+      spelled-room ts ss spells .table,
+      rw (lent-table-is ts ss) at (sound-facts (trimmed (model-in ts ss)) is-sound .table),
+    )
 
 same-length : tie.Need-same-length
 same-length c = search needs

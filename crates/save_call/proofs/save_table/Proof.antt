@@ -20,12 +20,21 @@ start-of lengths = lengths .before .before .before
 abbrev bytes-of : tie.After-lengths-of → List ℕ
 bytes-of lengths = table-bytes (lent-table (start-of lengths .args .table .now))
 
-whole-length : (c : tie.After-lengths-of) → c .lengths-of .result .parts + 2 + c .lengths-of .result .wires + 1 ≡ length (bytes-of c)
+whole-length : (c : tie.After-lengths-of) → c .lengths-of .result .parts + 2 + c .lengths-of .result .wires + 1 ≡
+    length (bytes-of c)
 whole-length c =
-    omega (arith, c .lengths-of .ensures .0, c .lengths-of .ensures .1 .0, table-length (lent-table (start-of c .args .table .now)))
+    omega (
+      arith,
+      c .lengths-of .ensures .0,
+      c .lengths-of .ensures .1 .0,
+      table-length (lent-table (start-of c .args .table .now)),
+    )
 
 -- bytes that do not fit, their length being another's name
-too-long : (text buf : List ℕ) (n : ℕ) → n ≡ length text → length buf < n → WrittenAs 0 text buf buf (record { number = too-short; length = n })
+too-long : (text buf : List ℕ) (n : ℕ) → n ≡ length text → length buf < n → WrittenAs 0 text buf buf (record {
+  number = too-short;
+  length = n;
+})
 too-long text buf n size short = rw size (left-out text buf (rw size at short))
 
 lengths-of-requires : tie.Need-lengths-of-requires
@@ -43,13 +52,22 @@ add-length-2 c = search needs
 returns : tie.Need-returns
 returns c =
     let lengths = c .before .before .before in
-    too-long (bytes-of lengths) (start-of lengths .args .out .now) _ (whole-length lengths) (omega (arith, c .if1 .taken))
+    too-long (bytes-of lengths) (start-of lengths .args .out .now) _ (whole-length lengths)
+    (omega (arith, c .if1 .taken))
 
 put-table-requires : tie.Need-put-table-requires
 put-table-requires c κs =
     let lengths = c .before .before .before .before in
-    let start = start-of lengths in
-    (start .pre .0, (start .pre .1, (ap (λ (n : ℕ). n + 2) (lengths .lengths-of .ensures .0), omega (arith, whole-length lengths, c .before .if1 .left))))
+    let start = start-of lengths in (
+      start .pre .0,
+      (
+        start .pre .1,
+        (
+          ap (λ (n : ℕ). n + 2) (lengths .lengths-of .ensures .0),
+          omega (arith, whole-length lengths, c .before .if1 .left),
+        ),
+      ),
+    )
 
 same-length : tie.Need-same-length
 same-length c = search needs

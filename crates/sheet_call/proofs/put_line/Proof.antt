@@ -1,4 +1,5 @@
--- `put_line` puts the row of what is shown, which the words tell: of a refused answer its number, of a committed one the point, the counts and the stored outputs.
+-- `put_line` puts the row of what is shown, which the words tell: of a refused answer its number, of a committed one
+-- the point, the counts and the stored outputs.
 use Prim.Native.Nat.{ℕ, _+_, _≤_}
 use native.Mathlib.Omega.{arith}
 use mathlib.Core.Path.{_≡_, refl, sym, ap, _∙_}
@@ -19,14 +20,23 @@ use Rattle.sheet_call.proofs.put_line.Statement.{statement}
 use Rattle.sheet_call.proofs.put_line.Tie as tie
 
 -- what the words of a committed answer show, where nothing refuses the line
-words-shown : (ts ss : List ℕ) (v : Outcome) (a b c : ℕ) {now : Point} {x y z : Signal} → lent-sheet-refusal ts ss v a b c ≡ 0 → v .number ≡ 0 → now ≡ stored-point ss →
+words-shown : (ts ss : List ℕ) (v : Outcome) (a b c : ℕ) {now : Point} {x y z : Signal} →
+    lent-sheet-refusal ts ss v a b c ≡ 0 → v .number ≡ 0 → now ≡ stored-point ss →
     x ≡ stored-state ss a .output → y ≡ stored-state ss b .output → z ≡ stored-state ss c .output →
     shown (outcome-answer ts ss v) a b c ≡ ShownStep (tick now) (now .n) (v .step) (v .rounds) (v .revisions) x y z
 unfolding trimmed model-in
 words-shown ts ss v a b c free none at first second third =
     let chosen = sheet-free ts ss v a b c free .chosen in
     step-shown ts ss v a b c none ∙
-    rw (at, first, second, third, output-lent ts ss a (chosen .first), output-lent ts ss b (chosen .second), output-lent ts ss c (chosen .third)) refl
+    rw (
+      at,
+      first,
+      second,
+      third,
+      output-lent ts ss a (chosen .first),
+      output-lent ts ss b (chosen .second),
+      output-lent ts ss c (chosen .third),
+    ) refl
 
 -- the words of each chosen part's state are there
 record ChosenRooms (a b c : ℕ) (ss : List ℕ) : Type 0 where
@@ -39,7 +49,11 @@ chosen-rooms ts ss v a b c free =
     let told = sheet-free ts ss v a b c free in
     let words = spelled-room ts ss (told .spells) .state in
     let chosen = told .chosen in
-    record { first = omega (arith, chosen .first); second = omega (arith, chosen .second); third = omega (arith, chosen .third) }
+    record {
+      first = omega (arith, chosen .first);
+      second = omega (arith, chosen .second);
+      third = omega (arith, chosen .third);
+    }
 
 put-refusal-row-requires : tie.Need-put-refusal-row-requires
 put-refusal-row-requires c κs = search needs
@@ -54,13 +68,18 @@ returns c =
     let test = put .before .before in
     let start = test .before .before .before .before .before in
     let args = start .args in
-    rw (refusal-shown (args .table .now) (args .state .now) (args .outcome) (args .first) (args .second) (args .third) (test .if1 .taken)) (put .put-refusal-row .ensures)
+    rw (refusal-shown (args .table .now) (args .state .now) (args .outcome) (args .first) (args .second) (args .third)
+    (test .if1 .taken)) (put .put-refusal-row .ensures)
 
 point-of-requires : tie.Need-point-of-requires
 point-of-requires c κs =
     let start = c .before .before .before .before .before in
     let args = start .args in
-    omega (arith, spelled-room (args .table .now) (args .state .now) (sheet-free _ _ _ _ _ _ (start .pre .0) .spells) .state)
+    omega (
+      arith,
+      spelled-room (args .table .now) (args .state .now)
+          (sheet-free _ _ _ _ _ _ (start .pre .0) .spells) .state,
+    )
 
 output-at-requires : tie.Need-output-at-requires
 output-at-requires c κs =
@@ -87,7 +106,8 @@ put-step-row-requires c κs =
     let first = second .before in
     let point = first .before in
     let start = point .before .before .before .before .before .before in (
-      ap shown-fits (sym (words-shown _ _ _ _ _ _ (start .pre .0) (point .before .if1 .left) (point .point-of .ensures) (first .output-at .ensures)
+      ap shown-fits (sym (words-shown _ _ _ _ _ _ (start .pre .0) (point .before .if1 .left) (point .point-of .ensures)
+          (first .output-at .ensures)
           (second .output-at2 .ensures) (third .output-at3 .ensures))) ∙ sheet-free _ _ _ _ _ _ (start .pre .0) .fits,
       start .pre .1,
     )
@@ -104,7 +124,8 @@ returns-2 c =
     let first = second .before in
     let point = first .before in
     let start = point .before .before .before .before .before .before in
-    rw (words-shown _ _ _ _ _ _ (start .pre .0) (point .before .if1 .left) (point .point-of .ensures) (first .output-at .ensures) (second .output-at2 .ensures)
+    rw (words-shown _ _ _ _ _ _ (start .pre .0) (point .before .if1 .left) (point .point-of .ensures)
+    (first .output-at .ensures) (second .output-at2 .ensures)
     (third .output-at3 .ensures)) (put .put-step-row .ensures)
 
 pub put-line-spec : {M : Type 1} → statement M

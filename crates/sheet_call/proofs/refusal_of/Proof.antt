@@ -1,4 +1,5 @@
--- `refusal_of` makes the definition's tests in their order: soundness, the chosen parts, and of a committed answer its counts.
+-- `refusal_of` makes the definition's tests in their order: soundness, the chosen parts, and of a committed answer its
+-- counts.
 use native.Mathlib.Omega.{arith}
 use mathlib.Core.Path.{_≡_, refl, sym, ap, _∙_}
 use mathlib.Core.Bool.{Bool, true, false, cond, _&&_}
@@ -13,7 +14,8 @@ use Rattle.words_store.specs.Spelling.{spelled-room}
 use Rattle.machine.specs.declared.model.Outcome.{Outcome}
 use Rattle.advance_call.specs.Into.{lent-model}
 use Rattle.sheet_call.specs.SheetInto.{lent-sheet-refusal}
-use Rattle.sheet_call.specs.LentSheet.{all-there, counts-short, unsound-sheet, missing-sheet, refused-sheet, counted-sheet}
+use Rattle.sheet_call.specs.LentSheet.{all-there, counts-short, unsound-sheet, missing-sheet, refused-sheet}
+use Rattle.sheet_call.specs.LentSheet.{counted-sheet}
 use borrow.Author.Needs.{needs}
 use Rattle.sheet_call.proofs.refusal_of.Statement.{statement}
 use Rattle.sheet_call.proofs.refusal_of.Tie as tie
@@ -36,7 +38,8 @@ there-of : (c : tie.Else2) →
     all-there (part-count (args .table .now)) (args .first) (args .second) (args .third) ≡ true
 there-of c =
     let asked = c .before .parts-there in
-    there-is _ _ _ _ _ true (asked .result) (c .before .before .parts-of .ensures) (asked .ensures) (not-false (asked .result) (c .if2 .left))
+    there-is _ _ _ _ _ true (asked .result) (c .before .before .parts-of .ensures) (asked .ensures)
+    (not-false (asked .result) (c .if2 .left))
 
 is-sound-in-requires : tie.Need-is-sound-in-requires
 is-sound-in-requires c κs = search needs
@@ -61,7 +64,8 @@ returns-2 : tie.Need-returns-2
 returns-2 c =
     let asked = c .before in
     let read = asked .before in
-    let missing = there-is _ _ _ _ _ false (asked .parts-there .result) (read .parts-of .ensures) (asked .parts-there .ensures)
+    let missing = there-is _ _ _ _ _ false (asked .parts-there .result) (read .parts-of .ensures)
+    (asked .parts-there .ensures)
     (not-true (asked .parts-there .result) (c .if2 .taken)) in
     sym (missing-sheet _ _ _ _ _ _ (sounds-of (read .before)) missing)
 
@@ -74,9 +78,12 @@ counts-fit-requires : tie.Need-counts-fit-requires
 counts-fit-requires c κs = search needs
 
 -- a committed answer, by what the test of its counts told
-told : (ts ss : List ℕ) (v : Outcome) (a b c : ℕ) (r t : Bool) (n : ℕ) → lent-sheet-refusal ts ss v a b c ≡ cond (counts-short (v .step) (v .rounds) (v .revisions)) 0 26 →
-    r ≡ counts-short (v .step) (v .rounds) (v .revisions) → r ≡ t → cond t 0 26 ≡ n → n ≡ lent-sheet-refusal ts ss v a b c
-told ts ss v a b c r t n is counted known number = sym (is ∙ ap (λ (k : Bool). cond k 0 26) (sym counted ∙ known) ∙ number)
+told : (ts ss : List ℕ) (v : Outcome) (a b c : ℕ) (r t : Bool) (n : ℕ) →
+    lent-sheet-refusal ts ss v a b c ≡ cond (counts-short (v .step) (v .rounds) (v .revisions)) 0 26 →
+    r ≡ counts-short (v .step) (v .rounds) (v .revisions) → r ≡ t → cond t 0 26 ≡ n →
+    n ≡ lent-sheet-refusal ts ss v a b c
+told ts ss v a b c r t n is counted known number =
+    sym (is ∙ ap (λ (k : Bool). cond k 0 26) (sym counted ∙ known) ∙ number)
 
 returns-4 : tie.Need-returns-4
 returns-4 c =

@@ -1,5 +1,5 @@
--- `is_sound_in` asks whether the words spell a model, and then makes the tests of that model one by one: behind the
--- tests that hold, the answer is the next one and those behind it, so that where one fails the answer is no whatever
+-- `is_sound_in` asks whether the words spell a model, and then makes the tests of that model one by one: after the
+-- tests that hold, the answer is the next one and those after it, so that where one fails the answer is no whatever
 -- the others say.
 use Prim.Native.Nat.{ℕ, _≤_}
 use native.Mathlib.Omega.{arith}
@@ -48,7 +48,7 @@ timed c = c .before .before .before
 abbrev known : tie.After-parts-fit-in → tie.After-magnitude-known
 known c = c .before .before .before
 
--- behind the first test the words spell a model, and the answer is its soundness
+-- after the first test the words spell a model, and the answer is its soundness
 spells : (c : tie.Else1) → spelled (tables (c .before)) (states (c .before)) ≡ true
 spells c = sym (c .before .spelled .ensures) ∙ not-false (c .before .spelled .result) (c .if1 .left)
 
@@ -61,7 +61,7 @@ few c = spelled-few (tables (c .before)) (states (c .before)) (spells c)
 by-form : (c : tie.Else1) → whole (c .before) ≡ sound (model (c .before))
 by-form c = passed (whole (c .before)) _ (sound (model (c .before))) refl (spells c)
 
--- the answer by that of each test and those behind it, where the tests before it hold
+-- the answer by that of each test and those after it, where the tests before it hold
 by-time : (c : tie.After-in-time) →
     let words = form (counted c) .before in
     whole words ≡ (c .in-time .result && magnitude-holds (part-count (tables words))

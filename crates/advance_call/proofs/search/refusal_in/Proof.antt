@@ -20,13 +20,15 @@ use Rattle.advance_call.proofs.search.refusal_in.Statement.{statement}
 use Rattle.advance_call.proofs.search.refusal_in.Tie as tie
 
 -- the number of a refusal of a step of 0, by whether a part is due and whether the step leads past the time
-zero-refusal : (m : Model) (h : ℕ) (is-due past : Bool) → h ≡ 0 → is-due ≡ any-due m → past ≡ eqb (m .point .n) last-microstep →
+zero-refusal : (m : Model) (h : ℕ) (is-due past : Bool) → h ≡ 0 → is-due ≡ any-due m →
+    past ≡ eqb (m .point .n) last-microstep →
     cond is-due (cond past 21 0) 22 ≡ refusal m h
 unfolding refusal
 zero-refusal m h is-due past zero-step due last = rw (eq-eqb h 0 zero-step, due, last) refl
 
 -- a step of 0 leads past the time from the last microstep
-last-by : (ts ss : List ℕ) (now : Point) (past : Bool) → sound (lent-model ts ss) ≡ true → now ≡ stored-point ss → past ≡ not (in-time (led-to now 0)) →
+last-by : (ts ss : List ℕ) (now : Point) (past : Bool) → sound (lent-model ts ss) ≡ true → now ≡ stored-point ss →
+    past ≡ not (in-time (led-to now 0)) →
     past ≡ eqb (lent-model ts ss .point .n) last-microstep
 unfolding trimmed model-in
 last-by ts ss now past is-sound at e =
@@ -50,7 +52,8 @@ due-refusal :
     (past : tie.After-leads-past) →
     let asked = past .before .before .before in
     let s = asked .before .before .before .before .before in
-    cond (past .leads-past .result) 21 0 ≡ refusal (lent-model (s .args .table .now) (s .args .state .now)) (s .args .h .0)
+    cond (past .leads-past .result) 21 0 ≡ refusal (lent-model (s .args .table .now) (s .args .state .now))
+    (s .args .h .0)
 due-refusal past =
     let point = past .before in
     let tests = point .before in
@@ -58,8 +61,10 @@ due-refusal past =
     let zeros = asked .before in
     let s = zeros .before .before .before .before in
     let m = lent-model (s .args .table .now) (s .args .state .now) in
-    zero-refusal m (s .args .h .0) true (past .leads-past .result) (zeros .if1 .left) (sym (tests .if2 .taken) ∙ asked .any-due-in .ensures)
-    (last-by (s .args .table .now) (s .args .state .now) (point .point-of .result) (past .leads-past .result) (s .pre .1) (point .point-of .ensures)
+    zero-refusal m (s .args .h .0) true (past .leads-past .result) (zeros .if1 .left) (sym (tests .if2 .taken) ∙
+    asked .any-due-in .ensures)
+    (last-by (s .args .table .now) (s .args .state .now) (point .point-of .result) (past .leads-past .result)
+    (s .pre .1) (point .point-of .ensures)
     (past .leads-past .ensures))
 
 returns-2 : tie.Need-returns-2
@@ -74,7 +79,8 @@ returns-4 c =
     let zeros = asked .before in
     let s = zeros .before .before .before .before in
     let m = lent-model (s .args .table .now) (s .args .state .now) in
-    zero-refusal m (s .args .h .0) false (eqb (m .point .n) last-microstep) (zeros .if1 .left) (sym (c .if2 .left) ∙ asked .any-due-in .ensures) refl
+    zero-refusal m (s .args .h .0) false (eqb (m .point .n) last-microstep) (zeros .if1 .left) (sym (c .if2 .left) ∙
+    asked .any-due-in .ensures) refl
 
 pub refusal-in-spec : {M : Type 1} → statement M
 refusal-in-spec =

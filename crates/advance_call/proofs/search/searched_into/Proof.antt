@@ -1,5 +1,5 @@
 -- `searched_into` is the search on words. Both loops keep that the search from here comes to the outcome of the whole,
--- that neither the rounds nor the revisions, with h, are above w, that the words behind the new state's are kept, and
+-- that neither the rounds nor the revisions, with h, are above w, that the words after the new state's are kept, and
 -- that after a round the parts that are no drives accept h. The inner one also keeps that h is at most what it began
 -- with. The measure of both is h.
 use Prim.Native.Nat.{ℕ, _+_, _≤_}
@@ -14,7 +14,8 @@ use Rattle.words_store.specs.ModelIn.{part-count, model-in}
 use Rattle.words_store.specs.Clean.{kept-after}
 use Rattle.words_store.specs.Updated.{SameBehind}
 use Rattle.words_store.specs.StoreFrame.{behind-none, behind-through, behind-copied, copied-spelled, held-copied}
-use Rattle.advance_call.specs.Searching.{Left, left-start, lowered, halved, refused-answer, committed-answer, may-step}
+use Rattle.advance_call.specs.Searching.{Left, left-start, lowered, halved, refused-answer, committed-answer}
+use Rattle.advance_call.specs.Searching.{may-step}
 use Rattle.advance_call.specs.Into.{lent-model}
 use Rattle.advance_call.specs.IntoLaws.{searched-words}
 use Rattle.advance_call.proofs.search.searched_into.Statement.{statement}
@@ -30,8 +31,13 @@ mod Places
 
 ceilings-holds : tie.Need-ceilings-holds Inv-loop μ-loop Inv-ceilings μ-ceilings
 ceilings-holds c =
-    let s = c .before .before .before in
-    (left-start (lent-model (s .args .table .now) (s .args .old .now)) (s .args .w), omega arith, omega arith, behind-none _ _, λ some. absurd (omega arith))
+    let s = c .before .before .before in (
+      left-start (lent-model (s .args .table .now) (s .args .old .now)) (s .args .w),
+      omega arith,
+      omega arith,
+      behind-none _ _,
+      λ some. absurd (omega arith),
+    )
 
 loop-holds : tie.Need-loop-holds Inv-loop μ-loop Inv-ceilings μ-ceilings
 loop-holds c =
@@ -100,9 +106,11 @@ loop-again c =
     let ceilings = at .before .ceilings in
     let below = lowers c in
     let inv = at .loop .inv in (
-      subst (λ (l : ℕ). Left (model-of at) (s .args .w) (ceilings .ceiling) l (at .loop .rounds + 1) (ceilings .revisions))
+      subst (λ (l : ℕ). Left (model-of at) (s .args .w) (ceilings .ceiling) l (at .loop .rounds + 1)
+          (ceilings .revisions))
           (sym (rounds .least-in .ensures))
-          (lowered (model-of at) (is-sound-at s) (s .args .w) (ceilings .ceiling) (at .loop .h) (at .loop .rounds) (ceilings .revisions) (inv .0) (changed c)),
+          (lowered (model-of at) (is-sound-at s) (s .args .w) (ceilings .ceiling) (at .loop .h) (at .loop .rounds)
+          (ceilings .revisions) (inv .0) (changed c)),
       omega (arith, below, inv .1),
       omega (arith, below, inv .2),
       omega (arith, below, inv .3),
@@ -128,9 +136,11 @@ ceilings-again c =
     let s = start-of at in
     let ceilings = at .before .ceilings in
     let two = halves c in
-    let accepts = subst (Agreed (model-of at)) (kept (refusal-of-trial tries)) (round-agreed (model-of at) (at .loop .h)) in
+    let accepts = subst (Agreed (model-of at)) (kept (refusal-of-trial tries))
+    (round-agreed (model-of at) (at .loop .h)) in
     let inv = at .loop .inv in (
-      halved (model-of at) (is-sound-at s) (s .args .w) (ceilings .ceiling) (at .loop .h) (at .loop .rounds) (ceilings .revisions) (inv .0)
+      halved (model-of at) (is-sound-at s) (s .args .w) (ceilings .ceiling) (at .loop .h) (at .loop .rounds)
+          (ceilings .revisions) (inv .0)
           (kept (refusal-of-trial tries)) (not-refused (tries .before .before)) (objected c),
       omega (arith, two, inv .1),
       omega (arith, two, inv .2),
@@ -166,10 +176,13 @@ returns c =
     let ts = s .args .table .now in
     let os = s .args .old .now in
     let b = keeps .kept-in .last .1 .1 .0 in
-    let same : lent-model ts b ≡ lent-model ts os = ap trimmed (held-copied ts os (at .loop .new) b (keeps .kept-in .ensures)) in
+    let same : lent-model ts b ≡ lent-model ts os =
+    ap trimmed (held-copied ts os (at .loop .new) b (keeps .kept-in .ensures)) in
     searched-words ts os (s .args .new .now) b (s .args .w) _
-    (refused-answer (model-in ts os) (is-sound-at s) (s .args .w) (ceilings .ceiling) (at .loop .h) (at .loop .rounds) (ceilings .revisions)
-    (refuses .refusal-in .result) (at .loop .inv .0) (kept refuses) (refuses .refusal-in .ensures) (keeps .before .before .if2 .taken))
+    (refused-answer (model-in ts os) (is-sound-at s) (s .args .w) (ceilings .ceiling) (at .loop .h) (at .loop .rounds)
+    (ceilings .revisions)
+    (refuses .refusal-in .result) (at .loop .inv .0) (kept refuses) (refuses .refusal-in .ensures)
+    (keeps .before .before .if2 .taken))
     (omega arith) (sym same)
     (copied-spelled (part-count ts) os (at .loop .new) b (keeps .kept-in .ensures) (s .pre .spelled))
     (behind-kept keeps) (λ none. absurd (keeps .before .before .if2 .taken none))
@@ -180,7 +193,7 @@ settled-into-requires c κs =
     let tries = trial-of (c .before .before) in
     (room-of-trial tries, settleable tries .wired)
 
--- the words behind the model's, once the trial is settled
+-- the words after the model's, once the trial is settled
 behind-settled :
     (settles : tie.After-settled-into Inv-loop μ-loop Inv-ceilings μ-ceilings) →
     let asked = settles .before .before .before in
@@ -190,7 +203,8 @@ behind-settled settles =
     let asked = settles .before .before .before in
     let tries = trial-of asked in
     let s = start-of (loop-of-trial tries) in
-    behind-through (part-count (s .args .table .now)) (s .args .new .now) (words-of tries) (settles .settled-into .last .1 .0) (behind-trial tries)
+    behind-through (part-count (s .args .table .now)) (s .args .new .now) (words-of tries)
+    (settles .settled-into .last .1 .0) (behind-trial tries)
     (settles .settled-into .ensures .behind)
 
 same-length-2 : tie.Need-same-length-2 Inv-loop μ-loop Inv-ceilings μ-ceilings
@@ -215,8 +229,10 @@ returns-2 c =
     settled-made (lent-model ts os) (model-in ts (words-of tries)) (model-in ts b) h (by-trial .shown)
     (by-settling .settled) in
     searched-words ts os (s .args .new .now) b (s .args .w) _
-    (committed-answer (model-in ts os) (is-sound-at s) (model-in ts b) (s .args .w) (ceilings .ceiling) h (at .loop .rounds) (ceilings .revisions)
-    (at .loop .inv .0) (kept (refusal-of-trial tries)) (not-refused (tries .before .before)) (ap (any-objects h) made ∙ objects-tried asked ∙ free .if3 .left)
+    (committed-answer (model-in ts os) (is-sound-at s) (model-in ts b) (s .args .w) (ceilings .ceiling) h
+    (at .loop .rounds) (ceilings .revisions)
+    (at .loop .inv .0) (kept (refusal-of-trial tries)) (not-refused (tries .before .before)) (ap (any-objects h) made ∙
+    objects-tried asked ∙ free .if3 .left)
     made)
     (omega arith) refl (λ j low. by-settling .behind .form j (by-trial .form j low)) (behind-settled settles)
     (λ none. kept-after (part-count ts) os (words-of tries) b (by-trial .clean) (λ j low. by-settling .signals j))

@@ -1,4 +1,5 @@
--- `allowed` is the definition's test. The loop's invariant: none of the spans before i is d. The measure is what is left of the count.
+-- `allowed` is the definition's test. The loop's invariant: none of the spans before i is d. The measure is what is
+-- left of the count.
 use Prim.Native.Nat.{ℕ, _-_, _<_, _≤_}
 use native.Mathlib.Omega.{arith}
 use mathlib.Core.Path.{_≡_, _∙_, refl, sym}
@@ -19,7 +20,8 @@ use Rattle.ask_part.proofs.drive_spans.allowed.Tie as tie
 
 -- d is allowed where the place i in use holds it
 found :
-    (d count i : ℕ) (spans : List ℕ) → i < count → i < length spans → eqb d (getD spans i 0) ≡ true → true ≡ allowed (take count spans) d
+    (d count i : ℕ) (spans : List ℕ) → i < count → i < length spans → eqb d (getD spans i 0) ≡ true →
+    true ≡ allowed (take count spans) d
 unfolding allowed member
 found d count i spans below inside e =
     let within : i < length (take count spans) = rw length-take (omega arith) in
@@ -65,7 +67,8 @@ returns-2 c =
     let start = turn .before .before .before .before in
     let args = start .args in
     let inside : i < length (args .t1) = omega arith in
-    found (args .d .0) (args .count) i (args .t1) (turn .loop-test .taken) inside (sym (c .before .is-span .ensures) ∙ c .if2 .taken)
+    found (args .d .0) (args .count) i (args .t1) (turn .loop-test .taken) inside (sym (c .before .is-span .ensures) ∙
+    c .if2 .taken)
 
 add-i : tie.Need-add-i Inv-loop μ-loop
 add-i c = search needs
@@ -82,7 +85,8 @@ loop-again c =
     let args = start .args in
     let inside : loop .i < length (args .t1) = omega arith in (
       omega arith,
-      any-further (eqb (args .d .0)) (args .t1) (loop .i) 0 inside (loop .inv .1) (sym (c .before .is-span .ensures) ∙ c .if2 .left),
+      any-further (eqb (args .d .0)) (args .t1) (loop .i) 0 inside (loop .inv .1) (sym (c .before .is-span .ensures) ∙
+          c .if2 .left),
     )
 
 returns-3 : tie.Need-returns-3 Inv-loop μ-loop
@@ -90,7 +94,8 @@ returns-3 c =
     let loop = c .before .loop in
     let start = c .before .before .before .before in
     let args = start .args in
-    none-is (args .d .0) (args .count) (loop .i) (args .t1) (loop .inv .0) (c .loop-test .left) (c .before .before .if1 .left) (loop .inv .1)
+    none-is (args .d .0) (args .count) (loop .i) (args .t1) (loop .inv .0) (c .loop-test .left)
+    (c .before .before .if1 .left) (loop .inv .1)
 
 pub allowed-spec : {M : Type 1} → statement M
 allowed-spec =

@@ -1,5 +1,5 @@
--- `largest_below` is the definition's fold over the spans. The loop's invariant: the largest so far is the definition of the spans before i. The
--- measure is what is left of the count.
+-- `largest_below` is the definition's fold over the spans. The loop's invariant: the largest so far is the definition
+-- of the spans before i. The measure is what is left of the count.
 use Prim.Native.Nat.{ℕ, _+_, _-_, _<_, _≤_, max}
 use native.Mathlib.Omega.{arith}
 use mathlib.Core.Path.{_≡_, _∙_, refl, sym, ap}
@@ -16,7 +16,8 @@ use Rattle.ask_part.proofs.drive_spans.largest_below.Tie as tie
 -- what the span in the place i makes of the largest before it is the largest up to it
 further :
     (spans : List ℕ) (d i largest next : ℕ) → i < length spans → largest ≡ largest-below (take i spans) d →
-    next ≡ cond (ltb (getD spans i 0) d) (max largest (getD spans i 0)) largest → next ≡ largest-below (take (i + 1) spans) d
+    next ≡ cond (ltb (getD spans i 0) d) (max largest (getD spans i 0)) largest →
+    next ≡ largest-below (take (i + 1) spans) d
 unfolding largest-below
 further spans d i largest next inside before made =
     made ∙
@@ -53,8 +54,11 @@ loop-again c =
     let loop = c .before .before .loop in
     let start = c .before .before .before in
     let args = start .args in
-    let inside : loop .i < length (args .t1) = omega arith in
-    (omega arith, further (args .t1) (args .d .0) (loop .i) (loop .largest) _ inside (loop .inv .1) (c .larger-below .ensures))
+    let inside : loop .i < length (args .t1) = omega arith in (
+      omega arith,
+      further (args .t1) (args .d .0) (loop .i) (loop .largest) _ inside (loop .inv .1)
+          (c .larger-below .ensures),
+    )
 
 returns : tie.Need-returns Inv-loop μ-loop
 returns c =

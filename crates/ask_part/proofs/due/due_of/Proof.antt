@@ -1,4 +1,5 @@
--- `due_of` is `due`: squares and pulses answer by the multiples of P, delays by their input, detectors by their mark, and no other kind is due.
+-- `due_of` is `due`: squares and pulses answer by the multiples of P, delays by their input, detectors by their mark,
+-- and no other kind is due.
 use Prim.Native.Nat.{ℕ}
 use mathlib.Core.Path.{_≡_, refl}
 use mathlib.Core.Bool.{false}
@@ -22,7 +23,8 @@ abbrev idle : List ℕ
 idle = 0 ∷ 1 ∷ 2 ∷ 6 ∷ 7 ∷ 9 ∷ 10 ∷ 11 ∷ 12 ∷ []
 
 -- such a kind is not due
-never : (k : Kind) (p : Part) (now : Point) (x : Signal) → OneOf idle (tagOf tags.the-type k) → false ≡ due-as (class k) p now x
+never : (k : Kind) (p : Part) (now : Point) (x : Signal) → OneOf idle (tagOf tags.the-type k) →
+    false ≡ due-as (class k) p now x
 unfolding due-as kind-of
 never k p now x one = of-kinds-left (λ (j : Kind). due-as (class j) p now x) false idle k refl one
 

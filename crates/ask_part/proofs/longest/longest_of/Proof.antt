@@ -1,5 +1,5 @@
--- `longest_of` is `longest` of the part trimmed. Trimming changes the spans alone, so that the part is due where the trimmed one is, and its P is the same;
--- a due part accepts 0 only, and another is asked by its kind.
+-- `longest_of` is `longest` of the part trimmed. Trimming changes the spans alone, so that the part is due where the
+-- trimmed one is, and its P is the same; a due part accepts 0 only, and another is asked by its kind.
 use Prim.Native.Nat.{ℕ, _-_, min}
 use mathlib.Core.Path.{_≡_, _∙_, refl, sym, ap}
 use mathlib.Core.Bool.{true, false}
@@ -39,7 +39,8 @@ waiting-longest :
     r ≡ min h (next-multiple P (tick now) - tick now) → r ≡ longest (trimmed-part p) now x h
 unfolding longest-as trimmed-part trimmed-component
 waiting-longest p now x h P r not-due waits is-period is =
-    class-longest waiting p now x h r not-due waits (is ∙ ap (λ (n : ℕ). min h (next-multiple n (tick now) - tick now)) is-period)
+    class-longest waiting p now x h r not-due waits (is ∙
+    ap (λ (n : ℕ). min h (next-multiple n (tick now) - tick now)) is-period)
 
 -- the numbers of the kinds that accept every step where they are not due
 abbrev accepting : List ℕ
@@ -98,21 +99,24 @@ returns-2 : tie.Need-returns-2
 returns-2 c =
     let kind-asked = c .before .before .before .before in
     let args = start kind-asked .args in
-    waiting-longest (args .p) (args .now) (args .x) (args .h .0) _ _ (not-due kind-asked) (ap class (c .before .before .enum-told .given .1))
+    waiting-longest (args .p) (args .now) (args .x) (args .h .0) _ _ (not-due kind-asked)
+    (ap class (c .before .before .enum-told .given .1))
     (c .before .period-of .ensures) (c .up-to-multiple .ensures)
 
 returns-3 : tie.Need-returns-3
 returns-3 c =
     let kind-asked = c .before .before .before .before in
     let args = start kind-asked .args in
-    waiting-longest (args .p) (args .now) (args .x) (args .h .0) _ _ (not-due kind-asked) (ap class (c .before .before .enum-told2 .given .1))
+    waiting-longest (args .p) (args .now) (args .x) (args .h .0) _ _ (not-due kind-asked)
+    (ap class (c .before .before .enum-told2 .given .1))
     (c .before .period-of2 .ensures) (c .up-to-multiple2 .ensures)
 
 returns-4 : tie.Need-returns-4
 returns-4 c =
     let kind-asked = c .before .before .before in
     let args = start kind-asked .args in
-    class-longest driving (args .p) (args .now) (args .x) (args .h .0) _ (not-due kind-asked) (ap class (c .before .enum-told3 .given .1))
+    class-longest driving (args .p) (args .now) (args .x) (args .h .0) _ (not-due kind-asked)
+    (ap class (c .before .enum-told3 .given .1))
     (c .longest-of-drive .ensures)
 
 returns-5 : tie.Need-returns-5

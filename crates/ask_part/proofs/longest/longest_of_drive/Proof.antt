@@ -1,6 +1,7 @@
--- `longest_of_drive` is the definition of a drive's longest step, by the local ticks d that a step of h adds. The gain, in master ticks, is at most the tick
--- that the step leads to. Where d fails the test, d is not 0, and so the largest of 0 and the spans below d is less than d: one local tick more is at most d,
--- so that in master ticks it is within d × r, and so within the time.
+-- `longest_of_drive` is the definition of a drive's longest step, by the local ticks d that a step of h adds. The gain,
+-- in master ticks, is at most the tick that the step leads to. Where d fails the test, d is not 0, and so the largest
+-- of 0 and the spans below d is less than d: one local tick more is at most d, so that in master ticks it is within d ×
+-- r, and so within the time.
 use Prim.Native.Nat.{ℕ, _+_, _*_, _/_, _<_, _≤_}
 use native.Mathlib.Nat.{div-mul-le-self, le-trans, mul-le-mul-right}
 use native.Mathlib.Omega.{arith}
@@ -35,14 +36,17 @@ by-gain :
     r ≡ longest-as driving (trimmed-part p) t h
 unfolding longest-as trimmed-part trimmed-component gain-of
 by-gain p t h d r is-gain is =
-    is ∙ ap (λ (n : ℕ). cond (allowed (spans-of p) n) h (last-adding (p .ratio) t (largest-below (spans-of p) n))) is-gain
+    is ∙ ap (λ (n : ℕ). cond (allowed (spans-of p) n) h (last-adding (p .ratio) t (largest-below (spans-of p) n)))
+    is-gain
 
 -- where d is allowed, and where it is not
-allowed-by : (p : Part) (t h d : ℕ) → allowed (spans-of p) d ≡ true → h ≡ cond (allowed (spans-of p) d) h (last-adding (p .ratio) t (largest-below (spans-of p) d))
+allowed-by : (p : Part) (t h d : ℕ) → allowed (spans-of p) d ≡ true →
+    h ≡ cond (allowed (spans-of p) d) h (last-adding (p .ratio) t (largest-below (spans-of p) d))
 allowed-by p t h d e = rw e
 
 plateau-by :
-    (p : Part) (t h d v r : ℕ) → allowed (spans-of p) d ≡ false → v ≡ largest-below (spans-of p) d → r ≡ last-adding (p .ratio) t v →
+    (p : Part) (t h d v r : ℕ) → allowed (spans-of p) d ≡ false → v ≡ largest-below (spans-of p) d →
+    r ≡ last-adding (p .ratio) t v →
     r ≡ cond (allowed (spans-of p) d) h (last-adding (p .ratio) t (largest-below (spans-of p) d))
 plateau-by p t h d v r e is-largest is = rw (e, ← is-largest) is
 
@@ -55,7 +59,8 @@ gain-fits t h d p fits e =
 
 -- one local tick more than the largest below d is at most d
 one-more-fits :
-    (spans : List ℕ) (d r v : ℕ) → allowed spans d ≡ false → d * r ≤ last-tick → v ≡ largest-below spans d → (v + 1) * r ≤ last-tick
+    (spans : List ℕ) (d r v : ℕ) → allowed spans d ≡ false → d * r ≤ last-tick → v ≡ largest-below spans d →
+    (v + 1) * r ≤ last-tick
 unfolding allowed
 one-more-fits spans d r v over fits e =
     let some = eqb-false d 0 (or-false-left (eqb d 0) (member d spans) over) in
@@ -68,10 +73,12 @@ one-more-fits spans d r v over fits e =
 abbrev start-of : tie.After-gain-of → tie.Start
 start-of gain = gain .before .before .before .before
 
-gains : (gain : tie.After-gain-of) → let args = start-of gain .args in gain .gain-of .result .0 ≡ gain-of (args .t .0) (args .h .0) (args .p)
+gains : (gain : tie.After-gain-of) → let args = start-of gain .args in
+    gain .gain-of .result .0 ≡ gain-of (args .t .0) (args .h .0) (args .p)
 gains gain =
     let args = start-of gain .args in
-    gain-to (args .t .0) (args .h .0) _ (gain .before .local .result) (args .p) (gain .before .local .ensures) (gain .gain-of .ensures)
+    gain-to (args .t .0) (args .h .0) _ (gain .before .local .result) (args .p) (gain .before .local .ensures)
+    (gain .gain-of .ensures)
 
 add-t9 : tie.Need-add-t9
 add-t9 c = omega (arith, c .before .before .pre .step .time)
@@ -101,7 +108,8 @@ largest-below-requires c κs =
     start-of gain .pre .places
 
 -- d is not allowed
-over : (c : tie.Else1) → let gain = c .before .before .before .before in allowed (spans-of (start-of gain .args .p)) (gain .gain-of .result .0) ≡ false
+over : (c : tie.Else1) → let gain = c .before .before .before .before in
+    allowed (spans-of (start-of gain .args .p)) (gain .gain-of .result .0) ≡ false
 over c = sym (c .before .allowed .ensures) ∙ c .if1 .left
 
 last-adding-requires : tie.Need-last-adding-requires
@@ -110,8 +118,11 @@ last-adding-requires c κs =
     let start = start-of gain in
     let args = start .args in
     let d = gain .gain-of .result .0 in
-    let fits = gain-fits (args .t .0) (args .h .0) d (args .p) (start .pre .step) (gains gain) in
-    (start .pre .ratio, one-more-fits (spans-of (args .p)) d (args .p .ratio) _ (over (c .before)) fits (c .largest-below .ensures))
+    let fits = gain-fits (args .t .0) (args .h .0) d (args .p) (start .pre .step) (gains gain) in (
+      start .pre .ratio,
+      one-more-fits (spans-of (args .p)) d (args .p .ratio) _ (over (c .before)) fits
+          (c .largest-below .ensures),
+    )
 
 returns-2 : tie.Need-returns-2
 returns-2 c =
@@ -119,7 +130,8 @@ returns-2 c =
     let args = start-of gain .args in
     let d = gain .gain-of .result .0 in
     by-gain (args .p) (args .t .0) (args .h .0) d _ (gains gain)
-    (plateau-by (args .p) (args .t .0) (args .h .0) d (c .before .largest-below .result) _ (over (c .before .before)) (c .before .largest-below .ensures)
+    (plateau-by (args .p) (args .t .0) (args .h .0) d (c .before .largest-below .result) _ (over (c .before .before))
+    (c .before .largest-below .ensures)
     (c .last-adding .ensures))
 
 pub longest-of-drive-spec : {M : Type 1} → statement M

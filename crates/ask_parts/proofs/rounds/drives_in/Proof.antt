@@ -92,7 +92,8 @@ loop-again c =
     let none = sym (kinds .drives .ensures) ∙ not-true (kinds .drives .result) (c .if1 .taken) in (
       omega (arith, test .loop-test .taken),
       loop .inv .1,
-      sym (later-passes (s .args .table .now) (s .args .state .now) (loop .i) (low test) (kinds .before .kind-at .result)
+      sym (later-passes (s .args .table .now) (s .args .state .now) (loop .i) (low test)
+          (kinds .before .kind-at .result)
           (kinds .before .kind-at .ensures) (s .args .h .0) (loop .best .0) (loop .inv .1) none (s .pre .1)) ∙
           loop .inv .2,
     )

@@ -96,7 +96,8 @@ loop-again c =
     ap detects (lent-kind ts ss i (low test) ∙ sym (kinds .before .kind-at .ensures)) ∙ sym (kinds .detects .ensures) ∙
     not-true (kinds .detects .result) (c .if1 .taken) in (
       omega (arith, test .loop-test .taken),
-      sym (any-miss ts ss i (low test) (objects-settled (s .args .h .0) ps) (passes-trial (s .args .h .0) ps (part-at ps i) other)) ∙
+      sym (any-miss ts ss i (low test) (objects-settled (s .args .h .0) ps)
+          (passes-trial (s .args .h .0) ps (part-at ps i) other)) ∙
           test .before .loop .inv .1,
     )
 
@@ -141,7 +142,8 @@ returns c =
     let s = start-of test in
     let ts = s .args .table .now in
     let ss = s .args .trial .now in
-    sym (any-hit ts ss (test .before .loop .i) (low test) (objects-settled (s .args .h .0) (trimmed (model-in ts ss) .parts))
+    sym (any-hit ts ss (test .before .loop .i) (low test)
+    (objects-settled (s .args .h .0) (trimmed (model-in ts ss) .parts))
     (answers asked ∙ c .if2 .taken)) ∙
     test .before .loop .inv .1
 
@@ -164,7 +166,8 @@ loop-again-2 c =
     let ts = s .args .table .now in
     let ss = s .args .trial .now in (
       omega (arith, test .loop-test .taken),
-      sym (any-miss ts ss (test .before .loop .i) (low test) (objects-settled (s .args .h .0) (trimmed (model-in ts ss) .parts))
+      sym (any-miss ts ss (test .before .loop .i) (low test)
+          (objects-settled (s .args .h .0) (trimmed (model-in ts ss) .parts))
           (answers asked ∙ c .if2 .left)) ∙
           test .before .loop .inv .1,
     )

@@ -1,4 +1,4 @@
--- `accept` fills the start point of the table's model, which is then the fresh model; it stands at the position after End.
+-- `accept` fills the start point of the table's model, which is then the fresh model; it is at the position after End.
 use Rattle.machine.specs.Load.{accepted}
 use Rattle.machine.specs.Model.{trimmed-loaded}
 use borrow.Author.Needs.{needs}

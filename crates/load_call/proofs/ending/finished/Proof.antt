@@ -17,7 +17,8 @@ use Rattle.load_call.proofs.ending.finished.Tie as tie
 refusal : (r x : Loaded) (number at : ℕ) → r ≡ refused-blank number at → x ≡ refused number at →
     (trimmed-loaded r ≡ x) × ((r .number ≡ 0 → ⊥) → r .model ≡ blank-model)
 unfolding refused-blank
-refusal r x number at e f = (ap trimmed-loaded e ∙ refused-trimmed number at ∙ sym f, λ some. ap (λ (l : Loaded). l .model) e)
+refusal r x number at e f =
+    (ap trimmed-loaded e ∙ refused-trimmed number at ∙ sym f, λ some. ap (λ (l : Loaded). l .model) e)
 
 -- an acceptance is the definition's, and no refusal
 acceptance : (r x : Loaded) (at : ℕ) (t : Table) → trimmed-loaded r ≡ accepted at t → x ≡ accepted at t →
@@ -31,7 +32,8 @@ refused-requires c κs = search needs
 returns : tie.Need-returns
 returns c =
     let read = c .before .before .args .read in
-    refusal (c .refused .result) _ (read .number) (read .position) (c .refused .ensures) (refused-before read (c .before .if1 .taken))
+    refusal (c .refused .result) _ (read .number) (read .position) (c .refused .ensures)
+    (refused-before read (c .before .if1 .taken))
 
 judged-requires : tie.Need-judged-requires
 judged-requires c κs = c .before .pre .0 (c .if1 .left)
@@ -44,7 +46,8 @@ returns-2 c =
     let at-end = c .before .before in
     let read = at-end .before .before .args .read in
     refusal (c .refused2 .result) _ (at-end .judged .result .number) (read .position) (c .refused2 .ensures)
-    (refused-at-end read (at-end .judged .result .number) (at-end .before .if1 .left) (at-end .judged .ensures .number) (c .before .if2 .taken))
+    (refused-at-end read (at-end .judged .result .number) (at-end .before .if1 .left) (at-end .judged .ensures .number)
+    (c .before .if2 .taken))
 
 accept-requires : tie.Need-accept-requires
 accept-requires c κs =
@@ -61,7 +64,8 @@ returns-3 c =
     let at-end = c .before .before in
     let read = at-end .before .before .args .read in
     acceptance (c .accept .result) _ (read .position) _ (c .accept .ensures)
-    (accepted-at-end read (at-end .judged .result .number) (at-end .before .if1 .left) (at-end .judged .ensures .number) (c .before .if2 .left))
+    (accepted-at-end read (at-end .judged .result .number) (at-end .before .if1 .left) (at-end .judged .ensures .number)
+    (c .before .if2 .left))
 
 pub finished-spec : {M : Type 1} → statement M
 finished-spec =

@@ -16,7 +16,8 @@ few : (c : tie.Start) → c .args .read .count ≤ length (c .args .read .parts)
 few c = omega (arith, c .pre .few, simp length-map at (c .good .0))
 
 -- the magnitude found is that of the table
-magnitude-found : (c : tie.After-master-magnitude) → c .master-magnitude .result ≡ magnitude-of (table-read (c .before .before .args .read))
+magnitude-found : (c : tie.After-master-magnitude) →
+    c .master-magnitude .result ≡ magnitude-of (table-read (c .before .before .args .read))
 unfolding table-read table-in components-read
 magnitude-found c = c .master-magnitude .ensures
 
@@ -43,8 +44,10 @@ returns c =
     let start = magnitude .before .before in
     let read = start .args .read in
     let number =
-    judged-number read (few start) (magnitude .master-magnitude .result) (periods .periods-fit .result) (place .place .result) (c .before .end-refusal .result)
-    (magnitude-found magnitude) (periods .periods-fit .ensures) (place .place .ensures) (c .before .end-refusal .ensures) in
+    judged-number read (few start) (magnitude .master-magnitude .result) (periods .periods-fit .result)
+    (place .place .result) (c .before .end-refusal .result)
+    (magnitude-found magnitude) (periods .periods-fit .ensures) (place .place .ensures)
+    (c .before .end-refusal .ensures) in
     record {
       number = number;
       magnitude = magnitude-found magnitude;

@@ -24,10 +24,12 @@ returns c =
     let start = c .before .before .before .before in
     let read = start .args .read in
     let acceptable = start .pre in
-    let few : read .count ≤ length (read .parts) = omega (arith, acceptable .few, simp length-map at (start .good .0)) in
+    let few : read .count ≤ length (read .parts) =
+    omega (arith, acceptable .few, simp length-map at (start .good .0)) in
     let firsts = c .before .before .first-parts in
     let stored = ap (λ (l : List Part). map trimmed-part (take (read .count) l)) (firsts .ensures) in
-    rw (c .start .ensures) (unfilled-is read few (start .args .ending) (firsts .result) acceptable (stored ∙ first-stored (read .count) (read .parts) few _))
+    rw (c .start .ensures) (unfilled-is read few (start .args .ending) (firsts .result) acceptable (stored ∙
+    first-stored (read .count) (read .parts) few _))
 
 pub unfilled-model-spec : {M : Type 1} → statement M
 unfilled-model-spec = tie.close (tie.spec first-parts-requires start-requires returns)

@@ -13,8 +13,10 @@ use borrow.Author.Needs.{needs}
 use Rattle.load_call.proofs.first.first_part.Statement.{statement}
 use Rattle.load_call.proofs.first.first_part.Tie as tie
 
--- a number at the start as the definition has it, where the test of the kind and the operand, once read back from its bits, are the definition's
-number-of : {holds held : Bool} {bits v r : ℤ} → holds ≡ held → bits ≡ v → r ≡ cond holds bits (pos 0) → r ≡ cond held v (pos 0)
+-- a number at the start as the definition has it, where the test of the kind and the operand, once read back from its
+-- bits, are the definition's
+number-of : {holds held : Bool} {bits v r : ℤ} → holds ≡ held → bits ≡ v → r ≡ cond holds bits (pos 0) →
+    r ≡ cond held v (pos 0)
 number-of holds bits e = rw (holds, bits) at e
 
 -- the start, seen from the test of the kind for the held number
@@ -22,7 +24,8 @@ abbrev start-of : tie.After-holds-number → tie.Start
 start-of c = c .before .before
 
 -- the held number, and the speed
-helds : (c : tie.After-first-number) → let args = start-of (c .before .before) .args in c .first-number .result ≡ cond (integrates (args .c .kind)) (args .c .a) (pos 0)
+helds : (c : tie.After-first-number) → let args = start-of (c .before .before) .args in
+    c .first-number .result ≡ cond (integrates (args .c .kind)) (args .c .a) (pos 0)
 helds c =
     let a = start-of (c .before .before) .args .c .a in
     let fits : SFits w64 a = record { sfits = omega arith } in
@@ -67,4 +70,5 @@ returns c =
 pub first-part-spec : {M : Type 1} → statement M
 first-part-spec =
     tie.close
-    (tie.spec ratio-of-requires holds-number-requires first-number-requires has-mass-requires first-number-requires-2 returns)
+    (tie.spec ratio-of-requires holds-number-requires first-number-requires has-mass-requires first-number-requires-2
+    returns)

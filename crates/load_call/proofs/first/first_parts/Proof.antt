@@ -1,5 +1,5 @@
--- `first_parts` puts the first part of each component into its place. The loop's invariant: the first i places hold the first parts of their
--- components, and the places behind are as they were. The measure is what is left of the count.
+-- `first_parts` puts the first part of each component into its place. The loop's invariant: the first i places hold the
+-- first parts of their components, and the places after are as they were. The measure is what is left of the count.
 use Prim.Native.Nat.{_-_, _≤_, _<_}
 use native.Mathlib.Omega.{arith}
 use mathlib.Core.Path.{_≡_, refl, ap₂, _∙_}
@@ -14,7 +14,8 @@ use Rattle.load_call.proofs.first.first_parts.Statement.{statement}
 use Rattle.load_call.proofs.first.first_parts.Tie as tie
 
 abbrev Inv-loop : tie.InvT-loop
-Inv-loop count magnitude parts all₀ i₀ all i = (i ≤ count) × (all ≡ map (first-by magnitude) (take i parts) ++ drop i all₀)
+Inv-loop count magnitude parts all₀ i₀ all i = (i ≤ count) ×
+    (all ≡ map (first-by magnitude) (take i parts) ++ drop i all₀)
 
 abbrev μ-loop : tie.MeasureT-loop
 μ-loop count magnitude parts all₀ i₀ all i = count - i

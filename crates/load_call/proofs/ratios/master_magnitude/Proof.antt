@@ -1,5 +1,5 @@
--- `master_magnitude` is the master's magnitude of the table. The loop's invariant: it is that of what was found so far and the preferences from i on.
--- The measure is what is left of the count.
+-- `master_magnitude` is the master's magnitude of the table. The loop's invariant: it is that of what was found so far
+-- and the preferences from i on. The measure is what is left of the count.
 use Prim.Native.Nat.{ℕ, _+_, _-_, _≤_}
 use native.Mathlib.Omega.{arith}
 use mathlib.Core.Path.{_≡_, _∙_, refl, sym, ap}
@@ -14,7 +14,8 @@ use Rattle.load_call.proofs.ratios.master_magnitude.Tie as tie
 
 abbrev Inv-loop : tie.InvT-loop
 Inv-loop count default parts magnitude₀ i₀ magnitude i =
-    master-magnitude default (preferences-read count parts) ≡ master-magnitude magnitude (drop i (preferences-read count parts))
+    master-magnitude default (preferences-read count parts) ≡
+    master-magnitude magnitude (drop i (preferences-read count parts))
 
 abbrev μ-loop : tie.MeasureT-loop
 μ-loop count default parts magnitude₀ i₀ magnitude i = count - i
@@ -56,7 +57,8 @@ returns c =
     let count = start .args .count in
     let parts = start .args .t1 in
     let few : count ≤ length parts = omega arith in
-    let past : length (preferences-read count parts) ≤ loop .i = rw (preferences-count count parts few) (c .loop-test .left) in
+    let past : length (preferences-read count parts) ≤ loop .i =
+    rw (preferences-count count parts few) (c .loop-test .left) in
     sym (loop .inv ∙ magnitude-end (loop .magnitude) (preferences-read count parts) (loop .i) past)
 
 pub master-magnitude-spec : {M : Type 1} → statement M

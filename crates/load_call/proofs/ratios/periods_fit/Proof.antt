@@ -1,5 +1,5 @@
--- `periods_fit` asks every component. The loop's invariant: the test of all components is the test of those from i on. The measure is what is left
--- of the count.
+-- `periods_fit` asks every component. The loop's invariant: the test of all components is the test of those from i on.
+-- The measure is what is left of the count.
 use Prim.Native.Nat.{_+_, _-_, _≤_}
 use native.Mathlib.Omega.{arith}
 use mathlib.Core.Path.{_≡_, _∙_, refl, sym}
@@ -12,7 +12,9 @@ use Rattle.load_call.proofs.ratios.periods_fit.Statement.{statement}
 use Rattle.load_call.proofs.ratios.periods_fit.Tie as tie
 
 abbrev Inv-loop : tie.InvT-loop
-Inv-loop count magnitude parts i₀ i = periods-within magnitude (components-read count parts) ≡ periods-within magnitude (drop i (components-read count parts))
+Inv-loop count magnitude parts i₀ i =
+    periods-within magnitude (components-read count parts) ≡
+    periods-within magnitude (drop i (components-read count parts))
 
 abbrev μ-loop : tie.MeasureT-loop
 μ-loop count magnitude parts i₀ i = count - i
@@ -30,7 +32,8 @@ turn c =
     let i = test .before .loop .i in
     let parts = start .args .t1 in
     let few : start .args .count ≤ length parts = omega arith in
-    test .before .loop .inv ∙ periods-on (start .args .count) parts few (start .args .magnitude) i (test .loop-test .taken) ∙
+    test .before .loop .inv ∙
+    periods-on (start .args .count) parts few (start .args .magnitude) i (test .loop-test .taken) ∙
     rw (c .period-fits .ensures, c .before .ratio-of .ensures)
 
 loop-holds : tie.Need-loop-holds Inv-loop μ-loop
@@ -65,7 +68,8 @@ returns-2 c =
     let start = c .before .before in
     let parts = start .args .t1 in
     let few : start .args .count ≤ length parts = omega arith in
-    sym (c .before .loop .inv ∙ periods-end (start .args .count) parts few (start .args .magnitude) (c .before .loop .i) (c .loop-test .left))
+    sym (c .before .loop .inv ∙
+    periods-end (start .args .count) parts few (start .args .magnitude) (c .before .loop .i) (c .loop-test .left))
 
 pub periods-fit-spec : {M : Type 1} → statement M
 periods-fit-spec =

@@ -1,4 +1,5 @@
--- `wire_refusal` makes the definition's tests of the two parts in its order; what is left depends on the receiver's ports alone.
+-- `wire_refusal` makes the definition's tests of the two parts in its order; what is left depends on the receiver's
+-- ports alone.
 use Prim.Native.Nat.{ℕ, _<_, _≤_}
 use native.Mathlib.Omega.{arith}
 use mathlib.Core.Path.{_≡_, _∙_, sym}
@@ -18,7 +19,8 @@ use Rattle.load_commands.proofs.progress.wire_refusal.Statement.{statem
 use Rattle.load_commands.proofs.progress.wire_refusal.Tie as tie
 
 -- the source is no part that was read
-source-unknown : (cs : List Component) (n source receiver port : ℕ) → length cs ≡ n → n ≤ source → wire-refusal cs source receiver port ≡ 7
+source-unknown : (cs : List Component) (n source receiver port : ℕ) → length cs ≡ n → n ≤ source →
+    wire-refusal cs source receiver port ≡ 7
 unfolding wire-refusal
 source-unknown cs n source receiver port many none = rw (many, le-ltb source n none)
 
@@ -36,18 +38,22 @@ unfolding wire-refusal source-of port-number
 both-known cs n source receiver port many there here = rw (many, lt-ltb source n there, lt-ltb receiver n here)
 
 -- and these are the ports of the part in its place
-port-left : (progress : Progress) (source receiver port : ℕ) (rows : List (List ℕ)) → progress .count ≤ length (progress .parts) →
+port-left : (progress : Progress) (source receiver port : ℕ) (rows : List (List ℕ)) →
+    progress .count ≤ length (progress .parts) →
     source < progress .count → receiver < progress .count →
     let c = component-at (progress .parts) receiver in
-    wire-refusal (reading-of progress rows .table .parts) source receiver port ≡ port-number (c .kind) (c .port0) (c .port1) port
+    wire-refusal (reading-of progress rows .table .parts) source receiver port ≡
+    port-number (c .kind) (c .port0) (c .port1) port
 unfolding with-row
 port-left progress source receiver port rows few there here =
-    both-known (reading-of progress rows .table .parts) (progress .count) source receiver port (length-reading progress rows few) there here ∙
+    both-known (reading-of progress rows .table .parts) (progress .count) source receiver port
+    (length-reading progress rows few) there here ∙
     rw (reading-at progress rows receiver here few)
 
 -- there are places for as many parts as the progress counts
 few : (c : tie.Start) → c .args .t1 .count ≤ length (c .args .t1 .parts)
-few c = let many : length (c .args .t1 .parts) ≡ most-parts = omega (arith, simp length-map at (c .good .0)) in omega arith
+few c = let many : length (c .args .t1 .parts) ≡ most-parts = omega (arith, simp length-map at (c .good .0)) in
+    omega arith
 
 returns : tie.Need-returns
 returns c =
@@ -59,7 +65,8 @@ returns-2 : tie.Need-returns-2
 returns-2 c =
     let start = c .before .before in
     let progress = start .args .t1 in
-    λ rows. sym (receiver-unknown _ (progress .count) _ _ _ (length-reading progress rows (few start)) (c .before .if1 .left) (c .if2 .taken))
+    λ rows. sym (receiver-unknown _ (progress .count) _ _ _ (length-reading progress rows (few start))
+    (c .before .if1 .left) (c .if2 .taken))
 
 mul-c : tie.Need-mul-c
 mul-c c = search needs

@@ -1,4 +1,5 @@
--- `with_part` puts a component behind the last. It counts no spans, so that with any row it is the definition's component.
+-- `with_part` puts a component after the last. It counts no spans, so that with any row it is the definition's
+-- component.
 use Prim.Native.Nat.{ℕ, _+_, _<_}
 use native.Mathlib.Numerals.{add-one}
 use native.Mathlib.Omega.{arith}
@@ -27,8 +28,9 @@ same-kind : (o : PartOperands) → is-drive (made-component o .kind) ≡ is-driv
 unfolding made-component component-of
 same-kind o = refl
 
--- a component made and put behind the last is one part more
-added : (progress : Progress) (o : PartOperands) (made : Component) (drive : Bool) → made ≡ made-component o → drive ≡ is-drive (made .kind) →
+-- a component made and put after the last is one part more
+added : (progress : Progress) (o : PartOperands) (made : Component) (drive : Bool) → made ≡ made-component o →
+    drive ≡ is-drive (made .kind) →
     progress .count < length (progress .parts) → (rows : List (List ℕ)) →
     reading-of
     (record {

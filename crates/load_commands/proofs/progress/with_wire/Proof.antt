@@ -19,12 +19,14 @@ use Rattle.load_commands.proofs.progress.with_wire.Statement.{statement
 use Rattle.load_commands.proofs.progress.with_wire.Tie as tie
 
 -- a row is joined to a wired component as to the component
-row-wire : (c : Component) (row : List ℕ) (port source : ℕ) → with-row (with-wire c port source) row ≡ with-wire (with-row c row) port source
+row-wire : (c : Component) (row : List ℕ) (port source : ℕ) →
+    with-row (with-wire c port source) row ≡ with-wire (with-row c row) port source
 unfolding with-row with-wire
 row-wire c row port source = refl
 
 -- the part replaced by itself with a port wired
-wired-as : (progress : Progress) (k port source : ℕ) (made : Component) → made ≡ with-wire (component-at (progress .parts) k) port source →
+wired-as : (progress : Progress) (k port source : ℕ) (made : Component) →
+    made ≡ with-wire (component-at (progress .parts) k) port source →
     k < progress .count → progress .count ≤ length (progress .parts) → (rows : List (List ℕ)) →
     reading-of
     (record {
@@ -66,7 +68,8 @@ returns c =
     let progress = start .args .t1 in
     let many : length (progress .parts) ≡ most-parts = omega (arith, simp length-map at (start .good .0)) in
     let few : progress .count ≤ length (progress .parts) = omega arith in (
-      wired-as progress (start .args .receiver) (start .args .port) (start .args .source) _ (c .before .wired-component .ensures)
+      wired-as progress (start .args .receiver) (start .args .port) (start .args .source) _
+          (c .before .wired-component .ensures)
           (start .pre .0) few,
       omega arith,
     )

@@ -35,7 +35,10 @@ array-read-result : tie.Need-array-read-result
 array-read-result c = search needs
 
 returns-2 : tie.Need-returns-2
-returns-2 c = record { is = last-as (c .before .args .t1) (c .before .args .n) (omega arith) (omega arith); eight = omega arith }
+returns-2 c = record {
+  is = last-as (c .before .args .t1) (c .before .args .n) (omega arith) (omega arith);
+  eight = omega arith;
+}
 
 pub last-span-spec : {M : Type 1} → statement M
 last-span-spec = tie.close (tie.spec returns sub-result mul-result array-read-result returns-2)

@@ -1,4 +1,5 @@
--- `with_span_counted` replaces a part by itself with one span more counted; with the span in its row it is the definition's part with a span more.
+-- `with_span_counted` replaces a part by itself with one span more counted; with the span in its row it is the
+-- definition's part with a span more.
 use Prim.Native.Nat.{ℕ, _+_, _<_, _≤_}
 use native.Mathlib.Numerals.{add-one}
 use native.Mathlib.Omega.{arith}
@@ -41,7 +42,8 @@ unfolding with-row with-span
 row-span c row v here = rw (add-one (c .«span_count»), take-suc-set row (c .«span_count») v here)
 
 -- the part replaced by itself with one span more
-spanned-as : (progress : Progress) (k : ℕ) → k < progress .count → progress .count ≤ length (progress .parts) → (rows : List (List ℕ)) (v : ℕ) →
+spanned-as : (progress : Progress) (k : ℕ) → k < progress .count → progress .count ≤ length (progress .parts) →
+    (rows : List (List ℕ)) (v : ℕ) →
     k < length rows → component-at (progress .parts) k .«span_count» < length (getD rows k []) →
     reading-of
     (record {
@@ -57,7 +59,8 @@ spanned-as progress k here few rows v there room =
     let part = component-at (progress .parts) k in
     rw (
       take-set-lt (progress .count) (progress .parts) k (counted part) here,
-      joined-set-row (take (progress .count) (progress .parts)) rows k (counted part) (set (getD rows k []) (part .«span_count») v) there,
+      joined-set-row (take (progress .count) (progress .parts)) rows k (counted part)
+          (set (getD rows k []) (part .«span_count») v) there,
       reading-at progress rows k here few,
       row-span part (getD rows k []) v room,
     )

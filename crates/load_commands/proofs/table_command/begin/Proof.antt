@@ -52,7 +52,8 @@ returns-2 c =
     let start = found .before .before .before .before in
     let args = start .args in
     let got = rw (found .e .given .1) at (byte-cases (found .before .before .byte .ensures)) in (
-      λ rows. c .begin-step .ensures .0 rows ∙ begin-as (args .s .now) (args .at) _ _ (omega arith) (got .1) (omega arith),
+      λ rows. c .begin-step .ensures .0 rows ∙
+          begin-as (args .s .now) (args .at) _ _ (omega arith) (got .1) (omega arith),
       c .begin-step .ensures .1,
     )
 

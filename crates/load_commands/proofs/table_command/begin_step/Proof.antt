@@ -16,7 +16,8 @@ returns : tie.Need-returns
 returns c =
     let found = c .before .before in
     let refused = c .refused-step in (
-      λ rows. refused-as (refused .result) _ _ _ (refused .ensures) rows _ _ _ (c .before .if1 .taken) (found .begin-refusal .ensures),
+      λ rows. refused-as (refused .result) _ _ _ (refused .ensures) rows _ _ _ (c .before .if1 .taken)
+          (found .begin-refusal .ensures),
       refused-left (refused .result) _ _ _ (refused .ensures) (found .before .pre),
     )
 
@@ -32,4 +33,5 @@ returns-2 c =
     )
 
 pub begin-step-spec : {M : Type 1} → statement M
-begin-step-spec = tie.close (tie.spec begin-refusal-requires refused-step-requires returns with-begin-requires returns-2)
+begin-step-spec = tie.close
+    (tie.spec begin-refusal-requires refused-step-requires returns with-begin-requires returns-2)

@@ -21,7 +21,8 @@ use Rattle.load_commands.proofs.table_command.part.Statement.{statement
 use Rattle.load_commands.proofs.table_command.part.Tie as tie
 
 -- the operands read make the definition's component
-read-as : (bs : List ℕ) (at : ℕ) (o : PartOperands) → o ≡ part-operands-at bs (at + 1) → part-read bs at ≡ component-of o
+read-as : (bs : List ℕ) (at : ℕ) (o : PartOperands) → o ≡ part-operands-at bs (at + 1) →
+    part-read bs at ≡ component-of o
 unfolding part-read component-of
 read-as bs at o operands =
     let preference : at + 1 + 1 ≡ at + 2 = omega arith in
@@ -31,16 +32,19 @@ read-as bs at o operands =
     rw (operands, preference, a, b, p)
 
 -- and the definition's refusal
-number-as : (bs : List ℕ) (at : ℕ) (progress : Progress) (o : PartOperands) (rows : List (List ℕ)) → length (progress .parts) ≡ most-parts →
+number-as : (bs : List ℕ) (at : ℕ) (progress : Progress) (o : PartOperands) (rows : List (List ℕ)) →
+    length (progress .parts) ≡ most-parts →
     o ≡ part-operands-at bs (at + 1) →
-    part-refusal (reading-of progress rows .table .parts) (byte-at bs (at + 1)) (part-read bs at) ≡ part-number (progress .count) o
+    part-refusal (reading-of progress rows .table .parts) (byte-at bs (at + 1)) (part-read bs at) ≡
+    part-number (progress .count) o
 unfolding reading-of part-refusal part-number component-of
 number-as bs at progress o rows many operands =
     let kind : o .kind ≡ byte-at bs (at + 1) = ap (λ (x : PartOperands). x .kind) operands in
     rw (read-as bs at o operands, ← kind, length-joined, length-take, many, at-least-min, operands-judged o)
 
 -- a Part that is whole is the definition's
-part-as : (bs : List ℕ) (at : ℕ) (progress : Progress) (o : PartOperands) (next : ℕ) (rows : List (List ℕ)) → length (progress .parts) ≡ most-parts →
+part-as : (bs : List ℕ) (at : ℕ) (progress : Progress) (o : PartOperands) (next : ℕ) (rows : List (List ℕ)) →
+    length (progress .parts) ≡ most-parts →
     at + 15 ≤ length bs → o ≡ part-operands-at bs (at + 1) → next ≡ at + 15 →
     unless-refused (part-number (progress .count) o) at next (with-part (reading-of progress rows) (component-of o)) ≡
     uncut bs at 15 (part-command bs at (reading-of progress rows))
@@ -87,7 +91,8 @@ returns-2 c =
     let start = found .before .before .before .before in
     let args = start .args in
     let got = rw (found .o .given .1) at (part-cases (found .before .before .part-operands .ensures)) in
-    let many : length (args .progress .parts) ≡ most-parts = omega (arith, simp length-map at (start .good .1 .1 .0)) in (
+    let many : length (args .progress .parts) ≡ most-parts =
+    omega (arith, simp length-map at (start .good .1 .1 .0)) in (
       λ rows.
           c .part-step .ensures .0 rows ∙
           part-as (args .s .now) (args .at) (args .progress) _ _ rows many (omega arith) (got .1) (omega arith),

@@ -26,7 +26,8 @@ returns : tie.Need-returns
 returns c =
     let found = c .before .before in
     let refused = c .refused-step in (
-      λ rows. refused-as (refused .result) _ _ _ (refused .ensures) rows _ _ _ (c .before .if1 .taken) (found .part-refusal .ensures),
+      λ rows. refused-as (refused .result) _ _ _ (refused .ensures) rows _ _ _ (c .before .if1 .taken)
+          (found .part-refusal .ensures),
       refused-left (refused .result) _ _ _ (refused .ensures) (found .before .pre),
     )
 

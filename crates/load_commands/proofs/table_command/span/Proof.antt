@@ -1,4 +1,5 @@
--- `span` is cut where its operand is; else its step is the definition's, at the last part, and a refused one leaves no span.
+-- `span` is cut where its operand is; else its step is the definition's, at the last part, and a refused one leaves no
+-- span.
 use Prim.Native.Nat.{ℕ, _+_, _≤_}
 use native.Mathlib.Omega.{arith}
 use mathlib.Core.Path.{_≡_, _∙_, refl}
@@ -12,25 +13,29 @@ use Rattle.load_commands.specs.Spanned.{RowThere, last-place, row-with, 
 use Rattle.load_operands.specs.Operands.{word-cases}
 use Rattle.load_operands.specs.Refusals.{span-number}
 use Rattle.load_commands.specs.Beside.{span-stepped}
-use Rattle.load_commands.specs.CommandSteps.{cut-as, refused-beside, refused-left, span-refused-left, step-of, uncut}
+use Rattle.load_commands.specs.CommandSteps.{cut-as, refused-beside, refused-left, span-refused-left, step-of}
+use Rattle.load_commands.specs.CommandSteps.{uncut}
 use borrow.Author.Needs.{needs}
 use Rattle.load_commands.proofs.table_command.span.Statement.{statement}
 use Rattle.load_commands.proofs.table_command.span.Tie as tie
 
 -- a Span that is whole is the definition's
-span-as : (bs : List ℕ) (at : ℕ) (progress : Progress) (rows : List (List ℕ)) (last v next : ℕ) → at + 5 ≤ length bs → v ≡ word-at bs (at + 1) → next ≡ at + 5 →
-    unless-refused (span-number (span-count progress) last v) at next (spanned-reading (reading-of progress rows) (last-place progress) v) ≡
+span-as : (bs : List ℕ) (at : ℕ) (progress : Progress) (rows : List (List ℕ)) (last v next : ℕ) → at + 5 ≤ length bs →
+    v ≡ word-at bs (at + 1) → next ≡ at + 5 →
+    unless-refused (span-number (span-count progress) last v) at next
+    (spanned-reading (reading-of progress rows) (last-place progress) v) ≡
     uncut bs at 5 (span-stepped bs at progress last rows)
 unfolding uncut span-stepped
 span-as bs at progress rows last v next whole same there = rw (there, same, le-leb (at + 5) (length bs) whole)
 
--- the step that was made is the definition's, beside the rows with the value read
+-- the step that was made is the definition's, with the rows with the value read
 stepped : (c : tie.After-span-step) (rows : List (List ℕ)) →
     let found = c .before .before in
     let start = found .before .before .before .before in
     let args = start .args in
     RowThere (args .progress) rows →
-    step-of (row-with rows (last-place (args .progress)) (span-count (args .progress)) (found .v .given .0 .0)) (args .at) (c .span-step .result) ≡
+    step-of (row-with rows (last-place (args .progress)) (span-count (args .progress)) (found .v .given .0 .0))
+    (args .at) (c .span-step .result) ≡
     uncut (args .s .now) (args .at) 5 (span-stepped (args .s .now) (args .at) (args .progress) (args .last) rows)
 stepped c rows row =
     let found = c .before .before in

@@ -1,4 +1,5 @@
--- `span_step` is refused by the last part's count and last span, and else has one span more; a span that is not refused has room.
+-- `span_step` is refused by the last part's count and last span, and else has one span more; a span that is not refused
+-- has room.
 use Prim.Native.Nat.{ℕ, _<_}
 use native.Mathlib.Omega.{arith}
 use mathlib.Core.Path.{_≡_, _∙_, refl, sym}
@@ -36,7 +37,8 @@ returns : tie.Need-returns
 returns c =
     let found = c .before .before in
     let refused = c .refused-step in (
-      λ rows row. refused-as (refused .result) _ _ _ (refused .ensures) _ _ _ _ (c .before .if1 .taken) (found .span-refusal .ensures),
+      λ rows row. refused-as (refused .result) _ _ _ (refused .ensures) _ _ _ _ (c .before .if1 .taken)
+          (found .span-refusal .ensures),
       refused-left (refused .result) _ _ _ (refused .ensures) (found .before .before .pre .1),
     )
 
@@ -52,10 +54,15 @@ returns-2 c =
     let start = c .before .before .before .before in
     let progress = start .args .t1 in
     let number = c .before .before .span-refusal in
-    let room = span-room (span-count progress) (start .args .last) (start .args .v) (sym (number .ensures) ∙ c .before .if1 .left) in (
+    let room = span-room (span-count progress) (start .args .last) (start .args .v) (sym (number .ensures) ∙
+    c .before .if1 .left) in (
       λ rows row.
           let inside : span-count progress < length (getD rows (last-place progress) []) = rw (row .eight) room in
-          rw (← number .ensures, c .before .if1 .left, c .with-span-counted .ensures .0 rows (start .args .v) (row .there) inside),
+          rw (
+            ← number .ensures,
+            c .before .if1 .left,
+            c .with-span-counted .ensures .0 rows (start .args .v) (row .there) inside,
+          ),
       record { few = omega arith; refused = λ some. absurd (some refl) },
     )
 

@@ -16,7 +16,8 @@ use Rattle.load_commands.proofs.table_command.wire.Statement.{statement
 use Rattle.load_commands.proofs.table_command.wire.Tie as tie
 
 -- a Wire that is whole is the definition's
-wire-as : (bs : List ℕ) (at : ℕ) (rd : Reading) (o : WireOperands) (next : ℕ) → at + 4 ≤ length bs → o ≡ wire-operands-at bs (at + 1) → next ≡ at + 4 →
+wire-as : (bs : List ℕ) (at : ℕ) (rd : Reading) (o : WireOperands) (next : ℕ) → at + 4 ≤ length bs →
+    o ≡ wire-operands-at bs (at + 1) → next ≡ at + 4 →
     unless-refused (wire-refusal (rd .table .parts) (o .source) (o .receiver) (o .port)) at next
     (wired-reading rd (o .receiver) (o .port) (o .source)) ≡
     uncut bs at 4 (wire-command bs at rd)

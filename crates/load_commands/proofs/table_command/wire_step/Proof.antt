@@ -1,4 +1,5 @@
--- `wire_step` is refused as the definition, and else has a port wired; a receiver that is not refused is a part that was read.
+-- `wire_step` is refused as the definition, and else has a port wired; a receiver that is not refused is a part that
+-- was read.
 use Prim.Native.Nat.{_≤_}
 use native.Mathlib.Omega.{arith}
 use mathlib.Core.Path.{_≡_, _∙_, refl, sym}
@@ -23,7 +24,8 @@ returns : tie.Need-returns
 returns c =
     let found = c .before .before in
     let refused = c .refused-step in (
-      λ rows. refused-as (refused .result) _ _ _ (refused .ensures) rows _ _ _ (c .before .if1 .taken) (found .wire-refusal .ensures rows),
+      λ rows. refused-as (refused .result) _ _ _ (refused .ensures) rows _ _ _ (c .before .if1 .taken)
+          (found .wire-refusal .ensures rows),
       refused-left (refused .result) _ _ _ (refused .ensures) (found .before .pre),
     )
 
@@ -38,7 +40,8 @@ with-wire-requires c κs =
     let many : length (progress .parts) ≡ most-parts = omega (arith, simp length-map at (start .good .0)) in
     let few : progress .count ≤ length (progress .parts) = omega arith in
     let none = sym (c .before .before .wire-refusal .ensures []) ∙ c .before .if1 .left in
-    let (there, here, port) = wire-passed (reading-of progress [] .table .parts) (o .source) (o .receiver) (o .port) none in
+    let (there, here, port) =
+    wire-passed (reading-of progress [] .table .parts) (o .source) (o .receiver) (o .port) none in
     (rw (length-reading progress [] few) at here, start .pre)
 
 returns-2 : tie.Need-returns-2

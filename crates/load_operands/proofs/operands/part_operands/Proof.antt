@@ -1,5 +1,5 @@
--- `part_operands` reads five operands in a row. Each stands where those before it end, by their widths, and the bytes up to there are in the stream. Where one
--- is cut, the stream ends before the last.
+-- `part_operands` reads five operands in a row. Each is where those before it end, by their widths, and the bytes up to
+-- there are in the stream. Where one is cut, the stream ends before the last.
 use Prim.Native.Nat.{ℕ, _+_}
 use native.Mathlib.Omega.{arith}
 use mathlib.Core.Path.{_≡_}
@@ -7,7 +7,8 @@ use mathlib.Core.List.{List}
 use borrow.Author.Needs.{needs}
 use Rattle.machine.specs.Load.{byte-at, word-at}
 use Rattle.load_operands.specs.declared.operands.PartOperands.{PartOperands}
-use Rattle.load_operands.specs.Operands.{Behind, ReadAt, byte-cases, cut-read, part-operands-at, read-behind, whole-read, word-cases}
+use Rattle.load_operands.specs.Operands.{Behind, ReadAt, byte-cases, cut-read, part-operands-at, read-behind}
+use Rattle.load_operands.specs.Operands.{whole-read, word-cases}
 use Rattle.load_operands.proofs.operands.part_operands.Statement.{statement}
 use Rattle.load_operands.proofs.operands.part_operands.Tie as tie
 
@@ -21,7 +22,7 @@ bytes c = start-of c .args .s .now
 abbrev from : tie.After-kind → ℕ
 from c = start-of c .args .c .at
 
--- the place of each operand, from that of the one behind it
+-- the place of each operand, from that of the one after it
 abbrev at-kind : tie.After-preference → tie.After-kind
 at-kind c = c .before .before .before .before
 
@@ -34,7 +35,7 @@ at-a c = c .before .before .before .before
 abbrev at-b : tie.After-p → tie.After-b
 at-b c = c .before .before .before .before
 
--- each operand is the one so many bytes behind the first, and the cursor stands behind it
+-- each operand is the one so many bytes after the first, and the cursor is after it
 kind-read : (c : tie.After-kind) →
     Behind (bytes c) (from c) 1 (c .kind .given .0 .1 .0) × (c .kind .given .0 .0 ≡ byte-at (bytes c) (from c))
 kind-read c = rw (c .kind .given .1) at (byte-cases (c .before .before .byte .ensures))
@@ -42,27 +43,33 @@ kind-read c = rw (c .kind .given .1) at (byte-cases (c .before .before .byte .en
 preference-read : (c : tie.After-preference) →
     let start = at-kind c in
     ReadAt byte-at (bytes start) (from start) 1 1 (c .preference .given .0 .0) (c .preference .given .0 .1 .0)
-preference-read c = read-behind byte-at _ _ 1 1 _ _ _ (kind-read (at-kind c) .0) (rw (c .preference .given .1) at (byte-cases (c .before .before .byte2 .ensures)))
+preference-read c = read-behind byte-at _ _ 1 1 _ _ _ (kind-read (at-kind c) .0)
+    (rw (c .preference .given .1) at (byte-cases (c .before .before .byte2 .ensures)))
 
 a-read : (c : tie.After-a) →
     let start = at-kind (at-preference c) in
     ReadAt word-at (bytes start) (from start) 2 4 (c .a .given .0 .0) (c .a .given .0 .1 .0)
-a-read c = read-behind word-at _ _ 2 4 _ _ _ (preference-read (at-preference c) .0) (rw (c .a .given .1) at (word-cases (c .before .before .u32-at .ensures)))
+a-read c = read-behind word-at _ _ 2 4 _ _ _ (preference-read (at-preference c) .0)
+    (rw (c .a .given .1) at (word-cases (c .before .before .u32-at .ensures)))
 
 b-read : (c : tie.After-b) →
     let start = at-kind (at-preference (at-a c)) in
     ReadAt word-at (bytes start) (from start) 6 4 (c .b .given .0 .0) (c .b .given .0 .1 .0)
-b-read c = read-behind word-at _ _ 6 4 _ _ _ (a-read (at-a c) .0) (rw (c .b .given .1) at (word-cases (c .before .before .u32-at2 .ensures)))
+b-read c = read-behind word-at _ _ 6 4 _ _ _ (a-read (at-a c) .0)
+    (rw (c .b .given .1) at (word-cases (c .before .before .u32-at2 .ensures)))
 
 p-read : (c : tie.After-p) →
     let start = at-kind (at-preference (at-a (at-b c))) in
     ReadAt word-at (bytes start) (from start) 10 4 (c .p .given .0 .0) (c .p .given .0 .1 .0)
-p-read c = read-behind word-at _ _ 10 4 _ _ _ (b-read (at-b c) .0) (rw (c .p .given .1) at (word-cases (c .before .before .u32-at3 .ensures)))
+p-read c = read-behind word-at _ _ 10 4 _ _ _ (b-read (at-b c) .0)
+    (rw (c .p .given .1) at (word-cases (c .before .before .u32-at3 .ensures)))
 
 -- operands that are each the definition's are the definition's
-part-made : (bs : List ℕ) (at kind preference a b p : ℕ) → kind ≡ byte-at bs at → preference ≡ byte-at bs (at + 1) → a ≡ word-at bs (at + 2) →
+part-made : (bs : List ℕ) (at kind preference a b p : ℕ) → kind ≡ byte-at bs at → preference ≡ byte-at bs (at + 1) →
+    a ≡ word-at bs (at + 2) →
     b ≡ word-at bs (at + 6) → p ≡ word-at bs (at + 10) →
-    _≡_ {A = PartOperands} (record { kind = kind; preference = preference; a = a; b = b; p = p }) (part-operands-at bs at)
+    _≡_ {A = PartOperands} (record { kind = kind; preference = preference; a = a; b = b; p = p })
+    (part-operands-at bs at)
 part-made bs at kind preference a b p k q f g h = rw (k, q, f, g, h)
 
 byte-requires : tie.Need-byte-requires
@@ -146,7 +153,8 @@ returns-6 c =
     let a = at-a b in
     let preference = at-preference a in
     let kind = at-kind preference in
-    let same = part-made _ _ _ _ _ _ _ (kind-read kind .1) (preference-read preference .1) (a-read a .1) (b-read b .1) (p-read p .1) in
+    let same = part-made _ _ _ _ _ _ _ (kind-read kind .1) (preference-read preference .1) (a-read a .1) (b-read b .1)
+    (p-read p .1) in
     record { is = whole-read _ _ 14 _ _ _ _ (p-read p .0) same }
 
 pub part-operands-spec : {M : Type 1} → statement M

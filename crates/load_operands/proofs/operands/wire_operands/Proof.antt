@@ -1,5 +1,5 @@
--- `wire_operands` reads three operands in a row. Each stands where those before it end, by their widths, and the bytes up to there are in the stream. Where one
--- is cut, the stream ends before the last.
+-- `wire_operands` reads three operands in a row. Each is where those before it end, by their widths, and the bytes up
+-- to there are in the stream. Where one is cut, the stream ends before the last.
 use Prim.Native.Nat.{ℕ, _+_}
 use native.Mathlib.Omega.{arith}
 use mathlib.Core.Path.{_≡_}
@@ -7,7 +7,8 @@ use mathlib.Core.List.{List}
 use borrow.Author.Needs.{needs}
 use Rattle.machine.specs.Load.{byte-at}
 use Rattle.load_operands.specs.declared.operands.WireOperands.{WireOperands}
-use Rattle.load_operands.specs.Operands.{Behind, ReadAt, byte-cases, cut-read, read-behind, whole-read, wire-operands-at}
+use Rattle.load_operands.specs.Operands.{Behind, ReadAt, byte-cases, cut-read, read-behind, whole-read}
+use Rattle.load_operands.specs.Operands.{wire-operands-at}
 use Rattle.load_operands.proofs.operands.wire_operands.Statement.{statement}
 use Rattle.load_operands.proofs.operands.wire_operands.Tie as tie
 
@@ -21,14 +22,14 @@ bytes c = start-of c .args .s .now
 abbrev from : tie.After-source → ℕ
 from c = start-of c .args .c .at
 
--- the place of each operand, from that of the one behind it
+-- the place of each operand, from that of the one after it
 abbrev at-source : tie.After-receiver → tie.After-source
 at-source c = c .before .before .before .before
 
 abbrev at-receiver : tie.After-port → tie.After-receiver
 at-receiver c = c .before .before .before .before
 
--- each operand is the one so many bytes behind the first, and the cursor stands behind it
+-- each operand is the one so many bytes after the first, and the cursor is after it
 source-read : (c : tie.After-source) →
     Behind (bytes c) (from c) 1 (c .source .given .0 .1 .0) × (c .source .given .0 .0 ≡ byte-at (bytes c) (from c))
 source-read c = rw (c .source .given .1) at (byte-cases (c .before .before .byte .ensures))
@@ -36,15 +37,18 @@ source-read c = rw (c .source .given .1) at (byte-cases (c .before .before .byte
 receiver-read : (c : tie.After-receiver) →
     let start = at-source c in
     ReadAt byte-at (bytes start) (from start) 1 1 (c .receiver .given .0 .0) (c .receiver .given .0 .1 .0)
-receiver-read c = read-behind byte-at _ _ 1 1 _ _ _ (source-read (at-source c) .0) (rw (c .receiver .given .1) at (byte-cases (c .before .before .byte2 .ensures)))
+receiver-read c = read-behind byte-at _ _ 1 1 _ _ _ (source-read (at-source c) .0)
+    (rw (c .receiver .given .1) at (byte-cases (c .before .before .byte2 .ensures)))
 
 port-read : (c : tie.After-port) →
     let start = at-source (at-receiver c) in
     ReadAt byte-at (bytes start) (from start) 2 1 (c .port .given .0 .0) (c .port .given .0 .1 .0)
-port-read c = read-behind byte-at _ _ 2 1 _ _ _ (receiver-read (at-receiver c) .0) (rw (c .port .given .1) at (byte-cases (c .before .before .byte3 .ensures)))
+port-read c = read-behind byte-at _ _ 2 1 _ _ _ (receiver-read (at-receiver c) .0)
+    (rw (c .port .given .1) at (byte-cases (c .before .before .byte3 .ensures)))
 
 -- operands that are each the definition's are the definition's
-wire-made : (bs : List ℕ) (at source receiver port : ℕ) → source ≡ byte-at bs at → receiver ≡ byte-at bs (at + 1) → port ≡ byte-at bs (at + 2) →
+wire-made : (bs : List ℕ) (at source receiver port : ℕ) → source ≡ byte-at bs at → receiver ≡ byte-at bs (at + 1) →
+    port ≡ byte-at bs (at + 2) →
     _≡_ {A = WireOperands} (record { source = source; receiver = receiver; port = port }) (wire-operands-at bs at)
 wire-made bs at source receiver port f g h = rw (f, g, h)
 

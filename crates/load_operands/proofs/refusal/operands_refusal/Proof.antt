@@ -1,5 +1,5 @@
--- `operands_refusal` makes the definition's tests in its order, an unknown kind's number being that of what was found; a signed operand passed through a
--- word stays the same.
+-- `operands_refusal` makes the definition's tests in its order, an unknown kind's number being that of what was found;
+-- a signed operand passed through a word stays the same.
 use borrow.Author.Tests.{not-true, not-false}
 use mir.Syntax.{w64}
 use mir.ValLaws.{toZ-ofZ}
@@ -21,7 +21,8 @@ enum-told c = search needs
 
 returns : tie.Need-returns
 unfolding operands-number
-returns c = let unknown = rw (c .enum-told .given .1) at (kind-cases (c .before .before .kind-of .ensures)) in rw unknown
+returns c = let unknown = rw (c .enum-told .given .1) at (kind-cases (c .before .before .kind-of .ensures)) in
+    rw unknown
 
 preference-known-requires : tie.Need-preference-known-requires
 preference-known-requires c κs = search needs
@@ -31,7 +32,11 @@ unfolding operands-number
 returns-2 c =
     let found = c .before .before .before in
     let known = rw (found .kind .given .1) at (kind-cases (found .before .before .kind-of .ensures)) in
-    rw (known .0, ← c .before .preference-known .ensures, not-true (c .before .preference-known .result) (c .if1 .taken))
+    rw (
+      known .0,
+      ← c .before .preference-known .ensures,
+      not-true (c .before .preference-known .result) (c .if1 .taken),
+    )
 
 signed-of-requires : tie.Need-signed-of-requires
 signed-of-requires c κs = search needs

@@ -1,5 +1,6 @@
--- `score_at` gives the definition's answer: past the stream's end no byte is read; else the byte picks the definition's case, and the operand behind it
--- is read or cut. A law for each of the definition's four answers inside the stream, by the byte b that was read, then the needs.
+-- `score_at` gives the definition's answer: past the stream's end no byte is read; else the byte picks the definition's
+-- case, and the operand after it is read or cut. A law for each of the definition's four answers inside the stream, by
+-- the byte b that was read, then the needs.
 use Prim.Native.Nat.{ℕ, _+_, _≤_, _<_}
 use native.Mathlib.Omega.{arith}
 use mathlib.Core.Path.{_≡_}
@@ -12,7 +13,8 @@ use Rattle.machine.specs.declared.model.Score.the-variants.{Wanted, Refused}
 use Rattle.machine.specs.Load.{known-command, command-width, byte-at, word-at}
 use Rattle.machine.specs.Score.{score-command, score-at}
 use Rattle.load_operands.specs.declared.cursor.Cursor.{Cursor}
-use Rattle.load_operands.specs.Operands.{Behind, ReadAt, byte-cases, cut-number, cut-scores, read-behind, word-cases}
+use Rattle.load_operands.specs.Operands.{Behind, ReadAt, byte-cases, cut-number, cut-scores, read-behind}
+use Rattle.load_operands.specs.Operands.{word-cases}
 use Rattle.load_operands.proofs.score.score_at.Statement.{statement}
 use Rattle.load_operands.proofs.score.score_at.Tie as tie
 
@@ -42,7 +44,14 @@ module _ (bs : List ℕ) (at b : ℕ) (behind : Cursor) (read : Behind bs at 1 b
   whole : (v : ℕ) (next : Cursor) → b ≡ 6 → ReadAt word-at bs at 1 4 v next → Wanted v (next .at) ≡ score-at bs at
   unfolding score-at score-command known-command command-width
   whole v next six word =
-      rw (lt-ltb at (length bs) inside, ← read .1, six, le-leb (at + 5) (length bs) (word .0 .whole), word .1, word .0 .next)
+      rw (
+        lt-ltb at (length bs) inside,
+        ← read .1,
+        six,
+        le-leb (at + 5) (length bs) (word .0 .whole),
+        word .1,
+        word .0 .next,
+      )
 
 -- the start, and what `byte` promises, seen from where the byte is found
 abbrev start-of : tie.After-b → tie.Start
@@ -50,7 +59,8 @@ start-of found = found .before .before .before .before
 
 byte-read : (found : tie.After-b) →
     let args = start-of found .args in
-    Behind (args .s .now) (args .at) 1 (found .b .given .0 .1 .0) × (found .b .given .0 .0 ≡ byte-at (args .s .now) (args .at))
+    Behind (args .s .now) (args .at) 1 (found .b .given .0 .1 .0) ×
+    (found .b .given .0 .0 ≡ byte-at (args .s .now) (args .at))
 byte-read found = rw (found .b .given .1) at (byte-cases (found .before .before .byte .ensures))
 
 byte-requires : tie.Need-byte-requires
@@ -96,7 +106,8 @@ returns-3 c =
     let command = operand .before .before .before in
     let found = command .before .before in
     let word = rw (operand .wanted .given .1) at (word-cases (operand .before .before .u32-at .ensures)) in
-    whole _ _ _ _ (byte-read found) _ _ (command .match2 .keys1) (read-behind word-at _ _ 1 4 _ _ _ (byte-read found .0) word)
+    whole _ _ _ _ (byte-read found) _ _ (command .match2 .keys1)
+    (read-behind word-at _ _ 1 4 _ _ _ (byte-read found .0) word)
 
 returns-4 : tie.Need-returns-4
 returns-4 c =

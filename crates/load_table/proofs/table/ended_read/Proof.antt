@@ -18,7 +18,8 @@ returns : tie.Need-returns
 unfolding table-read reading-of
 returns c =
     let progress = c .before .before .args .progress in
-    let many : length (progress .parts) ≡ most-parts = omega (arith, simp length-map at (c .before .before .good .1 .0)) in
+    let many : length (progress .parts) ≡ most-parts =
+    omega (arith, simp length-map at (c .before .before .good .1 .0)) in
     let few : progress .count ≤ length (progress .parts) = omega arith in
     record {
       number = refl;

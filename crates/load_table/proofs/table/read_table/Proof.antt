@@ -1,5 +1,6 @@
--- `read_table` is loading, with End still to be judged. The invariant: loading is reading from this position on, behind the progress and its rows, which
--- reading keeps readable. The measure is how many bytes are left: each turn that goes on raises the position.
+-- `read_table` is loading, with End still to be judged. The invariant: loading is reading from this position on, after
+-- the progress and its rows, which reading keeps readable. The measure is how many bytes are left: each turn that goes
+-- on raises the position.
 use Prim.Native.Nat.{ℕ, _-_, _≤_, _<_}
 use native.Mathlib.Omega.{arith}
 use mathlib.Core.Path.{_≡_, _∙_, ap, sym}
@@ -20,7 +21,8 @@ use Rattle.load_table.proofs.table.read_table.Statement.{statement}
 use Rattle.load_table.proofs.table.read_table.Tie as tie
 
 abbrev Inv-loop : tie.InvT-loop
-Inv-loop s at₀ progress₀ rows₀ at progress rows = (progress .count ≤ most-parts) × Stands s at (reading-of progress rows)
+Inv-loop s at₀ progress₀ rows₀ at progress rows = (progress .count ≤ most-parts) ×
+    Stands s at (reading-of progress rows)
 
 abbrev μ-loop : tie.MeasureT-loop
 μ-loop s at₀ progress₀ rows₀ at progress rows = length s - at
@@ -35,7 +37,7 @@ none-of known = known .before .if1 .left
 abbrev test-of : tie.After-then Inv-loop μ-loop → tie.Else2 Inv-loop μ-loop
 test-of c = c .before .before
 
--- what the turn leads to that was found behind the progress and its rows
+-- what the turn leads to that was found after the progress and its rows
 module _ (c : tie.After-command-at Inv-loop μ-loop) where
   abbrev bytes : List ℕ
   bytes = c .before .before .before .before .before .args .s .now
@@ -55,7 +57,8 @@ module _ (c : tie.After-command-at Inv-loop μ-loop) where
   -- a turn that is refused is what loading comes to
   refused-loads : (found .number ≡ 0 → ⊥) → load bytes ≡ refused (found .number) (found .position)
   refused-loads some =
-      stands-ended bytes at (reading-of progress rows) _ (c .before .loop .inv .1) (c .command-at .ensures .is ∙ turn-refused at progress rows found some)
+      stands-ended bytes at (reading-of progress rows) _ (c .before .loop .inv .1) (c .command-at .ensures .is ∙
+      turn-refused at progress rows found some)
 
   -- and is not End's
   no-end : (found .number ≡ 0 → ⊥) → EndHere bytes at (reading-of progress rows) → ⊥
@@ -64,11 +67,14 @@ module _ (c : tie.After-command-at Inv-loop μ-loop) where
   -- a turn that is End's is judged
   ended-loads : found .number ≡ 0 → found .byte ≡ 5 → load bytes ≡ end-loaded at (reading-of progress rows .table)
   ended-loads none end =
-      stands-ended bytes at (reading-of progress rows) _ (c .before .loop .inv .1) (c .command-at .ensures .is ∙ turn-ended at progress rows found none end)
+      stands-ended bytes at (reading-of progress rows) _ (c .before .loop .inv .1) (c .command-at .ensures .is ∙
+      turn-ended at progress rows found none end)
 
-  -- a turn that reading goes on behind stands further
+  -- a turn that reading goes on after is further
   goes-further : found .number ≡ 0 → (found .byte ≡ 5 → ⊥) →
-      Stands bytes (found .position) (reading-of (found .progress) (rows-behind (found .byte) progress rows (found .span))) × (at < found .position)
+      Stands bytes (found .position)
+      (reading-of (found .progress) (rows-behind (found .byte) progress rows (found .span))) ×
+      (at < found .position)
   goes-further none other =
       stands-on bytes at (found .position) (reading-of progress rows) _ (c .before .loop .inv .1)
       (c .command-at .ensures .is ∙ turn-onward at progress rows found none other)
@@ -107,8 +113,10 @@ returns-2 c =
     let known = c .before .before in
     let turn = turn-of known in
     let read = c .ended-read .ensures in (
-      ended-loads turn (none-of known) (c .before .if2 .taken) ∙ sym (ended-concluded (at turn) _ (c .ended-read .result) read),
-      stopped-ended _ _ _ _ (turn .before .loop .inv .1) (turn .command-at .ensures .end-here (none-of known) (c .before .if2 .taken)) read,
+      ended-loads turn (none-of known) (c .before .if2 .taken) ∙
+          sym (ended-concluded (at turn) _ (c .ended-read .result) read),
+      stopped-ended _ _ _ _ (turn .before .loop .inv .1)
+          (turn .command-at .ensures .end-here (none-of known) (c .before .if2 .taken)) read,
     )
 
 rows-behind-requires : tie.Need-rows-behind-requires Inv-loop μ-loop

@@ -1,4 +1,5 @@
--- `with_rows` puts each row into its part. The invariant: the first i parts have their rows, and nothing else is changed. The measure is what is left of the parts.
+-- `with_rows` puts each row into its part. The invariant: the first i parts have their rows, and nothing else is
+-- changed. The measure is what is left of the parts.
 use Prim.Native.Nat.{ℕ, zero, suc, _+_, _-_, _≤_, _<_}
 use native.Mathlib.Omega.{arith}
 use mathlib.Core.Path.{_≡_, refl, ap, _∙_}
@@ -40,7 +41,8 @@ unfolding rowed
 rowed-next i [] rows d here there = absurd (omega arith)
 rowed-next i (c ∷ cs) [] d here there = absurd (omega arith)
 rowed-next zero (c ∷ cs) (row ∷ rows) d here there = refl
-rowed-next (suc i) (c ∷ cs) (row ∷ rows) d here there = ap (λ l. with-spans c row ∷ l) (rowed-next i cs rows d (omega arith) (omega arith))
+rowed-next (suc i) (c ∷ cs) (row ∷ rows) d here there =
+    ap (λ l. with-spans c row ∷ l) (rowed-next i cs rows d (omega arith) (omega arith))
 
 -- all of them, trimmed
 rowed-all : (n : ℕ) (cs : List Component) (rows : List (List ℕ)) (count : ℕ) → length cs ≤ n → length cs ≤ length rows →
@@ -101,7 +103,8 @@ loop-again c =
     let there : loop .i < length rows = omega arith in
     let more : suc (loop .i) ≡ loop .i + 1 = omega arith in (
       omega arith,
-      rw (loop .inv .1) (rowed-next (loop .i) parts rows blank-component here there ∙ ap (λ n. rowed n parts rows) more),
+      rw (loop .inv .1) (rowed-next (loop .i) parts rows blank-component here there ∙
+          ap (λ n. rowed n parts rows) more),
     )
 
 returns : tie.Need-returns Inv-loop μ-loop

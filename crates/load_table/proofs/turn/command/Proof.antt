@@ -21,7 +21,8 @@ module _ (bs : List ℕ) (at : ℕ) (progress : Progress) (rows : List (List ℕ
 
   -- which it is where it is the definition's command of its width: a Span, a Begin, a Part and a Wire
   span-as : b ≡ 3 →
-      step-of (row-with rows (last-place progress) (span-count progress) v) at step ≡ uncut bs at 5 (span-command bs at (reading-of progress rows)) → Read-as
+      step-of (row-with rows (last-place progress) (span-count progress) v) at step ≡
+      uncut bs at 5 (span-command bs at (reading-of progress rows)) → Read-as
   unfolding rows-behind sized-command command-width whole-command uncut
   span-as e h = rw e h
 

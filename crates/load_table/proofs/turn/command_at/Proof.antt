@@ -1,4 +1,5 @@
--- `command_at` is the definition: past the stream's end it is cut; a command that is unknown or out of place is refused; any other is `placed`'s.
+-- `command_at` is the definition: past the stream's end it is cut; a command that is unknown or out of place is
+-- refused; any other is `placed`'s.
 use Prim.Native.Nat.{ℕ, _≤_}
 use native.Mathlib.Omega.{arith}
 use mathlib.Core.Path.{_≡_, _∙_, ap, refl, sym}
@@ -10,7 +11,8 @@ use Rattle.machine.specs.Model.{most-parts}
 use Rattle.load_commands.specs.Progress.{reading-of}
 use Rattle.load_table.specs.Stands.{turn-cut}
 use Rattle.load_table.specs.SpansKept.{span-asked}
-use Rattle.load_table.specs.Judged.{command-byte, end-begun, end-in-place, judged-placed, judged-refused, placed-room, turn-refused}
+use Rattle.load_table.specs.Judged.{command-byte, end-begun, end-in-place, judged-placed, judged-refused}
+use Rattle.load_table.specs.Judged.{placed-room, turn-refused}
 use Rattle.load_table.specs.Turned.{still-turn}
 use Rattle.load_table.proofs.turn.command_at.Statement.{statement}
 use Rattle.load_table.proofs.turn.command_at.Tie as tie
@@ -24,7 +26,8 @@ test-of refuses = refuses .before .before
 
 -- there are places for as many parts as the progress counts
 few : (c : tie.Start) → c .args .progress .count ≤ length (c .args .progress .parts)
-few c = let many : length (c .args .progress .parts) ≡ most-parts = omega (arith, simp length-map at (c .good .1 .1 .0)) in omega arith
+few c = let many : length (c .args .progress .parts) ≡ most-parts =
+    omega (arith, simp length-map at (c .good .1 .1 .0)) in omega arith
 
 -- past the stream's end there is no byte
 past : (bs : List ℕ) (at : ℕ) → length bs ≤ at → 0 ≡ byte-at bs at
@@ -36,7 +39,8 @@ returns c =
     let start = c .before .before in
     let args = start .args in
     record {
-      is = turn-cut _ (args .at) _ (c .if1 .taken) ∙ sym (turn-refused (args .at) (args .progress) (args .rows) _ (λ none. omega arith));
+      is = turn-cut _ (args .at) _ (c .if1 .taken) ∙
+          sym (turn-refused (args .at) (args .progress) (args .rows) _ (λ none. omega arith));
       here = λ none. absurd (omega arith);
       room = λ none byte. absurd (omega arith);
       few = start .pre .0;
@@ -63,7 +67,8 @@ returns-2 c =
     let some = c .if2 .taken in
     record {
       is =
-          judged-refused _ (args .at) (args .progress) (args .rows) _ _ here refl (refuses .command-refusal .ensures) some ∙
+          judged-refused _ (args .at) (args .progress) (args .rows) _ _ here refl
+          (refuses .command-refusal .ensures) some ∙
           sym (turn-refused (args .at) (args .progress) (args .rows) _ some);
       here = λ none. here;
       room = λ none byte. absurd (some none);
@@ -81,8 +86,13 @@ placed-requires c κs =
     let start = start-of refuses in
     let args = start .args in
     let none = sym (refuses .command-refusal .ensures) ∙ c .if2 .left in
-    let (some, most) = command-byte (args .progress .begun) (args .progress .spannable) _ none in
-    (test-of refuses .if1 .left, start .pre .0, some, most, span-asked (args .progress) (args .rows) _ (few start) (start .pre .1) none)
+    let (some, most) = command-byte (args .progress .begun) (args .progress .spannable) _ none in (
+      test-of refuses .if1 .left,
+      start .pre .0,
+      some,
+      most,
+      span-asked (args .progress) (args .rows) _ (few start) (start .pre .1) none,
+    )
 
 returns-3 : tie.Need-returns-3
 unfolding byte-at reading-of

@@ -1,4 +1,5 @@
--- `placed` is the definition: End is judged behind the table, and any other command is refused or leaves what its step says.
+-- `placed` is the definition: End is judged after the table, and any other command is refused or leaves what its step
+-- says.
 use Prim.Native.Nat.{ℕ}
 use native.Mathlib.Omega.{arith}
 use mathlib.Core.Path.{_≡_, _∙_, refl, sym}
@@ -15,18 +16,27 @@ use Rattle.load_table.specs.Turning.{rows-behind, sized-command}
 use Rattle.load_table.proofs.turn.placed.Statement.{statement}
 use Rattle.load_table.proofs.turn.placed.Tie as tie
 
--- the turn of a command that is refused, and of one that reading goes on behind
-refused-as : (bs : List ℕ) (at : ℕ) (progress then : Progress) (rows : List (List ℕ)) (b v w : ℕ) (step : CommandResult) →
-    step-of (rows-behind b progress rows v) at step ≡ sized-command bs at (reading-of progress rows) b → (step .number ≡ 0 → ⊥) →
+-- the turn of a command that is refused, and of one that reading goes on after
+refused-as : (bs : List ℕ) (at : ℕ) (progress then : Progress) (rows : List (List ℕ)) (b v w : ℕ)
+    (step : CommandResult) →
+    step-of (rows-behind b progress rows v) at step ≡ sized-command bs at (reading-of progress rows) b →
+    (step .number ≡ 0 → ⊥) →
     sized-command bs at (reading-of progress rows) b ≡
     turn-of at progress rows (record { number = step .number; position = at; byte = b; span = w; progress = then })
 unfolding step-of turn-of
 refused-as bs at progress then rows b v w step h some = sym h ∙ rw (ne-eqb (step .number) 0 some)
 
 onward-as : (bs : List ℕ) (at : ℕ) (progress : Progress) (rows : List (List ℕ)) (b v : ℕ) (step : CommandResult) →
-    step-of (rows-behind b progress rows v) at step ≡ sized-command bs at (reading-of progress rows) b → step .number ≡ 0 → (b ≡ 5 → ⊥) →
+    step-of (rows-behind b progress rows v) at step ≡ sized-command bs at (reading-of progress rows) b →
+    step .number ≡ 0 → (b ≡ 5 → ⊥) →
     sized-command bs at (reading-of progress rows) b ≡
-    turn-of at progress rows (record { number = 0; position = step .next; byte = b; span = v; progress = step .progress })
+    turn-of at progress rows (record {
+      number = 0;
+      position = step .next;
+      byte = b;
+      span = v;
+      progress = step .progress;
+    })
 unfolding step-of turn-of
 onward-as bs at progress rows b v step h none other = sym h ∙ rw (eq-eqb (step .number) 0 none, ne-eqb b 5 other)
 

@@ -1,4 +1,5 @@
--- `span_beside` is `span` with the last span of the last part's row, which stands beside the progress, so that it is document 01's.
+-- `span_beside` is `span` with the last span of the last part's row, which is kept apart from the progress, so that it
+-- is document 01's.
 use Prim.Native.Nat.{_≤_}
 use native.Mathlib.Omega.{arith}
 use mathlib.Core.Path.{_≡_, _∙_, ap}
@@ -40,7 +41,8 @@ returns c =
     let row : RowThere (args .t3) (args .t4) = record { there = omega arith; eight = last .eight } in
     let many : length (args .t3 .parts) ≡ most-parts = omega (arith, simp length-map at (start .good .1 .1 .0)) in
     let few : args .t3 .count ≤ length (args .t3 .parts) = omega arith in
-    let same = span-beside-as (args .t3) (args .t4) _ (start .pre .2 .some) few (record { row = row; final = last .is }) (args .s .now) (args .at) in
+    let same = span-beside-as (args .t3) (args .t4) _ (start .pre .2 .some) few (record { row = row; final = last .is })
+    (args .s .now) (args .at) in
     (c .span .ensures .0 _ row ∙ ap (uncut (args .s .now) (args .at) 5) same, c .span .ensures .1)
 
 pub span-beside-spec : {M : Type 1} → statement M

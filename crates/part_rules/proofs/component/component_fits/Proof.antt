@@ -1,4 +1,5 @@
--- `component_fits` makes the definition's five tests in its order; where one fails, the definition is false whatever the others say.
+-- `component_fits` makes the definition's five tests in its order; where one fails, the definition is false whatever
+-- the others say.
 use native.Mathlib.Omega.{arith}
 use mathlib.Core.Path.{_≡_, sym, _∙_}
 use mathlib.Core.Bool.{true, _&&_}
@@ -54,7 +55,8 @@ spans-hold c =
 sources-left : (c : tie.Else3) →
     let args = start-of (second-of c .before) .args in
     component-fits (args .parts) (trimmed-component (args .c)) ≡
-    (source-fits (args .parts) (ports (args .c .kind)) 0 (args .c .port0) && source-fits (args .parts) (ports (args .c .kind)) 1 (args .c .port1))
+    (source-fits (args .parts) (ports (args .c .kind)) 0 (args .c .port0) &&
+    source-fits (args .parts) (ports (args .c .kind)) 1 (args .c .port1))
 unfolding component-fits trimmed-component
 sources-left c =
     let second = second-of c in

@@ -1,5 +1,5 @@
--- `spans_fit` compares the count alone with the kind's room: where the count is above it, the definition's first two tests cannot both hold, and
--- else there are as many places as the count says.
+-- `spans_fit` compares the count alone with the kind's room: where the count is above it, the definition's first two
+-- tests cannot both hold, and else there are as many places as the count says.
 use Prim.Native.Nat.{ℕ, _<_, _≤_}
 use native.Mathlib.Omega.{arith}
 use mathlib.Core.Path.{_≡_, refl, sym}
@@ -49,7 +49,8 @@ returns-2 c =
     let part = start .args .c in
     let count = part .«span_count» in
     let eight = simp length-map at (start .good .0) in
-    let places : count ≤ length (part .spans) = omega (arith, eight, room-within (is-drive (part .kind)), room .ensures, c .before .before .if1 .left) in
+    let places : count ≤ length (part .spans) =
+    omega (arith, eight, room-within (is-drive (part .kind)), room .ensures, c .before .before .if1 .left) in
     simp (
       length-take-le count (part .spans) places,
       eq-eqb count count refl,

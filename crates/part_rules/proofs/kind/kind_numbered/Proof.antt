@@ -1,4 +1,5 @@
--- `kind_numbered` is the kind of either case of what is found: the definition gives a number that no kind has the first kind, too.
+-- `kind_numbered` is the kind of either case of what is found: the definition gives a number that no kind has the first
+-- kind, too.
 use borrow.Author.Needs.{needs}
 use Rattle.part_rules.proofs.kind.kind_numbered.Statement.{statement}
 use Rattle.part_rules.proofs.kind.kind_numbered.Tie as tie

@@ -1,4 +1,5 @@
--- `operand_fits` makes the test that the definition picks. A test for 0 is a fact of the word's bits, which `zero-bits` turns.
+-- `operand_fits` makes the test that the definition picks. A test for 0 is a fact of the word's bits, which `zero-bits`
+-- turns.
 use borrow.Author.Needs.{needs}
 use mir.Syntax.{w64}
 use mir.ValLaws.{toZ-ofZ}

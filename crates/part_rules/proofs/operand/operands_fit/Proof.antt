@@ -1,4 +1,5 @@
--- `operands_fit` asks of a, then b, then p what the definition asks; where one does not fit, the definition is false whatever the others say.
+-- `operands_fit` asks of a, then b, then p what the definition asks; where one does not fit, the definition is false
+-- whatever the others say.
 use mathlib.Core.Path.{_≡_, _∙_, sym}
 use mathlib.Core.Bool.{Bool, true, cond}
 use lib.IntN.{ℤ}
@@ -14,7 +15,8 @@ use Rattle.part_rules.proofs.operand.operands_fit.Tie as tie
 
 -- what `operand_fits` answered of a number v that was passed as its bits, where `names` says whether the kind names it
 of-bits : (names : Bool) (v : ℤ) {named r : Bool} → SFits w64 v → named ≡ names →
-    r ≡ cond named (is-value (toZ w64 (ofZ w64 v))) (is-zero (toZ w64 (ofZ w64 v))) → cond names (is-value v) (is-zero v) ≡ r
+    r ≡ cond named (is-value (toZ w64 (ofZ w64 v))) (is-zero (toZ w64 (ofZ w64 v))) →
+    cond names (is-value v) (is-zero v) ≡ r
 of-bits names v fits n e = sym (rw (toZ-ofZ w64 v fits, n) at e)
 
 -- of a; and what that is where the test of a holds
@@ -23,7 +25,8 @@ a-fits : (c : tie.After-operand-fits) →
     cond (names-a (args .k)) (is-value (args .a)) (is-zero (args .a)) ≡ c .operand-fits .result
 a-fits c =
     let start = c .before .before in
-    of-bits (names-a (start .args .k)) (start .args .a) (start .fits .a) (c .before .names-a .ensures) (c .operand-fits .ensures)
+    of-bits (names-a (start .args .k)) (start .args .a) (start .fits .a) (c .before .names-a .ensures)
+    (c .operand-fits .ensures)
 
 a-holds : (c : tie.Else1) →
     let args = c .before .before .before .args in
@@ -40,7 +43,8 @@ b-fits : (c : tie.After-operand-fits2) →
     cond (names-b (args .k)) (is-value (args .b)) (is-zero (args .b)) ≡ c .operand-fits2 .result
 b-fits c =
     let start = first-of c .before .before .before in
-    of-bits (names-b (start .args .k)) (start .args .b) (start .fits .b) (c .before .names-b .ensures) (c .operand-fits2 .ensures)
+    of-bits (names-b (start .args .k)) (start .args .b) (start .fits .b) (c .before .names-b .ensures)
+    (c .operand-fits2 .ensures)
 
 names-a-requires : tie.Need-names-a-requires
 names-a-requires c κs = search needs

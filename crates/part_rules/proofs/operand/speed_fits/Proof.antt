@@ -1,4 +1,5 @@
--- `speed_fits` is the definition's test: a value where the kind has mass, and 0 where it has none. A signed argument is read back from its bits.
+-- `speed_fits` is the definition's test: a value where the kind has mass, and 0 where it has none. A signed argument is
+-- read back from its bits.
 use mir.Syntax.{w64}
 use mir.ValLaws.{toZ-ofZ}
 use borrow.Author.Needs.{needs}
@@ -16,7 +17,8 @@ returns : tie.Need-returns
 unfolding speed-fits
 returns c =
     let start = c .before .before in
-    rw (toZ-ofZ w64 (start .args .speed) (start .fits .speed), c .before .has-mass .ensures) at (c .operand-fits .ensures)
+    rw (toZ-ofZ w64 (start .args .speed) (start .fits .speed), c .before .has-mass .ensures)
+    at (c .operand-fits .ensures)
 
 pub speed-fits-spec : {M : Type 1} → statement M
 speed-fits-spec = tie.close (tie.spec has-mass-requires operand-fits-requires returns)

@@ -1,5 +1,5 @@
--- `is_value` compares with both ends of the range, the definition the amount with the largest value: `value-below` and `value-from` say that the
--- two agree. A parameter comes as its bits, of which `toZ-ofZ` gives the number.
+-- `is_value` compares with both ends of the range, the definition the amount with the largest value: `value-below` and
+-- `value-from` say that the two agree. A parameter comes as its bits, of which `toZ-ofZ` gives the number.
 use mathlib.Core.Path.{sym}
 use mir.Syntax.{w64}
 use mir.ValLaws.{toZ-ofZ}

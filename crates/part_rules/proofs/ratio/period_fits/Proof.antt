@@ -1,5 +1,5 @@
--- `period_fits` compares the ratio with a quotient, and the definition the product with the last tick: a division law says that the two agree
--- where p is above 0. Where it is 0, so is the product.
+-- `period_fits` compares the ratio with a quotient, and the definition the product with the last tick: a division law
+-- says that the two agree where p is above 0. Where it is 0, so is the product.
 use Prim.Native.Nat.{ℕ, _*_, _/_, _<_}
 use native.Mathlib.Nat.{div-lt-iff-lt-mul, le-div-iff-mul-le, mul-comm, zero-mul}
 use native.Mathlib.Omega.{arith}
@@ -18,8 +18,10 @@ quotient-test : (p r last : ℕ) → 0 < p → leb r (last / p) ≡ leb (p * r) 
 quotient-test p r last above = by-product (either (leb (r * p) last))
   where
     by-product : (leb (r * p) last ≡ true) ⊎ (leb (r * p) last ≡ false) → leb r (last / p) ≡ leb (p * r) last
-    by-product (inl e) = rw (mul-comm p r, e) (le-leb r (last / p) (le-div-iff-mul-le above .1 (leb-true (r * p) last e)))
-    by-product (inr e) = rw (mul-comm p r, e) (lt-leb r (last / p) (div-lt-iff-lt-mul above .1 (leb-false (r * p) last e)))
+    by-product (inl e) = rw (mul-comm p r, e)
+        (le-leb r (last / p) (le-div-iff-mul-le above .1 (leb-true (r * p) last e)))
+    by-product (inr e) = rw (mul-comm p r, e)
+        (lt-leb r (last / p) (div-lt-iff-lt-mul above .1 (leb-false (r * p) last e)))
 
 returns : tie.Need-returns
 returns c = rw (c .if1 .taken, zero-mul)

@@ -1,5 +1,5 @@
--- `ratio_of` makes the definition's test for no preference. Where the preference is above the magnitude their difference is 0, and else the table has
--- the power of that difference.
+-- `ratio_of` makes the definition's test for no preference. Where the preference is above the magnitude their
+-- difference is 0, and else the table has the power of that difference.
 use Prim.Native.Nat.{ℕ, zero, suc, _-_, _*_, _^_, _<_}
 use native.Mathlib.Nat.{le-of-lt, mul-assoc, mul-one, one-mul, pow-succ', sub-eq-zero-of-le}
 use native.Mathlib.Omega.{arith}

@@ -1,5 +1,5 @@
--- `spans_rise` is the definition of the places in use. The loop's invariant: the definition from the start is the definition of what lies from i on,
--- after the span before. The measure is what is left of the eight places.
+-- `spans_rise` is the definition of the places in use. The loop's invariant: the definition from the start is the
+-- definition of what lies from i on, after the span before. The measure is what is left of the eight places.
 use Prim.Native.Nat.{ℕ, _+_, _-_, _<_, _≤_}
 use native.Mathlib.Numerals.{add-one}
 use native.Mathlib.Omega.{arith}

@@ -1,6 +1,7 @@
 -- `print_order` is safe and ends: the measure is the number of places left.
 use native.Mathlib.Omega.{arith}
 use Prim.Native.Nat.{_-_}
+use Rattle.machine.specs.Model.{most-parts}
 use Rattle.prog_streams.proofs.print.print_order.Statement.{statement}
 use Rattle.prog_streams.proofs.print.print_order.Tie as tie
 
@@ -8,7 +9,7 @@ abbrev Inv-loop : tie.InvT-loop
 Inv-loop count order i₀ t6 i = Unit {0}
 
 abbrev μ-loop : tie.MeasureT-loop
-μ-loop count order i₀ t6 i = 32 - i
+μ-loop count order i₀ t6 i = most-parts - i
 
 slice-aggregate-print : tie.Need-slice-aggregate-print Inv-loop μ-loop
 slice-aggregate-print c = omega arith

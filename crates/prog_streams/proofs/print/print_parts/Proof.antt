@@ -1,6 +1,7 @@
 -- `print_parts` is safe and ends: the measure is the number of places left.
 use native.Mathlib.Omega.{arith}
 use Prim.Native.Nat.{_-_}
+use Rattle.machine.specs.Model.{most-parts}
 use Rattle.prog_streams.proofs.print.print_parts.Statement.{statement}
 use Rattle.prog_streams.proofs.print.print_parts.Tie as tie
 
@@ -8,7 +9,7 @@ abbrev Inv-loop : tie.InvT-loop
 Inv-loop m i₀ i = Unit {0}
 
 abbrev μ-loop : tie.MeasureT-loop
-μ-loop m i₀ i = 32 - i
+μ-loop m i₀ i = most-parts - i
 
 loop-holds : tie.Need-loop-holds Inv-loop μ-loop
 loop-holds c = tt

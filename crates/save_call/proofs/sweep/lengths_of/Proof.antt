@@ -1,4 +1,5 @@
--- `lengths_of` adds up the lengths part by part. The invariant: the sums are those of the first i parts, which are no more than the table's; the measure is how many are left.
+-- `lengths_of` adds up the lengths part by part. The invariant: the sums are those of the first i parts, which are no
+-- more than the table's; the measure is how many are left.
 use Prim.Native.Nat.{ℕ, _+_, _-_, _≤_}
 use native.Mathlib.Omega.{arith}
 use mathlib.Core.Path.{_≡_, refl}
@@ -9,13 +10,15 @@ use Rattle.sound_laws.specs.ByteLengths.{port-short, sweeps-short}
 use Rattle.words_codec.specs.Words.{tabulate}
 use Rattle.words_store.specs.ModelIn.{part-count}
 use Rattle.save_call.specs.LentTable.{lent-component, lent-table}
-use Rattle.save_call.proofs.TableText.{SavablePart, part-fits-at, parts-counted, wires-counted, parts-within, wires-within}
+use Rattle.save_call.proofs.TableText.{SavablePart, part-fits-at, parts-counted, wires-counted, parts-within}
+use Rattle.save_call.proofs.TableText.{wires-within}
 use Rattle.save_call.proofs.sweep.lengths_of.Statement.{statement}
 use Rattle.save_call.proofs.sweep.lengths_of.Tie as tie
 
 abbrev Inv-loop : tie.InvT-loop
 Inv-loop words count parts₀ wires₀ i₀ parts wires i =
-    (i ≤ count) × (parts ≡ length (parts-bytes (tabulate (lent-component words) i))) × (wires ≡ length (wires-bytes 0 (tabulate (lent-component words) i)))
+    (i ≤ count) × (parts ≡ length (parts-bytes (tabulate (lent-component words) i))) ×
+    (wires ≡ length (wires-bytes 0 (tabulate (lent-component words) i)))
 
 abbrev μ-loop : tie.MeasureT-loop
 μ-loop words count parts₀ wires₀ i₀ parts wires i = count - i
@@ -27,7 +30,8 @@ turn-of spans = spans .before .before
 abbrev start-of : tie.At-loop Inv-loop μ-loop → tie.Start Inv-loop μ-loop
 start-of turn = turn .before .before .before
 
-here : (c : tie.After-span-count-at Inv-loop μ-loop) → SavablePart (start-of (turn-of c) .args .table .now) (turn-of c .loop .i)
+here : (c : tie.After-span-count-at Inv-loop μ-loop) →
+    SavablePart (start-of (turn-of c) .args .table .now) (turn-of c .loop .i)
 here c = part-fits-at _ (start-of (turn-of c) .pre .1) _ (omega arith)
 
 most : (c : tie.After-span-count-at Inv-loop μ-loop) →
@@ -37,11 +41,14 @@ most : (c : tie.After-span-count-at Inv-loop μ-loop) →
 most c =
     let words = start-of (turn-of c) .args .table .now in
     let i = turn-of c .loop .i in
-    let whole = sweeps-short (lent-table words) (start-of (turn-of c) .pre .1) in
-    (omega (arith, whole .0, parts-within words i (omega arith)), omega (arith, whole .1, wires-within words i (omega arith)))
+    let whole = sweeps-short (lent-table words) (start-of (turn-of c) .pre .1) in (
+      omega (arith, whole .0, parts-within words i (omega arith)),
+      omega (arith, whole .1, wires-within words i (omega arith)),
+    )
 
 -- how many bytes a part's wires take, by what was read of its two ports
-port-bytes-short : {n : ℕ} {s r : Source} → n ≡ length (port-bytes 0 0 s) → s ≡ r → (n ≡ length (port-bytes 0 0 r)) × (n ≤ 4)
+port-bytes-short : {n : ℕ} {s r : Source} → n ≡ length (port-bytes 0 0 s) → s ≡ r → (n ≡ length (port-bytes 0 0 r)) ×
+    (n ≤ 4)
 port-bytes-short {s = s} is same = (rw same at is, omega (arith, is, port-short 0 0 s))
 
 parts-of-requires : tie.Need-parts-of-requires Inv-loop μ-loop
@@ -63,7 +70,14 @@ add-parts c = omega (arith, here c .spans, c .span-count-at .ensures)
 add-parts-2 : tie.Need-add-parts-2 Inv-loop μ-loop
 add-parts-2 c =
     let turn = turn-of c in
-    omega (arith, most c .0, turn .loop .inv .1, parts-counted (start-of turn .args .table .now) (turn .loop .i) (here c), c .span-count-at .ensures)
+    omega (
+      arith,
+      most c .0,
+      turn .loop .inv .1,
+      parts-counted (start-of turn .args .table .now) (turn .loop .i)
+          (here c),
+      c .span-count-at .ensures,
+    )
 
 port0-at-requires : tie.Need-port0-at-requires Inv-loop μ-loop
 port0-at-requires c κs = omega arith
@@ -91,7 +105,15 @@ add-wires-2 c =
     let first = port-bytes-short (c .before .before .wire-length .ensures) (at-port0-at .port0-at .ensures) in
     let spans = c .before .before .before .before in
     let turn = turn-of spans in
-    omega (arith, most spans .1, turn .loop .inv .2, wires-counted (start-of turn .args .table .now) (turn .loop .i) (here spans), first .0, second .0)
+    omega (
+      arith,
+      most spans .1,
+      turn .loop .inv .2,
+      wires-counted (start-of turn .args .table .now) (turn .loop .i)
+          (here spans),
+      first .0,
+      second .0,
+    )
 
 add-i : tie.Need-add-i Inv-loop μ-loop
 add-i c = omega arith

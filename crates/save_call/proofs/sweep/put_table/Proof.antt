@@ -1,5 +1,5 @@
--- `put_table` puts Begin, then each part and its wires, then End. The invariant: the first i parts and their wires were put (`Sweep`), in a buffer as long as it was;
--- the measure is how many parts are left.
+-- `put_table` puts Begin, then each part and its wires, then End. The invariant: the first i parts and their wires were
+-- put (`Sweep`), in a buffer as long as it was; the measure is how many parts are left.
 use Prim.Native.Nat.{ℕ, _+_, _-_, _%_, _≤_, _<_}
 use native.Mathlib.Omega.{arith}
 use mathlib.Core.Path.{_≡_, refl, ap}
@@ -14,7 +14,8 @@ use Rattle.words_store.specs.ModelIn.{slot, part-count, stored-component}
 use Rattle.sound_laws.specs.ByteLengths.{table-length}
 use Rattle.write_bytes.specs.Put.{Put}
 use Rattle.save_call.specs.LentTable.{lent-component, lent-table, part-text, wires-text}
-use Rattle.save_call.proofs.TableText.{SavablePart, some-parts, part-fits-at, parts-bytes-more, wires-bytes-more, parts-counted, parts-within, wires-within}
+use Rattle.save_call.proofs.TableText.{SavablePart, some-parts, part-fits-at, parts-bytes-more, wires-bytes-more}
+use Rattle.save_call.proofs.TableText.{parts-counted, parts-within, wires-within}
 use Rattle.save_call.proofs.TableSweep.{Sweep, swept-none, swept-part, swept-wires, swept-all}
 use Rattle.save_call.proofs.sweep.put_table.Statement.{statement}
 use Rattle.save_call.proofs.sweep.put_table.Tie as tie
@@ -22,7 +23,8 @@ use Rattle.save_call.proofs.sweep.put_table.Tie as tie
 abbrev Inv-loop : tie.InvT-loop
 Inv-loop words wires out₀ count at₀ next₀ i₀ out at next i =
     (i ≤ count) × (length out ≡ length out₀) ×
-    Sweep 2 wires (parts-bytes (tabulate (lent-component words) i)) (wires-bytes 0 (tabulate (lent-component words) i)) out₀ out at next
+    Sweep 2 wires (parts-bytes (tabulate (lent-component words) i))
+    (wires-bytes 0 (tabulate (lent-component words) i)) out₀ out at next
 
 abbrev μ-loop : tie.MeasureT-loop
 μ-loop words wires out₀ count at₀ next₀ i₀ out at next i = count - i
@@ -54,11 +56,14 @@ room : (c : tie.At-loop Inv-loop μ-loop) → length (table-bytes (lent-table (w
 room c = omega (arith, start-of (begin-of c) .pre .1 .1 .1, c .loop .inv .1, begin-of c .put-begin .kept .0)
 
 -- one part more, as it was read and put, and its wires
-part-swept : (ts : List ℕ) {i wires p q r s m n : ℕ} {k : Component} {a b c d : List ℕ} → i < part-count ts → k ≡ stored-component ts i →
+part-swept : (ts : List ℕ) {i wires p q r s m n : ℕ} {k : Component} {a b c d : List ℕ} → i < part-count ts →
+    k ≡ stored-component ts i →
     wires ≡ length (parts-bytes (lent-table ts .parts)) + 2 →
-    Sweep 2 wires (parts-bytes (tabulate (lent-component ts) i)) (wires-bytes 0 (tabulate (lent-component ts) i)) a b p q →
+    Sweep 2 wires (parts-bytes (tabulate (lent-component ts) i))
+    (wires-bytes 0 (tabulate (lent-component ts) i)) a b p q →
     Put m (part-text (trimmed-component k)) p b c r → Put n (wires-text i k) q c d s →
-    Sweep 2 wires (parts-bytes (tabulate (lent-component ts) (i + 1))) (wires-bytes 0 (tabulate (lent-component ts) (i + 1))) a d r s
+    Sweep 2 wires (parts-bytes (tabulate (lent-component ts) (i + 1)))
+    (wires-bytes 0 (tabulate (lent-component ts) (i + 1))) a d r s
 unfolding lent-component trimmed-component wires-text
 part-swept ts {i = i} {wires = wires} {p = p} {r = r} {m = m} {b = b} {c = c} low is begins sweep part into =
     let more = parts-bytes-more (lent-component ts) i in
@@ -78,7 +83,8 @@ part-swept ts {i = i} {wires = wires} {p = p} {r = r} {m = m} {b = b} {c = c} lo
 -- once all parts were put and End is, the table's bytes were
 table-put : (ts : List ℕ) {i e wires p q r two m n : ℕ} {l a b c : List ℕ} → i ≡ part-count ts → e ≡ slot ts 0 % 256 →
     wires ≡ length (parts-bytes (lent-table ts .parts)) + 2 → Put m (begin-byte ∷ e ∷ []) 0 l a two →
-    Sweep 2 wires (parts-bytes (tabulate (lent-component ts) i)) (wires-bytes 0 (tabulate (lent-component ts) i)) a b p q → Put n (end-byte ∷ []) q b c r →
+    Sweep 2 wires (parts-bytes (tabulate (lent-component ts) i))
+    (wires-bytes 0 (tabulate (lent-component ts) i)) a b p q → Put n (end-byte ∷ []) q b c r →
     Put (length (table-bytes (lent-table ts))) (table-bytes (lent-table ts)) 0 l c r
 unfolding lent-table table-bytes
 table-put ts {m = m} {l = l} {a = a} all magnitude begins first sweep end =
@@ -142,9 +148,11 @@ put-wires-requires c κs =
     let fit = here loop (omega arith) in
     let is = read .component-at .ensures in
     let few = some-parts (words-of loop) (start-of (begin-of loop) .pre .1 .0) in
-    let text : length (wires-text i (read .component-at .result)) ≡ length (wires-text i (lent-component (words-of loop) i)) = rw is refl in
+    let text : length (wires-text i (read .component-at .result)) ≡
+    length (wires-text i (lent-component (words-of loop) i)) = rw is refl in
     let more = ap length (wires-bytes-more (lent-component (words-of loop)) i) in
-    let both = length-append (wires-bytes 0 (tabulate (lent-component (words-of loop)) i)) (wires-text i (lent-component (words-of loop) i)) in
+    let both = length-append (wires-bytes 0 (tabulate (lent-component (words-of loop)) i))
+    (wires-text i (lent-component (words-of loop) i)) in
     let most = wires-within (words-of loop) i (omega arith) in
     let next = loop .loop .inv .2 .next in
     let begins = start-of (begin-of loop) .pre .1 .1 .0 in
@@ -154,7 +162,18 @@ put-wires-requires c κs =
         rw is (fit .port0),
         (
           rw is (fit .port1),
-          omega (arith, text, more, both, most, next, begins, kept, room loop, table-length (lent-table (words-of loop))),
+          omega (
+            arith,
+            text,
+            more,
+            both,
+            most,
+            next,
+            begins,
+            kept,
+            room loop,
+            table-length (lent-table (words-of loop)),
+          ),
         ),
       ),
     )
@@ -174,7 +193,9 @@ loop-again c =
     let begins = start-of (begin-of loop) .pre .1 .1 .0 in (
       omega arith,
       omega (arith, loop .loop .inv .1, part .put-component .kept .0, wires .put-wires .kept .0),
-      part-swept (words-of loop) (omega (arith, counted loop, read .before .loop-test .taken)) (read .component-at .ensures) begins (loop .loop .inv .2) (part .put-component .ensures) (wires .put-wires .ensures),
+      part-swept (words-of loop) (omega (arith, counted loop, read .before .loop-test .taken))
+          (read .component-at .ensures) begins (loop .loop .inv .2) (part .put-component .ensures)
+          (wires .put-wires .ensures),
     )
 
 put-byte-requires : tie.Need-put-byte-requires Inv-loop μ-loop
@@ -183,7 +204,14 @@ put-byte-requires c κs =
     let loop = c .before .before in
     let all : loop .loop .i ≡ part-count (words-of loop) = omega (arith, counted loop) in
     let wires = ap (λ (i : ℕ). length (wires-bytes 0 (tabulate (lent-component (words-of loop)) i))) all in
-    omega (arith, wires, loop .loop .inv .2 .next, start-of (begin-of loop) .pre .1 .1 .0, room loop, table-length (lent-table (words-of loop)))
+    omega (
+      arith,
+      wires,
+      loop .loop .inv .2 .next,
+      start-of (begin-of loop) .pre .1 .1 .0,
+      room loop,
+      table-length (lent-table (words-of loop)),
+    )
 
 same-length : tie.Need-same-length Inv-loop μ-loop
 same-length c =
@@ -195,7 +223,8 @@ returns c =
     let end = c .before .before in
     let loop = end .before .before .before in
     let begin = begin-of loop in
-    table-put (words-of loop) (omega (arith, counted loop)) (begin .before .magnitude-of .ensures) (start-of begin .pre .1 .1 .0) (begin .put-begin .ensures)
+    table-put (words-of loop) (omega (arith, counted loop)) (begin .before .magnitude-of .ensures)
+    (start-of begin .pre .1 .1 .0) (begin .put-begin .ensures)
     (loop .loop .inv .2) (end .put-byte .ensures)
 
 pub put-table-spec : {M : Type 1} → statement M

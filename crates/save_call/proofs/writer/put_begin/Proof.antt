@@ -1,4 +1,4 @@
--- `put_begin` puts two bytes, one behind the other.
+-- `put_begin` puts two bytes, one after the other.
 use Rattle.write_bytes.specs.Pieces.{put-then}
 use borrow.Author.Needs.{needs}
 use Rattle.save_call.proofs.writer.put_begin.Statement.{statement}

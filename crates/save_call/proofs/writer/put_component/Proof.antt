@@ -1,4 +1,4 @@
--- `put_component` puts the command's first bytes, its operands and the spans in use, one behind the other.
+-- `put_component` puts the command's first bytes, its operands and the spans in use, one after the other.
 use mir.Syntax.{w64}
 use mir.Val.{SFits}
 use mir.ValLaws.{toZ-ofZ}
@@ -39,7 +39,8 @@ returns c =
     let part = kind .before .before .before .before .args .c in
     let fits-a : SFits w64 (part .a) = record { sfits = omega arith } in
     let fits-b : SFits w64 (part .b) = record { sfits = omega arith } in
-    let put = put-then (put-then (kind .put-kind .ensures) (operands .put-operands .ensures)) (spans .put-spans .ensures) in
+    let put = put-then (put-then (kind .put-kind .ensures) (operands .put-operands .ensures))
+    (spans .put-spans .ensures) in
     rw (toZ-ofZ w64 (part .a) fits-a, toZ-ofZ w64 (part .b) fits-b) at put
 
 pub put-component-spec : {M : Type 1} → statement M

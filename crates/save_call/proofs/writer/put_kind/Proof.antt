@@ -1,4 +1,4 @@
--- `put_kind` puts three bytes, one behind the other.
+-- `put_kind` puts three bytes, one after the other.
 use Rattle.write_bytes.specs.Pieces.{put-then}
 use borrow.Author.Needs.{needs}
 use Rattle.save_call.proofs.writer.put_kind.Statement.{statement}
@@ -24,7 +24,8 @@ returns c =
     let third = c .before .before in
     let second = third .before .before .before .before in
     let first = second .before .before .before .before .before in
-    rw (second .before .number-of .ensures) at (put-then (put-then (first .put-byte .ensures) (second .put-byte2 .ensures)) (third .put-byte3 .ensures))
+    rw (second .before .number-of .ensures)
+    at (put-then (put-then (first .put-byte .ensures) (second .put-byte2 .ensures)) (third .put-byte3 .ensures))
 
 pub put-kind-spec : {M : Type 1} → statement M
 put-kind-spec =

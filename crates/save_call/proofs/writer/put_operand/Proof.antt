@@ -1,4 +1,4 @@
--- `put_operand` puts four bytes, one behind the other.
+-- `put_operand` puts four bytes, one after the other.
 use Rattle.machine.specs.TableBytes.{operand-bytes}
 use Rattle.write_bytes.specs.Pieces.{put-then}
 use borrow.Author.Needs.{needs}
@@ -39,7 +39,8 @@ returns c =
     let third = fourth .before .before .before .before in
     let second = third .before .before .before .before in
     let first = second .before .before .before .before in
-    put-then (put-then (put-then (first .put-byte .ensures) (second .put-byte2 .ensures)) (third .put-byte3 .ensures)) (fourth .put-byte4 .ensures)
+    put-then (put-then (put-then (first .put-byte .ensures) (second .put-byte2 .ensures)) (third .put-byte3 .ensures))
+    (fourth .put-byte4 .ensures)
 
 pub put-operand-spec : {M : Type 1} → statement M
 put-operand-spec =

@@ -1,4 +1,5 @@
--- `put_operands` puts three operands, one behind the other; the two signed ones are values, whose words have the lowest bytes of their operands.
+-- `put_operands` puts three operands, one after the other; the two signed ones are values, whose words have the lowest
+-- bytes of their operands.
 use mathlib.Core.Path.{ap, _∙_}
 use mathlib.Core.List.{append-assoc}
 use mir.Syntax.{w64}
@@ -38,9 +39,12 @@ returns c =
     let start = first .before .before .before .before in
     let fits-a : SFits w64 (start .args .a) = record { sfits = omega arith } in
     let fits-b : SFits w64 (start .args .b) = record { sfits = omega arith } in
-    let a = ap operand-bytes (rw (toZ-ofZ w64 (start .args .a) fits-a) at (first .before .encode-signed .ensures)) ∙ operand-low (start .args .a) (start .pre .1 .0) in
-    let b = ap operand-bytes (rw (toZ-ofZ w64 (start .args .b) fits-b) at (second .before .encode-signed2 .ensures)) ∙ operand-low (start .args .b) (start .pre .1 .1) in
-    let put = put-then (put-then (first .put-operand .ensures) (second .put-operand2 .ensures)) (third .put-operand3 .ensures) in
+    let a = ap operand-bytes (rw (toZ-ofZ w64 (start .args .a) fits-a) at (first .before .encode-signed .ensures)) ∙
+    operand-low (start .args .a) (start .pre .1 .0) in
+    let b = ap operand-bytes (rw (toZ-ofZ w64 (start .args .b) fits-b) at (second .before .encode-signed2 .ensures)) ∙
+    operand-low (start .args .b) (start .pre .1 .1) in
+    let put = put-then (put-then (first .put-operand .ensures) (second .put-operand2 .ensures))
+    (third .put-operand3 .ensures) in
     rw (append-assoc, a, b) at put
 
 pub put-operands-spec : {M : Type 1} → statement M

@@ -13,7 +13,8 @@ use Rattle.save_call.proofs.writer.put_port.Statement.{statement}
 use Rattle.save_call.proofs.writer.put_port.Tie as tie
 
 -- a wired port takes four bytes, and its source's number fits a byte
-wire-room : (receiver port at n k : ℕ) (s : Source) → s ≡ From k → at + length (port-bytes receiver port s) ≤ n → at + 4 ≤ n
+wire-room : (receiver port at n k : ℕ) (s : Source) → s ≡ From k → at + length (port-bytes receiver port s) ≤ n →
+    at + 4 ≤ n
 unfolding port-bytes
 wire-room receiver port at n k s is room = rw is at room
 
@@ -40,7 +41,8 @@ put-wire-requires : tie.Need-put-wire-requires
 put-wire-requires c κs =
     let start = c .before .before .before .before .before in
     let wired = c .before .before .s .given in
-    let room = wire-room (start .args .receiver) (start .args .port) (start .args .at) _ _ _ (wired .1) (start .pre .1 .1) in
+    let room = wire-room (start .args .receiver) (start .args .port) (start .args .at) _ _ _ (wired .1)
+    (start .pre .1 .1) in
     omega arith
 
 returns : tie.Need-returns

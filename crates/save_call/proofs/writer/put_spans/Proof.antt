@@ -1,4 +1,5 @@
--- `put_spans` puts spans one by one. The invariant: the first i spans were put, in a buffer as long as it was; the measure is how many are left.
+-- `put_spans` puts spans one by one. The invariant: the first i spans were put, in a buffer as long as it was; the
+-- measure is how many are left.
 use Prim.Native.Nat.{ℕ, _+_, _*_, _-_, _≤_, _<_}
 use native.Mathlib.Numerals.{add-one}
 use native.Mathlib.Omega.{arith}
@@ -18,7 +19,8 @@ unfolding spans-bytes
 spans-added [] v = refl
 spans-added (w ∷ vs) v = simp (spans-added vs v, append-assoc)
 
-span-more : (vs : List ℕ) {l₀ l₁ l₂ : List ℕ} {i at p q : ℕ} → i < length vs → Put (5 * i) (spans-bytes (take i vs)) at l₀ l₁ p →
+span-more : (vs : List ℕ) {l₀ l₁ l₂ : List ℕ} {i at p q : ℕ} → i < length vs →
+    Put (5 * i) (spans-bytes (take i vs)) at l₀ l₁ p →
     Put 5 (spans-bytes (getD vs i 0 ∷ [])) p l₁ l₂ q → Put (5 * (i + 1)) (spans-bytes (take (i + 1) vs)) at l₀ l₂ q
 span-more vs {i = i} inside first last =
     let more : spans-bytes (take i vs) ++ spans-bytes (getD vs i 0 ∷ []) ≡ spans-bytes (take (i + 1) vs) =

@@ -1,4 +1,4 @@
--- `put_wire` puts four bytes, one behind the other.
+-- `put_wire` puts four bytes, one after the other.
 use Rattle.write_bytes.specs.Pieces.{put-then}
 use borrow.Author.Needs.{needs}
 use Rattle.save_call.proofs.writer.put_wire.Statement.{statement}
@@ -25,7 +25,8 @@ returns c =
     let third = fourth .before .before .before .before in
     let second = third .before .before .before .before in
     let first = second .before .before .before .before in
-    put-then (put-then (put-then (first .put-byte .ensures) (second .put-byte2 .ensures)) (third .put-byte3 .ensures)) (fourth .put-byte4 .ensures)
+    put-then (put-then (put-then (first .put-byte .ensures) (second .put-byte2 .ensures)) (third .put-byte3 .ensures))
+    (fourth .put-byte4 .ensures)
 
 pub put-wire-spec : {M : Type 1} → statement M
 put-wire-spec =

@@ -13,7 +13,8 @@ unfolding wires-text
 put-port-requires c κs =
     let start = c .before .before in
     let part = start .args .c in
-    let both = length-append (port-bytes (start .args .receiver) 0 (part .port0)) (port-bytes (start .args .receiver) 1 (part .port1)) in
+    let both = length-append (port-bytes (start .args .receiver) 0 (part .port0))
+    (port-bytes (start .args .receiver) 1 (part .port1)) in
     (start .pre .0, (start .pre .1 .0, omega arith))
 
 put-port-requires-2 : tie.Need-put-port-requires-2
@@ -21,7 +22,8 @@ unfolding wires-text
 put-port-requires-2 c κs =
     let start = c .before .before .before .before .before .before in
     let part = start .args .c in
-    let both = length-append (port-bytes (start .args .receiver) 0 (part .port0)) (port-bytes (start .args .receiver) 1 (part .port1)) in
+    let both = length-append (port-bytes (start .args .receiver) 0 (part .port0))
+    (port-bytes (start .args .receiver) 1 (part .port1)) in
     (start .pre .0, (start .pre .1 .1 .0, omega arith))
 
 same-length : tie.Need-same-length

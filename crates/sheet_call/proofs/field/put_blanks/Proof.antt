@@ -1,4 +1,5 @@
--- `put_blanks` puts one blank after the other. The invariant: the first i were put, in a buffer as long as it was; the measure is how many are left.
+-- `put_blanks` puts one blank after the other. The invariant: the first i were put, in a buffer as long as it was; the
+-- measure is how many are left.
 use Prim.Native.Nat.{ℕ, _+_, _-_, _≤_}
 use native.Mathlib.Omega.{arith}
 use mathlib.Core.Path.{_≡_}
@@ -14,10 +15,12 @@ use Rattle.sheet_call.proofs.field.put_blanks.Tie as tie
 -- one blank more
 blank-more : {i at p q : ℕ} {l₀ l₁ l₂ : List ℕ} → Put i (replicate i blank) at l₀ l₁ p → Put 1 (blank ∷ []) p l₁ l₂ q →
     Put (i + 1) (replicate (i + 1) blank) at l₀ l₂ q
-blank-more {i = i} first last = put-as (put-then first last) (replicate-append-replicate i 1 blank) (omega (arith, length-replicate (i + 1) blank))
+blank-more {i = i} first last =
+    put-as (put-then first last) (replicate-append-replicate i 1 blank) (omega (arith, length-replicate (i + 1) blank))
 
 abbrev Inv-loop : tie.InvT-loop
-Inv-loop out₀ at count next₀ i₀ out next i = (i ≤ count) × (length out ≡ length out₀) × Put i (replicate i blank) at out₀ out next
+Inv-loop out₀ at count next₀ i₀ out next i = (i ≤ count) × (length out ≡ length out₀) ×
+    Put i (replicate i blank) at out₀ out next
 
 abbrev μ-loop : tie.MeasureT-loop
 μ-loop out₀ at count next₀ i₀ out next i = count - i

@@ -1,4 +1,4 @@
--- `put_number_field` puts as many blanks as the digits leave of the width, the digits, and a blank behind them.
+-- `put_number_field` puts as many blanks as the digits leave of the width, the digits, and a blank after them.
 use mathlib.Core.Path.{ap}
 use Prim.Native.Nat.{ℕ, _-_}
 use Rattle.write_bytes.specs.Pieces.{put-then}
@@ -33,7 +33,8 @@ returns c =
     let counted = front .before .before in
     let start = counted .before .before in
     let left = ap (λ (k : ℕ). start .args .width - k) (counted .digits-of .ensures) in
-    put-then (field-put (start .pre .0) left (front .put-blanks .ensures) (text .put-decimal .ensures)) (last .put-byte .ensures)
+    put-then (field-put (start .pre .0) left (front .put-blanks .ensures) (text .put-decimal .ensures))
+    (last .put-byte .ensures)
 
 pub put-number-field-spec : {M : Type 1} → statement M
 put-number-field-spec =

@@ -1,4 +1,4 @@
--- `put_output_field` puts the output's field, and the character behind it.
+-- `put_output_field` puts the output's field, and the character after it.
 use Rattle.write_bytes.specs.Pieces.{put-then}
 use borrow.Author.Needs.{needs}
 use Rattle.sheet_call.proofs.field.put_output_field.Statement.{statement}

@@ -18,7 +18,12 @@ returns-2 : tie.Need-returns-2
 returns-2 c =
     let second = c .before in
     let first = second .before .before in
-    rw (← first .digits-of .ensures, ← second .digits-of2 .ensures, le-leb _ _ (second .before .if1 .left), lt-leb _ _ (c .if2 .taken)) refl
+    rw (
+      ← first .digits-of .ensures,
+      ← second .digits-of2 .ensures,
+      le-leb _ _ (second .before .if1 .left),
+      lt-leb _ _ (c .if2 .taken),
+    ) refl
 
 digits-of-requires-3 : tie.Need-digits-of-requires-3
 digits-of-requires-3 c κs = search needs
@@ -28,7 +33,13 @@ returns-3 c =
     let test = c .before in
     let second = test .before in
     let first = second .before .before in
-    rw (← first .digits-of .ensures, ← second .digits-of2 .ensures, ← c .digits-of3 .ensures, le-leb _ _ (second .before .if1 .left), le-leb _ _ (test .if2 .left)) refl
+    rw (
+      ← first .digits-of .ensures,
+      ← second .digits-of2 .ensures,
+      ← c .digits-of3 .ensures,
+      le-leb _ _ (second .before .if1 .left),
+      le-leb _ _ (test .if2 .left),
+    ) refl
 
 pub counts-fit-spec : {M : Type 1} → statement M
 counts-fit-spec =

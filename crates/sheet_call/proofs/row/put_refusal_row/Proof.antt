@@ -31,7 +31,8 @@ returns c =
     let feed = c .before .before in
     let rest = feed .before .before .before .before in
     let text = rest .before .before .before .before in
-    put-then (filled-put (omega (arith, text .put-refusal .ensures .short)) (text .put-refusal .ensures) (rest .put-blanks .ensures)) (feed .put-byte .ensures)
+    put-then (filled-put (omega (arith, text .put-refusal .ensures .short)) (text .put-refusal .ensures)
+    (rest .put-blanks .ensures)) (feed .put-byte .ensures)
 
 pub put-refusal-row-spec : {M : Type 1} → statement M
 put-refusal-row-spec =

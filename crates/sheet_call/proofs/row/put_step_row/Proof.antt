@@ -1,4 +1,4 @@
--- `put_step_row` puts the eight fields one behind the other, each with what stands behind it.
+-- `put_step_row` puts the eight fields one after the other, each with what is after it.
 use Prim.Native.Nat.{ℕ}
 use native.Mathlib.Omega.{arith}
 use mathlib.Core.Path.{_≡_}
@@ -13,7 +13,8 @@ use Rattle.sheet_call.proofs.row.put_step_row.Statement.{statement}
 use Rattle.sheet_call.proofs.row.put_step_row.Tie as tie
 
 -- what fits, of whatever is shown
-all-fit : {t n step rounds revisions : ℕ} {x y z : Signal} → shown-fits (ShownStep t n step rounds revisions x y z) ≡ true →
+all-fit : {t n step rounds revisions : ℕ} {x y z : Signal} →
+    shown-fits (ShownStep t n step rounds revisions x y z) ≡ true →
     FieldsFit t n step rounds revisions x y z
 all-fit fit = fields-fit _ _ _ _ _ _ _ _ fit
 
@@ -100,7 +101,8 @@ returns c =
     let second = third .before .before .before .before in
     let first = second .before .before .before .before in
     let time = put-then (first .put-number-field .ensures) (second .put-number-field2 .ensures) in
-    let counts = put-then (put-then (put-then time (third .put-number-field3 .ensures)) (fourth .put-number-field4 .ensures)) (fifth .put-number-field5 .ensures) in
+    let counts = put-then (put-then (put-then time (third .put-number-field3 .ensures))
+    (fourth .put-number-field4 .ensures)) (fifth .put-number-field5 .ensures) in
     let outputs = put-then (put-then counts (sixth .put-output-field .ensures)) (seventh .put-output-field2 .ensures) in
     simp append-assoc at (put-then outputs (eighth .put-output-field3 .ensures))
 

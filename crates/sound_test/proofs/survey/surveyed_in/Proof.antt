@@ -1,5 +1,5 @@
 -- `surveyed_in` reads one part after the other. The loop's invariant: the first i parts are surveyed, whatever state
--- the table stands in; the measure is how many are left.
+-- the table is in; the measure is how many are left.
 use Prim.Native.Nat.{_-_, _≤_, _<_}
 use native.Mathlib.Omega.{arith}
 use mathlib.Core.Path.{refl, ap, _∙_}

@@ -1,5 +1,5 @@
--- `clamped` is `clamp`: the code's two tests are those of `clamp-above`, `clamp-below` and `clamp-between`. A signed local holds bits, which are
--- read back as the number itself, since it fits.
+-- `clamped` is `clamp`: the code's two tests are those of `clamp-above`, `clamp-below` and `clamp-between`. A signed
+-- local holds bits, which are read back as the number itself, since it fits.
 use mathlib.Core.Path.{_∙_}
 use mir.Syntax.{w64}
 use mir.ValLaws.{toZ-ofZ}

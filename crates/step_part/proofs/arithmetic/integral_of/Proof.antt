@@ -1,5 +1,5 @@
--- `integral_of` is `integral`: d is at most 10^9, so the product fits, and so does the sum with a held value. An absent signal counts as 0,
--- which leaves the held number.
+-- `integral_of` is `integral`: d is at most 10^9, so the product fits, and so does the sum with a held value. An absent
+-- signal counts as 0, which leaves the held number.
 use Prim.Native.Nat.{_≤_}
 use native.Mathlib.Omega.{arith}
 use mathlib.Core.Path.{_≡_}
@@ -52,7 +52,8 @@ add-clamped c =
     let held = start .args .held in
     let v = told .before .x .given .0 .0 in
     rw (toZ-ofZ w64 _ (mul-clamped c), toZ-ofZ w64 held (start .fits .held), v-back told, d-back told)
-    (sum-fits held _ (value-most held (start .pre .0)) (product-most v (pos (start .args .d .0)) (v-most told) (start .pre .1 .1)))
+    (sum-fits held _ (value-most held (start .pre .0))
+    (product-most v (pos (start .args .d .0)) (v-most told) (start .pre .1 .1)))
 
 clamped-requires-2 : tie.Need-clamped-requires-2
 clamped-requires-2 c κs = search needs

@@ -18,7 +18,8 @@ mul-clamped c =
     let start = c .before .before .before in
     let v = c .before .x .given .0 .0 in
     rw (toZ-ofZ w64 (start .args .a) (start .fits .a), toZ-ofZ w64 v (record { sfits = c .known-told .given .0 .1 }))
-    (product-fits (start .args .a) v (value-most (start .args .a) (start .pre .0)) (signal-most (start .args .x) v (c .before .x .given .1) (start .pre .1)))
+    (product-fits (start .args .a) v (value-most (start .args .a) (start .pre .0))
+    (signal-most (start .args .x) v (c .before .x .given .1) (start .pre .1)))
 
 clamped-requires : tie.Need-clamped-requires
 clamped-requires c κs = search needs

@@ -1,5 +1,5 @@
--- `moved_part` is `moved`: the gain is added to the local count, which is then the count that the step leads to, and so fits. The speed and the held number
--- are the definition's, the second by the new speed where the part has mass.
+-- `moved_part` is `moved`: the gain is added to the local count, which is then the count that the step leads to, and so
+-- fits. The speed and the held number are the definition's, the second by the new speed where the part has mass.
 use Prim.Native.Nat.{ℕ, _+_}
 use native.Mathlib.Nat.{div-le-self}
 use native.Mathlib.Omega.{arith}
@@ -31,7 +31,8 @@ unfolding gain-of gained local-count
 count-fits t h d p fit e = omega (arith, div-le-self (t + h) (p .ratio))
 
 -- the part moved by d is the definition's where d is the gain, and its held number and speed are the definition's
-moved-by : (t h d : ℕ) (x : Signal) (p : Part) (held speed : ℤ) → d ≡ gain-of t h p → held ≡ moved-held p x d → speed ≡ moved-speed p x d →
+moved-by : (t h d : ℕ) (x : Signal) (p : Part) (held speed : ℤ) → d ≡ gain-of t h p → held ≡ moved-held p x d →
+    speed ≡ moved-speed p x d →
     with-state p
     (record {
       local = record { 0 = p .state .local .0 + d };
@@ -47,14 +48,17 @@ unfolding moved
 moved-by t h d x p held speed e held-e speed-e = rw (held-e, speed-e, e)
 
 -- the held number is the definition's where the speed is, and it moves by the rate
-held-of : (p : Part) (x : Signal) (d : ℕ) {mass moves : Bool} {speed held r : ℤ} {by : Signal} → mass ≡ has-mass (p .component .kind) →
-    moves ≡ integrates (p .component .kind) → speed ≡ moved-speed p x d → by ≡ cond mass (Value speed) x → held ≡ p .state .held →
+held-of : (p : Part) (x : Signal) (d : ℕ) {mass moves : Bool} {speed held r : ℤ} {by : Signal} →
+    mass ≡ has-mass (p .component .kind) →
+    moves ≡ integrates (p .component .kind) → speed ≡ moved-speed p x d → by ≡ cond mass (Value speed) x →
+    held ≡ p .state .held →
     r ≡ cond moves (integral held by d) held → r ≡ moved-held p x d
 unfolding moved-held rate
 held-of p x d mass moves speed by held e = rw (by, speed, mass, moves, held) at e
 
 -- what moves a held number is a signal: the reading, or the new speed
-rate-signal : (p : Part) (x : Signal) (d : ℕ) {mass : Bool} {speed : ℤ} {by : Signal} → mass ≡ has-mass (p .component .kind) →
+rate-signal : (p : Part) (x : Signal) (d : ℕ) {mass : Bool} {speed : ℤ} {by : Signal} →
+    mass ≡ has-mass (p .component .kind) →
     speed ≡ moved-speed p x d → by ≡ cond mass (Value speed) x → is-signal x ≡ true → is-signal by ≡ true
 unfolding is-signal moved-speed
 rate-signal p x d {mass} {speed} m s by signal =
@@ -73,10 +77,12 @@ abbrev start-of : tie.After-gain-of → tie.Start
 start-of gain = gain .before .before .before .before
 
 -- the gain as the definition has it
-gains : (gain : tie.After-gain-of) → let args = start-of gain .args in gain .gain-of .result .0 ≡ gain-of (args .t .0) (args .h .0) (args .p)
+gains : (gain : tie.After-gain-of) → let args = start-of gain .args in
+    gain .gain-of .result .0 ≡ gain-of (args .t .0) (args .h .0) (args .p)
 gains gain =
     let args = start-of gain .args in
-    gain-to (args .t .0) (args .h .0) _ (gain .before .local .result) (args .p) (gain .before .local .ensures) (gain .gain-of .ensures)
+    gain-to (args .t .0) (args .h .0) _ (gain .before .local .result) (args .p) (gain .before .local .ensures)
+    (gain .gain-of .ensures)
 
 -- the speed as the definition has it, and the held number, which the new speed moves
 speeds : (c : tie.After-number-after) →
@@ -86,7 +92,8 @@ speeds : (c : tie.After-number-after) →
 unfolding moved-speed
 speeds c =
     let start = start-of (gain-before c) in
-    rw (c .before .before .has-mass .ensures, value-back (start .args .p .state .speed) (start .pre .0 .speed)) at (c .number-after .ensures)
+    rw (c .before .before .has-mass .ensures, value-back (start .args .p .state .speed) (start .pre .0 .speed))
+    at (c .number-after .ensures)
 
 helds : (c : tie.After-number-after2) →
     let gain = gain-before (speed-before c) in
@@ -97,7 +104,8 @@ helds c =
     let holds = c .before .before .before in
     let start = start-of (gain-before speed) in
     let back = toZ-ofZ w64 (speed .number-after .result) (record { sfits = speed .number-after .ok }) in
-    held-of (start .args .p) (start .args .x) (gain-before speed .gain-of .result .0) (speed .before .before .has-mass .ensures)
+    held-of (start .args .p) (start .args .x) (gain-before speed .gain-of .result .0)
+    (speed .before .before .has-mass .ensures)
     (holds .holds-number .ensures)
     (back ∙ speeds speed)
     (c .before .before .rate-of .ensures)
@@ -122,8 +130,10 @@ number-after-requires : tie.Need-number-after-requires
 number-after-requires c κs =
     let gain = c .before .before .before .before in
     let start = start-of gain in
-    let value = start .pre .0 .speed in
-    (rw (value-back (start .args .p .state .speed) value) value, (start .pre .1 .1 .1, rw (gains gain) (start .pre .1 .1 .0)))
+    let value = start .pre .0 .speed in (
+      rw (value-back (start .args .p .state .speed) value) value,
+      (start .pre .1 .1 .1, rw (gains gain) (start .pre .1 .1 .0)),
+    )
 
 holds-number-requires : tie.Need-holds-number-requires
 holds-number-requires c κs = search needs
@@ -139,7 +149,8 @@ number-after-requires-2 c κs =
     let value = start .pre .0 .held in
     let back = toZ-ofZ w64 (speed .number-after .result) (record { sfits = speed .number-after .ok }) in
     let signal =
-    rate-signal (start .args .p) (start .args .x) (gain .gain-of .result .0) (speed .before .before .has-mass .ensures) (back ∙ speeds speed)
+    rate-signal (start .args .p) (start .args .x) (gain .gain-of .result .0) (speed .before .before .has-mass .ensures)
+    (back ∙ speeds speed)
     (c .before .rate-of .ensures)
     (start .pre .1 .1 .1) in
     (rw (value-back (start .args .p .state .held) value) value, (signal, rw (gains gain) (start .pre .1 .1 .0)))
@@ -164,7 +175,8 @@ returns c =
       toZ-ofZ w64 (held .number-after2 .result) (record { sfits = held .number-after2 .ok }),
       toZ-ofZ w64 (speed .number-after .result) (record { sfits = speed .number-after .ok }),
     )
-    (moved-by (start .args .t .0) (start .args .h .0) _ (start .args .x) (start .args .p) _ _ (gains gain) (helds held) (speeds speed))
+    (moved-by (start .args .t .0) (start .args .h .0) _ (start .args .x) (start .args .p) _ _ (gains gain) (helds held)
+    (speeds speed))
 
 pub moved-part-spec : {M : Type 1} → statement M
 moved-part-spec =

@@ -1,4 +1,5 @@
--- `rate_of` picks the speed or the reading, as the definition does. A speed that goes into a signal is read back from its bits.
+-- `rate_of` picks the speed or the reading, as the definition does. A speed that goes into a signal is read back from
+-- its bits.
 use mir.Syntax.{w64}
 use mir.ValLaws.{toZ-ofZ}
 use Rattle.step_part.proofs.change.rate_of.Statement.{statement}

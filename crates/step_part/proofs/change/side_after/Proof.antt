@@ -1,4 +1,5 @@
--- `side_after` is `side-after`: the code tests whether the input is below or above zero, and keeps the side where it is neither, or absent.
+-- `side_after` is `side-after`: the code tests whether the input is below or above zero, and keeps the side where it is
+-- neither, or absent.
 use mir.Syntax.{w64}
 use mir.ValLaws.{toZ-ofZ}
 use borrow.Author.Needs.{needs}

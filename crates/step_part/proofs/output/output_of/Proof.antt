@@ -1,5 +1,6 @@
--- `output_of` is `output`: each arm of the match knows the kind, and calls the function whose contract is that kind's clause of `output-as`. A
--- signed number that passes through a local is read back from its bits, as the number itself, since it fits.
+-- `output_of` is `output`: each arm of the match knows the kind, and calls the function whose contract is that kind's
+-- clause of `output-as`. A signed number that passes through a local is read back from its bits, as the number itself,
+-- since it fits.
 use mathlib.Core.Path.{_≡_, refl}
 use mir.Syntax.{w64}
 use mir.Val.{ofZ, toZ}
@@ -19,7 +20,9 @@ a-back : (c : tie.After-period-of) → let a = start c .args .p .component .a in
 a-back c = value-back (start c .args .p .component .a) (start c .pre .0 .a)
 
 b-back : (c : tie.After-period-of) → let b = start c .args .p .component .b in toZ w64 (ofZ w64 b) ≡ b
-b-back c = toZ-ofZ w64 (start c .args .p .component .b) (record { sfits = c .before .before .struct-told2 .given .1 .1 .1 .0 .1 })
+b-back c = toZ-ofZ w64 (start c .args .p .component .b) (record {
+  sfits = c .before .before .struct-told2 .given .1 .1 .1 .0 .1;
+})
 
 held-back : (c : tie.After-period-of) → let held = start c .args .p .state .held in toZ w64 (ofZ w64 held) ≡ held
 held-back c = value-back (start c .args .p .state .held) (start c .pre .0 .held)

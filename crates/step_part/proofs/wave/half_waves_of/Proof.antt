@@ -1,5 +1,5 @@
--- `half_waves_of` is `half-waves`. At a positive multiple of the period at least one half wave has passed, so that one can be taken off. For a
--- period of 0 the code answers 0, and so does the definition in either case: t / 0 is 0.
+-- `half_waves_of` is `half-waves`. At a positive multiple of the period at least one half wave has passed, so that one
+-- can be taken off. For a period of 0 the code answers 0, and so does the definition in either case: t / 0 is 0.
 use Prim.Native.Nat.{ℕ, zero, suc, _/_, _*_, _%_, _+_, _≤_}
 use native.Mathlib.Nat.{div-add-mod', div-zero}
 use native.Mathlib.Omega.{arith}

@@ -1,4 +1,5 @@
--- `multiple_of` is `positive-multiple`. For a period of 0 the code answers no before it divides, and so does the definition: t % 0 is t, and not 0.
+-- `multiple_of` is `positive-multiple`. For a period of 0 the code answers no before it divides, and so does the
+-- definition: t % 0 is t, and not 0.
 use native.Mathlib.Nat.{mod-zero}
 use native.Mathlib.Omega.{arith}
 use borrow.Author.Needs.{needs}

@@ -1,5 +1,5 @@
 -- `filled_into` is `filled`, over the models that the words mean. The invariant: the outputs of the first i numbers of
--- the part order are filled, nothing else of the model is changed, the words behind it are kept, and what was written
+-- the part order are filled, nothing else of the model is changed, the words after it are kept, and what was written
 -- is clean. The measure is what is left of the count. A turn reads a part and what its ports read, and writes the
 -- part's output; one law of `specs/LentFilling.antt` says what it asks and what it comes to.
 use Prim.Native.Nat.{ℕ, _-_, _≤_, _<_}
@@ -46,7 +46,8 @@ third-of put = put .before .before .before
 abbrev reads-of-put : tie.After-put-output Inv-loop μ-loop → tie.After-part-at Inv-loop μ-loop
 reads-of-put put = reads-of (first-of (third-of put))
 
--- the words of the table, of the old state, of the new one before the first turn, and of the new one that the loop holds
+-- the words of the table, of the old state, of the new one before the first turn, and of the new one that the loop
+-- holds
 abbrev table-of : tie.In-loop Inv-loop μ-loop → List ℕ
 table-of test = start-of test .args .table .now
 

@@ -1,5 +1,6 @@
--- `moved_into` is `all-moved`, of the old words. The invariant: in the new words stand the point and the states of the old words, those of the first i parts
--- moved, each by its reading in the old words, and no word behind the model is changed. The measure is what is left of the count.
+-- `moved_into` is `all-moved`, of the old words. The invariant: in the new words are the point and the states of the
+-- old words, those of the first i parts moved, each by its reading in the old words, and no word after the model is
+-- changed. The measure is what is left of the count.
 use Prim.Native.Nat.{ℕ, _-_, _≤_, _<_}
 use native.Mathlib.Omega.{arith}
 use mathlib.Core.Path.{_≡_, subst, _∙_}
@@ -61,7 +62,8 @@ wired : (s : tie.Start Inv-loop μ-loop) → Wired (trimmed (old-of s))
 wired s = sound-wired (trimmed (old-of s)) (s .pre .sounds)
 
 -- the tick is its own
-ticks : (point : tie.After-point-of Inv-loop μ-loop) → point .point-of .result .t .0 ≡ tick (old-of (start-of point) .point)
+ticks : (point : tie.After-point-of Inv-loop μ-loop) →
+    point .point-of .result .t .0 ≡ tick (old-of (start-of point) .point)
 ticks point =
     let s = start-of point in
     lent-tick (s .args .table .now) (s .args .old .now) (point .point-of .result) (point .point-of .ensures)
@@ -76,11 +78,13 @@ copied :
 copied point =
     let copies = copies-of point in
     let s = start-of point in
-    subst (λ (n : ℕ). Copied (state-words n) (s .args .old .now) (s .args .new .now) (copied-of point)) (counts-of copies .parts-of .ensures)
+    subst (λ (n : ℕ). Copied (state-words n) (s .args .old .now) (s .args .new .now) (copied-of point))
+    (counts-of copies .parts-of .ensures)
     (copies .copy-state .ensures)
 
 -- the part's number is below the count of the table
-within : (test : tie.In-loop Inv-loop μ-loop) → test .before .loop .i < part-count (start-of (point-read test) .args .table .now)
+within : (test : tie.In-loop Inv-loop μ-loop) →
+    test .before .loop .i < part-count (start-of (point-read test) .args .table .now)
 within test = omega (arith, test .loop-test .taken, counts-of (copies-of (point-read test)) .parts-of .ensures)
 
 -- what the part is heard to read is its reading in the old words

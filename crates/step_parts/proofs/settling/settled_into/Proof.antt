@@ -1,5 +1,6 @@
--- `settled_into` is `all-settled`, in the words of the new state. The invariant: of the parts the first i are settled, each by its reading in the words at the
--- start, and nothing else of the model, nor a word behind it, is changed. The measure is what is left of the count.
+-- `settled_into` is `all-settled`, in the words of the new state. The invariant: of the parts the first i are settled,
+-- each by its reading in the words at the start, and nothing else of the model, nor a word after it, is changed. The
+-- measure is what is left of the count.
 use Prim.Native.Nat.{_-_, _≤_, _<_}
 use native.Mathlib.Omega.{arith}
 use borrow.Author.Tests.{not-true}
@@ -66,7 +67,8 @@ loop-again c =
     let test = kind .before in
     let s = start-of test in
     let loop = test .before .loop in
-    settled-passes (s .args .table .now) (s .args .new .now) (s .pre .1) (loop .i) (loop .new) (loop .inv) (within test) (kind .kind-at .result)
+    settled-passes (s .args .table .now) (s .args .new .now) (s .pre .1) (loop .i) (loop .new) (loop .inv) (within test)
+    (kind .kind-at .result)
     (kind .kind-at .ensures) (sym (c .before .settles .ensures) ∙ not-true (c .before .settles .result) (c .if1 .taken))
 
 part-at-requires : tie.Need-part-at-requires Inv-loop μ-loop

@@ -1,5 +1,6 @@
--- `trial_into` is `step-shown` over the models that the words mean: the parts moved, the point written and the outputs filled, each by the contract of its function,
--- joined by the laws of `specs/LentStep.antt`. The step is one within the time, so that it never leads past it.
+-- `trial_into` is `step-shown` over the models that the words mean: the parts moved, the point written and the outputs
+-- filled, each by the contract of its function, joined by the laws of `specs/LentStep.antt`. The step is one within the
+-- time, so that it never leads past it.
 use Prim.Native.Nat.{ℕ}
 use mathlib.Core.Path.{sym, _∙_}
 use mathlib.Core.List.{List}
@@ -51,8 +52,9 @@ pointed-of points = points .put-point .last .0
 abbrev filled-of : tie.After-filled-into → List ℕ
 filled-of fills = fills .filled-into .last .1 .1 .0
 
--- the words behind the model's are kept up to the point written
-behind-point : (points : tie.After-put-point) → let moves = moves-of points in SameBehind (part-count (table-of moves)) (new-of moves) (pointed-of points)
+-- the words after the model's are kept up to the point written
+behind-point : (points : tie.After-put-point) → let moves = moves-of points in
+    SameBehind (part-count (table-of moves)) (new-of moves) (pointed-of points)
 behind-point points =
     let moves = moves-of points in
     let n = part-count (table-of moves) in

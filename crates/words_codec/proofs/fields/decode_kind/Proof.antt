@@ -8,7 +8,8 @@ use Rattle.words_codec.proofs.fields.decode_kind.Tie as tie
 
 -- what is left is the constant
 left-over :
-    (w : ℕ) → (w ≡ 1 → ⊥) → (w ≡ 2 → ⊥) → (w ≡ 3 → ⊥) → (w ≡ 4 → ⊥) → (w ≡ 5 → ⊥) → (w ≡ 6 → ⊥) → (w ≡ 7 → ⊥) → (w ≡ 8 → ⊥) → (w ≡ 9 → ⊥) →
+    (w : ℕ) → (w ≡ 1 → ⊥) → (w ≡ 2 → ⊥) → (w ≡ 3 → ⊥) → (w ≡ 4 → ⊥) → (w ≡ 5 → ⊥) → (w ≡ 6 → ⊥) → (w ≡ 7 → ⊥) →
+    (w ≡ 8 → ⊥) → (w ≡ 9 → ⊥) →
     (w ≡ 10 → ⊥) → (w ≡ 11 → ⊥) → (w ≡ 12 → ⊥) → Constant ≡ kind-of w
 unfolding kind-of
 left-over zero a b c d e f g h i j k l = refl
@@ -22,8 +23,10 @@ left-over (suc (suc (suc (suc (suc (suc (suc zero))))))) a b c d e f g h i j k l
 left-over (suc (suc (suc (suc (suc (suc (suc (suc zero)))))))) a b c d e f g h i j k l = absurd (h refl)
 left-over (suc (suc (suc (suc (suc (suc (suc (suc (suc zero))))))))) a b c d e f g h i j k l = absurd (i refl)
 left-over (suc (suc (suc (suc (suc (suc (suc (suc (suc (suc zero)))))))))) a b c d e f g h i j k l = absurd (j refl)
-left-over (suc (suc (suc (suc (suc (suc (suc (suc (suc (suc (suc zero))))))))))) a b c d e f g h i j k l = absurd (k refl)
-left-over (suc (suc (suc (suc (suc (suc (suc (suc (suc (suc (suc (suc zero)))))))))))) a b c d e f g h i j k l = absurd (l refl)
+left-over (suc (suc (suc (suc (suc (suc (suc (suc (suc (suc (suc zero))))))))))) a b c d e f g h i j k l =
+    absurd (k refl)
+left-over (suc (suc (suc (suc (suc (suc (suc (suc (suc (suc (suc (suc zero)))))))))))) a b c d e f g h i j k l =
+    absurd (l refl)
 left-over (suc (suc (suc (suc (suc (suc (suc (suc (suc (suc (suc (suc (suc n))))))))))))) a b c d e f g h i j k l = refl
 
 returns : tie.Need-returns
@@ -77,9 +80,12 @@ returns-12 c = simp (c .match .keys12)
 returns-13 : tie.Need-returns-13
 returns-13 c =
     let r = c .match .rest in
-    left-over (c .before .args .w) (r .0 .0 .0 .0 .0 .0 .0 .0 .0 .0 .0 .1) (r .0 .0 .0 .0 .0 .0 .0 .0 .0 .0 .1) (r .0 .0 .0 .0 .0 .0 .0 .0 .0 .1) (r .0 .0 .0 .0 .0 .0 .0 .0 .1) (r .0 .0 .0 .0 .0 .0 .0 .1) (r .0 .0 .0 .0 .0 .0 .1) (r .0 .0 .0 .0 .0 .1) (r .0 .0 .0 .0 .1) (r .0 .0 .0 .1) (r .0 .0 .1) (r .0 .1) (r .1)
+    left-over (c .before .args .w) (r .0 .0 .0 .0 .0 .0 .0 .0 .0 .0 .0 .1) (r .0 .0 .0 .0 .0 .0 .0 .0 .0 .0 .1)
+    (r .0 .0 .0 .0 .0 .0 .0 .0 .0 .1) (r .0 .0 .0 .0 .0 .0 .0 .0 .1) (r .0 .0 .0 .0 .0 .0 .0 .1)
+    (r .0 .0 .0 .0 .0 .0 .1) (r .0 .0 .0 .0 .0 .1) (r .0 .0 .0 .0 .1) (r .0 .0 .0 .1) (r .0 .0 .1) (r .0 .1) (r .1)
 
 pub decode-kind-spec : {M : Type 1} → statement M
 decode-kind-spec =
     tie.close
-    (tie.spec returns returns-2 returns-3 returns-4 returns-5 returns-6 returns-7 returns-8 returns-9 returns-10 returns-11 returns-12 returns-13)
+    (tie.spec returns returns-2 returns-3 returns-4 returns-5 returns-6 returns-7 returns-8 returns-9 returns-10
+    returns-11 returns-12 returns-13)

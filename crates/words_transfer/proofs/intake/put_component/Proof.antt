@@ -29,7 +29,8 @@ returns c =
     let whole = start .args .c in
     let a = toZ-ofZ w64 (whole .a) (record { sfits = told-a .struct-told .given .1 .1 .0 .1 }) in
     let b = toZ-ofZ w64 (whole .b) (record { sfits = told-b .struct-told2 .given .1 .1 .1 .0 .1 }) in
-    component-put (start .args .i) whole _ _ _ _ _ _ (simp (a, b) at (operands .put-operands .ensures)) (spans .put-spans .ensures)
+    component-put (start .args .i) whole _ _ _ _ _ _ (simp (a, b) at (operands .put-operands .ensures))
+    (spans .put-spans .ensures)
     (wires .put-wires .ensures)
 
 pub put-component-spec : {M : Type 1} → statement M

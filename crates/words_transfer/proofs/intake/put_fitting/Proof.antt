@@ -1,4 +1,4 @@
--- `put_fitting` puts one part after the other. The invariant: the first i parts are put, and the words behind the
+-- `put_fitting` puts one part after the other. The invariant: the first i parts are put, and the words after the
 -- model's kept. The measure is how many are left.
 use Prim.Native.Nat.{ℕ, _-_, _≤_}
 use native.Mathlib.Omega.{arith}

@@ -1,4 +1,4 @@
--- `put_operands` writes the six words one behind another.
+-- `put_operands` writes the six words one after another.
 use native.Mathlib.Omega.{arith}
 use mathlib.Core.Path.{_∙_}
 use mir.Syntax.{w64}
@@ -87,9 +87,11 @@ returns c =
     let start = kind .before .before in
     let g = start .args in
     operands-put (g .table .now) (g .i) (g .kind) (g .preference) (g .a) (g .b) (g .p) (g .span-count)
-    (kind .encode-kind .result) (first .word-of .result) (c .word-of2 .result) (start .pre) (kind .encode-kind .ensures) (omega arith)
+    (kind .encode-kind .result) (first .word-of .result) (c .word-of2 .result) (start .pre) (kind .encode-kind .ensures)
+    (omega arith)
     (first .word-of .ensures ∙ toZ-ofZ w64 (g .a) (start .fits .a)) (omega (arith, first .word-of .ok))
-    (c .word-of2 .ensures ∙ toZ-ofZ w64 (g .b) (start .fits .b)) (omega (arith, c .word-of2 .ok)) (omega arith) (omega arith)
+    (c .word-of2 .ensures ∙ toZ-ofZ w64 (g .b) (start .fits .b)) (omega (arith, c .word-of2 .ok)) (omega arith)
+    (omega arith)
 
 pub put-operands-spec : {M : Type 1} → statement M
 put-operands-spec =

@@ -1,4 +1,4 @@
--- `put_wires` writes the four words one behind another.
+-- `put_wires` writes the four words one after another.
 use native.Mathlib.Omega.{arith}
 use lib.ListN.{length-set}
 use Rattle.words_store.specs.WordsWritten.{written}
@@ -61,7 +61,8 @@ returns c =
     let first = c .before in
     let start = first .before .before in
     let g = start .args in
-    wires-put (g .table .now) (g .i) (g .port0) (g .port1) (g .ratio) (g .number) (first .encode-source .result) (c .encode-source2 .result)
+    wires-put (g .table .now) (g .i) (g .port0) (g .port1) (g .ratio) (g .number) (first .encode-source .result)
+    (c .encode-source2 .result)
     (start .pre) (first .encode-source .ensures .0) (first .encode-source .ensures .1) (c .encode-source2 .ensures .0)
     (c .encode-source2 .ensures .1) (omega arith) (omega arith)
 

@@ -1,11 +1,13 @@
--- `recalled` takes one part's state after the other. The invariant: the states of the first i parts are taken. The measure is how many are left.
+-- `recalled` takes one part's state after the other. The invariant: the states of the first i parts are taken. The
+-- measure is how many are left.
 use Prim.Native.Nat.{ℕ, _-_, _≤_, _<_}
 use native.Mathlib.Omega.{arith}
 use mathlib.Core.Path.{_≡_, subst, ap, _∙_}
 use lib.ListN.{length, length-map}
 use borrow.Author.Needs.{needs}
 use Rattle.machine.specs.Model.{part-at, with-state, with-parts}
-use Rattle.words_transfer.specs.Recalled.{RecalledFirst, recalled-none, recalled-more, recalled-count, recalled-all}
+use Rattle.words_transfer.specs.Recalled.{RecalledFirst, recalled-none, recalled-more, recalled-count}
+use Rattle.words_transfer.specs.Recalled.{recalled-all}
 use Rattle.words_transfer.proofs.recall.recalled.Statement.{statement}
 use Rattle.words_transfer.proofs.recall.recalled.Tie as tie
 
@@ -61,7 +63,8 @@ loop-again c =
     let loop = test .before .loop in
     let start = start-of test in
     let low = within test in
-    let inside : loop .i < length (start .args .m .parts) = omega (arith, low, start .pre .0, simp length-map at (start .good .0)) in (
+    let inside : loop .i < length (start .args .m .parts) =
+    omega (arith, low, start .pre .0, simp length-map at (start .good .0)) in (
       omega (arith, low),
       recalled-more _ _ (loop .i) (loop .next) (c .in-state .result) (loop .inv .1) inside
           (c .in-state .ensures ∙ ap (with-state (part-at (loop .next .parts) (loop .i))) (read .state-at .ensures)),
@@ -75,7 +78,8 @@ returns c =
     let m = start .args .m in
     let ss = start .args .state .now in
     let now = read .point-of .result in
-    let done : loop .i ≡ m .count = omega (arith, c .loop-test .left, loop .inv .0, recalled-count _ _ _ _ (loop .inv .1)) in
+    let done : loop .i ≡ m .count =
+    omega (arith, c .loop-test .left, loop .inv .0, recalled-count _ _ _ _ (loop .inv .1)) in
     recalled-all m now ss (loop .next) (read .point-of .ensures)
     (subst (λ (n : ℕ). RecalledFirst (with-parts m now (m .parts)) ss n (loop .next)) done (loop .inv .1))
     (omega (arith, start .pre .0, simp length-map at (start .good .0)))

@@ -1,5 +1,6 @@
--- `absolute` is the number's distance from 0. For a negative one, −(n + 1), the code computes −(v + 1), which is n, and adds 1: each step fits,
--- at the least value too. A signed local holds bits, so each result is read back from them by `toZ-ofZ`.
+-- `absolute` is the number's distance from 0. For a negative one, −(n + 1), the code computes −(v + 1), which is n, and
+-- adds 1: each step fits, at the least value too. A signed local holds bits, so each result is read back from them by
+-- `toZ-ofZ`.
 use Prim.Native.Nat.{ℕ, zero, suc, _+_}
 use native.Mathlib.Numerals.{add-one}
 use native.Mathlib.Omega.{arith}

@@ -1,4 +1,4 @@
--- `put_byte` stores the byte at its place in the line, and returns the place behind it.
+-- `put_byte` stores the byte at its place in the line, and returns the place after it.
 use borrow.Author.Needs.{needs}
 use Rattle.write_bytes.specs.Pieces.{put-one}
 use Rattle.write_bytes.proofs.put.put_byte.Statement.{statement}

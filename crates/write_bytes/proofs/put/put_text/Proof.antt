@@ -1,4 +1,5 @@
--- `put_text` puts a text byte by byte. The invariant: the first i bytes were put, in a line as long as it was; the measure is what is left of the text.
+-- `put_text` puts a text byte by byte. The invariant: the first i bytes were put, in a line as long as it was; the
+-- measure is what is left of the text.
 use Prim.Native.Nat.{ℕ, _+_, _-_, _≤_, _<_}
 use native.Mathlib.Numerals.{add-one}
 use native.Mathlib.Omega.{arith}
@@ -13,13 +14,15 @@ use Rattle.write_bytes.proofs.put.put_text.Statement.{statement}
 use Rattle.write_bytes.proofs.put.put_text.Tie as tie
 
 -- one byte more
-byte-more : (text : List ℕ) {l₀ l₁ l₂ : List ℕ} {i at p q : ℕ} → i < length text → Put i (take i text) at l₀ l₁ p → Put 1 (getD text i 0 ∷ []) p l₁ l₂ q →
+byte-more : (text : List ℕ) {l₀ l₁ l₂ : List ℕ} {i at p q : ℕ} → i < length text → Put i (take i text) at l₀ l₁ p →
+    Put 1 (getD text i 0 ∷ []) p l₁ l₂ q →
     Put (i + 1) (take (i + 1) text) at l₀ l₂ q
 byte-more text {i = i} inside first last =
     put-as (put-then first last) (rw add-one (sym (take-suc text i 0 inside))) (omega (arith, length-take (i + 1) text))
 
 abbrev Inv-loop : tie.InvT-loop
-Inv-loop line₀ at text next₀ i₀ line next i = (i ≤ length text) × (length line ≡ length line₀) × Put i (take i text) at line₀ line next
+Inv-loop line₀ at text next₀ i₀ line next i = (i ≤ length text) × (length line ≡ length line₀) ×
+    Put i (take i text) at line₀ line next
 
 abbrev μ-loop : tie.MeasureT-loop
 μ-loop line₀ at text next₀ i₀ line next i = length text - i

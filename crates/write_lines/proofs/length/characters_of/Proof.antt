@@ -23,7 +23,13 @@ add-result c =
     let start = counted .before .before in
     let back = toZ-ofZ w64 (start .args .v) (start .fits .v) in
     let same = ap (λ (k : ℕ). length (decimal k)) (rw back at (counted .before .absolute .ensures)) in
-    omega (arith, counted .digits-of .ensures, same, negative-length (start .args .v) (rw back at (c .if1 .taken)), signed-short (start .args .v) (start .fits .v))
+    omega (
+      arith,
+      counted .digits-of .ensures,
+      same,
+      negative-length (start .args .v) (rw back at (c .if1 .taken)),
+      signed-short (start .args .v) (start .fits .v),
+    )
 
 returns : tie.Need-returns
 returns c =

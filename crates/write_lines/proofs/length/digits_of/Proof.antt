@@ -1,5 +1,6 @@
--- `digits_of` takes tenth parts up to one of a single digit. The invariant: the digits counted so far and those of what is left are those of the number and one more, since
--- the first was counted before the loop; the measure is what is left.
+-- `digits_of` takes tenth parts up to one of a single digit. The invariant: the digits counted so far and those of what
+-- is left are those of the number and one more, since the first was counted before the loop; the measure is what is
+-- left.
 use Prim.Native.Nat.{_+_}
 use native.Mathlib.Omega.{arith}
 use mathlib.Core.Path.{_≡_, ap}

@@ -1,4 +1,5 @@
--- `output_length` is that of a blank and a hyphen for an absent output, and counts the characters of the value of another.
+-- `output_length` is that of a blank and a hyphen for an absent output, and counts the characters of the value of
+-- another.
 use native.Mathlib.Omega.{arith}
 use mir.Syntax.{w64}
 use mir.Val.{SFits}

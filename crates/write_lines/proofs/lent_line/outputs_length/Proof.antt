@@ -1,5 +1,6 @@
--- `outputs_length` adds up the lengths of the outputs part by part. The invariant: the sum is the length of the outputs of the first i parts of the model
--- that the words mean; the measure is how many parts are left. An output takes at most 21 bytes and there are at most 32, so that no sum wraps.
+-- `outputs_length` adds up the lengths of the outputs part by part. The invariant: the sum is the length of the outputs
+-- of the first i parts of the model that the words mean; the measure is how many parts are left. An output takes at
+-- most 21 bytes and there are at most 32, so that no sum wraps.
 use Prim.Native.Nat.{ℕ, _+_, _-_, _≤_, _<_}
 use native.Mathlib.Omega.{arith}
 use mathlib.Core.Path.{_≡_, refl, ap, _∙_}
@@ -13,7 +14,8 @@ use Rattle.write_lines.proofs.lent_line.outputs_length.Statement.{state
 use Rattle.write_lines.proofs.lent_line.outputs_length.Tie as tie
 
 abbrev Inv-loop : tie.InvT-loop
-Inv-loop table state count length₀ i₀ sum i = (i ≤ count) × (sum ≡ length (outputs-text (take i (model-in table state .parts))))
+Inv-loop table state count length₀ i₀ sum i = (i ≤ count) ×
+    (sum ≡ length (outputs-text (take i (model-in table state .parts))))
 
 abbrev μ-loop : tie.MeasureT-loop
 μ-loop table state count length₀ i₀ sum i = count - i
@@ -34,13 +36,15 @@ one-more ts ss {i = i} low same so-far more =
 longer : (c : tie.After-output-length Inv-loop μ-loop) →
     let turn = c .before .before .before in
     let args = start-of turn .args in
-    turn .loop .length + c .output-length .result ≡ length (outputs-text (take (turn .loop .i + 1) (model-in (args .table .now) (args .state .now) .parts)))
+    turn .loop .length + c .output-length .result ≡
+    length (outputs-text (take (turn .loop .i + 1) (model-in (args .table .now) (args .state .now) .parts)))
 longer c =
     let read = c .before in
     let turn = read .before .before in
     let args = start-of turn .args in
     let low : turn .loop .i < part-count (args .table .now) = omega arith in
-    one-more (args .table .now) (args .state .now) low (read .output-at .ensures) (turn .loop .inv .1) (c .output-length .ensures)
+    one-more (args .table .now) (args .state .now) low (read .output-at .ensures) (turn .loop .inv .1)
+    (c .output-length .ensures)
 
 parts-of-requires : tie.Need-parts-of-requires Inv-loop μ-loop
 parts-of-requires c κs = omega arith

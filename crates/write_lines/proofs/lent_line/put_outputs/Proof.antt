@@ -1,5 +1,6 @@
--- `put_outputs` puts the outputs part by part. The invariant: the outputs of the first i parts of the model that the words mean were put from the position
--- given, in a buffer as long as it was; the measure is how many parts are left. There is room for one more, since there is for all.
+-- `put_outputs` puts the outputs part by part. The invariant: the outputs of the first i parts of the model that the
+-- words mean were put from the position given, in a buffer as long as it was; the measure is how many parts are left.
+-- There is room for one more, since there is for all.
 use Prim.Native.Nat.{ℕ, _+_, _*_, _-_, _≤_, _<_}
 use native.Mathlib.Omega.{arith}
 use mathlib.Core.Path.{_≡_, ap}
@@ -13,13 +14,15 @@ use Rattle.write_bytes.specs.Put.{Put}
 use Rattle.write_bytes.specs.Pieces.{put-nothing, put-then, put-as}
 use Rattle.words_store.specs.ModelIn.{model-in, part-count, stored-state}
 use Rattle.words_store.specs.StoreFrame.{held-many}
-use Rattle.write_lines.proofs.Outputs.{all-parts, lent-output, outputs-few, outputs-longer, outputs-more, outputs-within}
+use Rattle.write_lines.proofs.Outputs.{all-parts, lent-output, outputs-few, outputs-longer, outputs-more}
+use Rattle.write_lines.proofs.Outputs.{outputs-within}
 use Rattle.write_lines.proofs.lent_line.put_outputs.Statement.{statement}
 use Rattle.write_lines.proofs.lent_line.put_outputs.Tie as tie
 
 abbrev Inv-loop : tie.InvT-loop
 Inv-loop line₀ at table state count next₀ i₀ line next i =
-    (i ≤ count) × (length line ≡ length line₀) × Put (21 * i) (outputs-text (take i (model-in table state .parts))) at line₀ line next
+    (i ≤ count) × (length line ≡ length line₀) ×
+    Put (21 * i) (outputs-text (take i (model-in table state .parts))) at line₀ line next
 
 abbrev μ-loop : tie.MeasureT-loop
 μ-loop line₀ at table state count next₀ i₀ line next i = count - i
@@ -28,8 +31,9 @@ abbrev μ-loop : tie.MeasureT-loop
 abbrev start-of : tie.At-loop Inv-loop μ-loop → tie.Start Inv-loop μ-loop
 start-of turn = turn .before .before .before .before .before
 
--- one output more behind those of the first i parts
-one-more : (ts ss : List ℕ) {i at p q : ℕ} {l₀ l₁ l₂ : List ℕ} {s : Signal} → i < part-count ts → s ≡ stored-state ss i .output →
+-- one output more after those of the first i parts
+one-more : (ts ss : List ℕ) {i at p q : ℕ} {l₀ l₁ l₂ : List ℕ} {s : Signal} → i < part-count ts →
+    s ≡ stored-state ss i .output →
     Put (21 * i) (outputs-text (take i (model-in ts ss .parts))) at l₀ l₁ p → Put 22 (blank ∷ signal-text s) p l₁ l₂ q →
     Put (21 * (i + 1)) (outputs-text (take (i + 1) (model-in ts ss .parts))) at l₀ l₂ q
 one-more ts ss {i} low same before output =
@@ -40,7 +44,8 @@ one-more ts ss {i} low same before output =
 
 -- that has room where all have
 enough : (ts ss : List ℕ) {i : ℕ} {s : Signal} → i < part-count ts → s ≡ stored-state ss i .output →
-    length (outputs-text (take i (model-in ts ss .parts))) + length (blank ∷ signal-text s) ≤ length (outputs-text (model-in ts ss .parts))
+    length (outputs-text (take i (model-in ts ss .parts))) + length (blank ∷ signal-text s) ≤ length
+    (outputs-text (model-in ts ss .parts))
 enough ts ss {i = i} low same =
     let here = ap (λ (x : Signal). length (blank ∷ signal-text x)) same in
     omega (arith, outputs-longer ts ss i low, outputs-within (model-in ts ss .parts) (i + 1), here)
@@ -61,7 +66,11 @@ put-output-requires c κs =
     let turn = read .before .before in
     let args = start-of turn .args in
     let low : turn .loop .i < part-count (args .table .now) = omega arith in
-    omega (arith, enough (args .table .now) (args .state .now) low (read .output-at .ensures), turn .loop .inv .2 .position)
+    omega (
+      arith,
+      enough (args .table .now) (args .state .now) low (read .output-at .ensures),
+      turn .loop .inv .2 .position,
+    )
 
 add-i : tie.Need-add-i Inv-loop μ-loop
 add-i c = omega arith
@@ -75,8 +84,12 @@ loop-again c =
     let read = put .before .before in
     let turn = read .before .before in
     let args = start-of turn .args in
-    let low : turn .loop .i < part-count (args .table .now) = omega arith in
-    (omega arith, omega arith, one-more (args .table .now) (args .state .now) low (read .output-at .ensures) (turn .loop .inv .2) (put .put-output .ensures))
+    let low : turn .loop .i < part-count (args .table .now) = omega arith in (
+      omega arith,
+      omega arith,
+      one-more (args .table .now) (args .state .now) low (read .output-at .ensures)
+          (turn .loop .inv .2) (put .put-output .ensures),
+    )
 
 same-length : tie.Need-same-length Inv-loop μ-loop
 same-length c = search needs

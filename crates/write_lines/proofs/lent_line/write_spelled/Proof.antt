@@ -1,5 +1,5 @@
 -- `write_spelled` puts the line where the buffer has room for it: because it has room for any line of so many parts, or
--- because the line was measured and is no longer. The three pieces that are put one behind the other are the
+-- because the line was measured and is no longer. The three pieces that are put one after the other are the
 -- definition's text, which is the line whatever the ceiling is.
 use Prim.Native.Nat.{ℕ, _+_, _*_, _≤_}
 use native.Mathlib.Omega.{arith}

@@ -1,4 +1,5 @@
--- `numbers_length` adds up the digits of the five numbers and four blanks. Each number has at most 20 digits, so that no sum wraps.
+-- `numbers_length` adds up the digits of the five numbers and four blanks. Each number has at most 20 digits, so that
+-- no sum wraps.
 use Prim.Native.Nat.{_≤_}
 use native.Mathlib.Omega.{arith}
 use lib.ListN.{length}
@@ -10,7 +11,8 @@ use Rattle.write_lines.proofs.line.numbers_length.Tie as tie
 
 -- how long the numbers are at most
 most : (start : tie.Start) →
-    length (numbers-text (start .args .t) (start .args .n) (start .args .step) (start .args .rounds) (start .args .revisions)) ≤ 104
+    length (numbers-text (start .args .t) (start .args .n) (start .args .step) (start .args .rounds)
+    (start .args .revisions)) ≤ 104
 most start =
     let fits = start .fits in
     numbers-most (fits .t) (fits .n) (fits .step) (fits .rounds) (fits .revisions)

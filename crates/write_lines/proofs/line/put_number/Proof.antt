@@ -1,4 +1,4 @@
--- `put_number` puts a number's digits, and a blank behind them.
+-- `put_number` puts a number's digits, and a blank after them.
 use borrow.Author.Needs.{needs}
 use Rattle.write_bytes.specs.Pieces.{put-then}
 use Rattle.write_lines.proofs.line.put_number.Statement.{statement}

@@ -1,4 +1,4 @@
--- `put_numbers` puts the five numbers one behind the other, the first four with their blanks.
+-- `put_numbers` puts the five numbers one after the other, the first four with their blanks.
 use native.Mathlib.Omega.{arith}
 use mathlib.Core.List.{append-assoc}
 use lib.ListN.{length-append}
@@ -79,7 +79,8 @@ returns c =
     let second = second-of third in
     let first = first-of second in
     let points = put-then (first .put-number .ensures) (second .put-number2 .ensures) in
-    let put = put-then (put-then (put-then points (third .put-number3 .ensures)) (fourth .put-number4 .ensures)) (last .put-decimal .ensures) in
+    let put = put-then (put-then (put-then points (third .put-number3 .ensures)) (fourth .put-number4 .ensures))
+    (last .put-decimal .ensures) in
     simp append-assoc at put
 
 pub put-numbers-spec : {M : Type 1} → statement M

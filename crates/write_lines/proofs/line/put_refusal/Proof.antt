@@ -1,4 +1,4 @@
--- `put_refusal` puts the text `refused `, and the number's digits behind it.
+-- `put_refusal` puts the text `refused `, and the number's digits after it.
 use native.Mathlib.Omega.{arith}
 use borrow.Author.Needs.{needs}
 use Rattle.write_bytes.specs.Pieces.{put-then}

@@ -1,4 +1,5 @@
--- `put_refused_at_line` puts what every refusal begins with, the text ` at `, the position's digits and a line feed, one behind the other.
+-- `put_refused_at_line` puts what every refusal begins with, the text ` at `, the position's digits and a line feed,
+-- one after the other.
 use native.Mathlib.Omega.{arith}
 use mathlib.Core.List.{append-assoc}
 use borrow.Author.Needs.{needs}
@@ -35,7 +36,12 @@ put-byte-requires c κs =
     let text = position .before .before .before .before in
     let refusal : tie.After-put-refusal = text .before .before .before .before .before in
     let room = simp refused-at-size at (refusal .before .before .before .pre) in
-    omega (arith, position .put-decimal .ensures .position, text .put-text .ensures .position, refusal .put-refusal .ensures .position)
+    omega (
+      arith,
+      position .put-decimal .ensures .position,
+      text .put-text .ensures .position,
+      refusal .put-refusal .ensures .position,
+    )
 
 same-length : tie.Need-same-length
 same-length c = search needs

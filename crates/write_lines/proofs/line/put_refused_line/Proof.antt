@@ -1,4 +1,4 @@
--- `put_refused_line` puts what every refusal begins with, and a line feed behind it.
+-- `put_refused_line` puts what every refusal begins with, and a line feed after it.
 use native.Mathlib.Omega.{arith}
 use mathlib.Core.List.{append-assoc}
 use borrow.Author.Needs.{needs}

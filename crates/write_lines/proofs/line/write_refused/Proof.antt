@@ -1,4 +1,5 @@
--- `write_refused` works out how long the line is, and puts it where it fits. Its number has at most 20 digits, so that the line has at most 29 characters.
+-- `write_refused` works out how long the line is, and puts it where it fits. Its number has at most 20 digits, so that
+-- the line has at most 29 characters.
 use Prim.Native.Nat.{_≤_}
 use native.Mathlib.Omega.{arith}
 use lib.ListN.{length}
@@ -15,7 +16,11 @@ start-of measured = measured .before .before
 
 -- no line is longer
 few : (start : tie.Start) → length (refused-line (start .args .number)) ≤ 29
-few start = omega (arith, refused-size (start .args .number), word-digits (start .args .number) (omega (arith, start .fits .number)))
+few start = omega (
+  arith,
+  refused-size (start .args .number),
+  word-digits (start .args .number) (omega (arith, start .fits .number)),
+)
 
 refusal-length-requires : tie.Need-refusal-length-requires
 refusal-length-requires c κs = search needs
@@ -29,7 +34,8 @@ returns : tie.Need-returns
 returns c =
     let start = start-of (c .before) in
     let line = refused-line (start .args .number) in
-    no-room 64 line (start .args .buf .now) _ (simp refused-size (omega arith)) (omega (arith, few start)) (omega (arith, c .if1 .taken))
+    no-room 64 line (start .args .buf .now) _ (simp refused-size (omega arith)) (omega (arith, few start))
+    (omega (arith, c .if1 .taken))
 
 put-refused-line-requires : tie.Need-put-refused-line-requires
 put-refused-line-requires c κs = simp refused-size (omega arith)

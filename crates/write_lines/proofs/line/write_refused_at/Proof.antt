@@ -1,4 +1,5 @@
--- `write_refused_at` works out how long the line is, and puts it where it fits. Its two numbers have at most 20 digits, so that the line has at most 53 characters.
+-- `write_refused_at` works out how long the line is, and puts it where it fits. Its two numbers have at most 20 digits,
+-- so that the line has at most 53 characters.
 use Prim.Native.Nat.{_≤_}
 use native.Mathlib.Omega.{arith}
 use lib.ListN.{length}
@@ -50,7 +51,8 @@ returns : tie.Need-returns
 returns c =
     let start = start-of (c .before) in
     let line = refused-at-line (start .args .number) (start .args .position) in
-    no-room 64 line (start .args .buf .now) _ (simp refused-at-size (omega arith)) (omega (arith, few start)) (omega (arith, c .if1 .taken))
+    no-room 64 line (start .args .buf .now) _ (simp refused-at-size (omega arith)) (omega (arith, few start))
+    (omega (arith, c .if1 .taken))
 
 put-refused-at-line-requires : tie.Need-put-refused-at-line-requires
 put-refused-at-line-requires c κs = simp refused-at-size (omega arith)

@@ -1,5 +1,6 @@
--- `put_decimal`, which calls itself, ends by the number itself, of which a hundredth part is less. It puts the digits of `decimal`: those of the hundredth
--- part, by its own promise, and the last two behind them. Each need is shown at a measure t: the call of itself is below t.
+-- `put_decimal`, which calls itself, ends by the number itself, of which a hundredth part is less. It puts the digits
+-- of `decimal`: those of the hundredth part, by its own promise, and the last two after them. Each need is shown at a
+-- measure t: the call of itself is below t.
 use Prim.Native.Nat.{ℕ, _+_, _/_, _%_, _≤_, _<_}
 use native.Mathlib.Omega.{arith}
 use mathlib.Core.Path.{_≡_, sym, subst}
@@ -25,7 +26,7 @@ use Rattle.write_lines.proofs.text.+put_decimal.Tie.{close}
 abbrev μ-put-decimal : Measures 1 put-decimal-kinds.ps ℕ
 μ-put-decimal κs a = a .1 .1 .0
 
--- a number's only digit, its last digit behind those of its tenth part, and its last two behind those of its hundredth
+-- a number's only digit, its last digit after those of its tenth part, and its last two after those of its hundredth
 module _ {n b : ℕ} (digit : b ≡ 48 + n % 10) (fits : Fits w64 n) where
   few : length (decimal n) ≤ 20
   few = few-digits 19 n (omega arith)
@@ -70,7 +71,8 @@ module _ (t : ℕ) where
   returns c =
       let call = c .before .before in
       let small = call .before .before .before in
-      only (call .before .last-digit .ensures) (small .before .before .fits .n) (small .if1 .taken) (call .put-byte .ensures)
+      only (call .before .last-digit .ensures) (small .before .before .fits .n) (small .if1 .taken)
+      (call .put-byte .ensures)
 
   last-digit-requires-2 : put-decimal-lts.Need-last-digit-requires-2 callees given put-decimal.Post
   last-digit-requires-2 c κs = tt
@@ -101,7 +103,8 @@ module _ (t : ℕ) where
       let two = first .before .before .before in
       let start = two .before .before .before in
       last (digit .last-digit3 .ensures) (start .fits .n) (two .before .if1 .left)
-      (only (first .before .last-digit2 .ensures) (omega (arith, start .fits .n)) (omega (arith, two .if2 .taken)) (first .put-byte2 .ensures))
+      (only (first .before .last-digit2 .ensures) (omega (arith, start .fits .n)) (omega (arith, two .if2 .taken))
+      (first .put-byte2 .ensures))
       (call .put-byte3 .ensures)
 
   put-decimal-requires : put-decimal-lts.Need-put-decimal-requires callees given put-decimal.Post
@@ -144,7 +147,8 @@ module _ (t : ℕ) where
       let three = hundredth .before .before in
       let start = three .before .before .before in
       last (digit .last-digit5 .ensures) (start .fits .n) (omega (arith, three .if2 .left))
-      (tenth-of (tens .last-digit4 .ensures) (start .fits .n) (three .if2 .left) (hundredth .put-decimal .ensures) (first .put-byte4 .ensures))
+      (tenth-of (tens .last-digit4 .ensures) (start .fits .n) (three .if2 .left) (hundredth .put-decimal .ensures)
+      (first .put-byte4 .ensures))
       (call .put-byte5 .ensures)
 
 pub +put-decimal-spec : {M : Type 1} → statement M

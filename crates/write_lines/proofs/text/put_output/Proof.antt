@@ -38,7 +38,8 @@ returns c =
     let call = c .before .before in
     let told = call .before .before in
     let first = told .before .before .before .before in
-    rw (told .enum-told .given .1) (put-as (put-then (first .put-byte .ensures) (call .put-byte2 .ensures)) refl (omega arith))
+    rw (told .enum-told .given .1)
+    (put-as (put-then (first .put-byte .ensures) (call .put-byte2 .ensures)) refl (omega arith))
 
 same-length-2 : tie.Need-same-length-2
 same-length-2 c = search needs

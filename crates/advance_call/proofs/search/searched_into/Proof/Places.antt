@@ -1,5 +1,5 @@
--- The search on words, place by place: what its loops keep, what is known at a round, at a trial and at a refusal, told of the places of `searched_into` from
--- which its proof looks back. Assumes nothing.
+-- The search on words, place by place: what its loops keep, what is known at a round, at a trial and at a refusal, told
+-- of the places of `searched_into` from which its proof looks back. Assumes nothing.
 use Prim.Native.Nat.{ℕ, _+_, _≤_, _<_}
 use native.Mathlib.Omega.{arith}
 use mathlib.Core.Path.{_≡_, sym, ap, subst, _∙_}
@@ -31,26 +31,32 @@ abbrev pub μ-loop : tie.MeasureT-loop
 
 abbrev pub Inv-ceilings : tie.InvT-ceilings
 Inv-ceilings table old w new₀ ceiling₀ h₀ rounds₀ revisions₀ new ceiling h rounds revisions =
-    Left (lent-model table old) w ceiling h rounds revisions × (rounds + h ≤ w) × (revisions + h ≤ w) × SameBehind (part-count table) new₀ new ×
+    Left (lent-model table old) w ceiling h rounds revisions × (rounds + h ≤ w) × (revisions + h ≤ w) ×
+    SameBehind (part-count table) new₀ new ×
     (0 < rounds → Agreed (lent-model table old) h)
 
 abbrev pub μ-ceilings : tie.MeasureT-ceilings
 μ-ceilings table old w new₀ ceiling₀ h₀ rounds₀ revisions₀ new ceiling h rounds revisions = h
 
 -- the start, the head of the inner loop, and the trial, seen from later places
-abbrev pub start-of : tie.At-loop Inv-loop μ-loop Inv-ceilings μ-ceilings → tie.Start Inv-loop μ-loop Inv-ceilings μ-ceilings
+abbrev pub start-of : tie.At-loop Inv-loop μ-loop Inv-ceilings μ-ceilings →
+    tie.Start Inv-loop μ-loop Inv-ceilings μ-ceilings
 start-of at = at .before .before .before .before .before
 
-abbrev pub loop-of : tie.After-refusal-in Inv-loop μ-loop Inv-ceilings μ-ceilings → tie.At-loop Inv-loop μ-loop Inv-ceilings μ-ceilings
+abbrev pub loop-of : tie.After-refusal-in Inv-loop μ-loop Inv-ceilings μ-ceilings →
+    tie.At-loop Inv-loop μ-loop Inv-ceilings μ-ceilings
 loop-of refuses = refuses .before .before .before .before
 
-abbrev pub refusal-of-trial : tie.After-trial-into Inv-loop μ-loop Inv-ceilings μ-ceilings → tie.After-refusal-in Inv-loop μ-loop Inv-ceilings μ-ceilings
+abbrev pub refusal-of-trial : tie.After-trial-into Inv-loop μ-loop Inv-ceilings μ-ceilings →
+    tie.After-refusal-in Inv-loop μ-loop Inv-ceilings μ-ceilings
 refusal-of-trial tries = tries .before .before .before
 
-abbrev pub loop-of-trial : tie.After-trial-into Inv-loop μ-loop Inv-ceilings μ-ceilings → tie.At-loop Inv-loop μ-loop Inv-ceilings μ-ceilings
+abbrev pub loop-of-trial : tie.After-trial-into Inv-loop μ-loop Inv-ceilings μ-ceilings →
+    tie.At-loop Inv-loop μ-loop Inv-ceilings μ-ceilings
 loop-of-trial tries = loop-of (refusal-of-trial tries)
 
-abbrev pub trial-of : tie.After-any-objects-in Inv-loop μ-loop Inv-ceilings μ-ceilings → tie.After-trial-into Inv-loop μ-loop Inv-ceilings μ-ceilings
+abbrev pub trial-of : tie.After-any-objects-in Inv-loop μ-loop Inv-ceilings μ-ceilings →
+    tie.After-trial-into Inv-loop μ-loop Inv-ceilings μ-ceilings
 trial-of objects = objects .before .before .before .before
 
 -- the model handed in, and the words of the trial
@@ -61,7 +67,8 @@ abbrev pub words-of : tie.After-trial-into Inv-loop μ-loop Inv-ceilings μ-ceil
 words-of tries = tries .trial-into .last .1 .1 .1 .0
 
 -- what the caller promises
-abbrev pub is-sound-at : (s : tie.Start Inv-loop μ-loop Inv-ceilings μ-ceilings) → sound (lent-model (s .args .table .now) (s .args .old .now)) ≡ true
+abbrev pub is-sound-at : (s : tie.Start Inv-loop μ-loop Inv-ceilings μ-ceilings) →
+    sound (lent-model (s .args .table .now) (s .args .old .now)) ≡ true
 is-sound-at s = s .pre .sounds
 
 abbrev pub small : (s : tie.Start Inv-loop μ-loop Inv-ceilings μ-ceilings) → s .args .w ≤ longest-wanted
@@ -72,15 +79,18 @@ abbrev pub far :
     tick (model-in (s .args .table .now) (s .args .old .now) .point) + s .args .w ≤ last-tick
 far s = s .pre .in-time
 
--- the words behind the new state's are those at the start
-pub behind-at : (at : tie.At-loop Inv-loop μ-loop Inv-ceilings μ-ceilings) → SameBehind (part-count (start-of at .args .table .now)) (start-of at .args .new .now) (at .loop .new)
+-- the words after the new state's are those at the start
+pub behind-at : (at : tie.At-loop Inv-loop μ-loop Inv-ceilings μ-ceilings) →
+    SameBehind (part-count (start-of at .args .table .now)) (start-of at .args .new .now) (at .loop .new)
 behind-at at =
     let s = start-of at in
     let ceilings = at .before .ceilings in
-    behind-through (part-count (s .args .table .now)) (s .args .new .now) (ceilings .new) (at .loop .new) (ceilings .inv .3) (at .loop .inv .4)
+    behind-through (part-count (s .args .table .now)) (s .args .new .now) (ceilings .new) (at .loop .new)
+    (ceilings .inv .3) (at .loop .inv .4)
 
 -- so there is room for the new state
-pub room-at : (at : tie.At-loop Inv-loop μ-loop Inv-ceilings μ-ceilings) → WordsThere (start-of at .args .table .now) (at .loop .new)
+pub room-at : (at : tie.At-loop Inv-loop μ-loop Inv-ceilings μ-ceilings) →
+    WordsThere (start-of at .args .table .now) (at .loop .new)
 room-at at =
     let room = start-of at .pre .new-there in
     record { table = room .table; state = omega (arith, room .state, behind-at at .size) }
@@ -92,7 +102,8 @@ pub changed :
     round (model-of at) (at .loop .h) ≡ at .loop .h → ⊥
 changed c same =
     let rounds = c .before .before in
-    eqb-false (rounds .least-in .result .0) (rounds .before .loop .h) (sym (c .before .changed-nothing .ensures) ∙ c .if1 .left)
+    eqb-false (rounds .least-in .result .0) (rounds .before .loop .h) (sym (c .before .changed-nothing .ensures) ∙
+    c .if1 .left)
     (rounds .least-in .ensures ∙ same)
 
 -- lowered it
@@ -114,7 +125,8 @@ kept refuses =
     let tests = refuses .before .before in
     let rounds = tests .before in
     sym (rounds .least-in .ensures) ∙
-    eqb-true (rounds .least-in .result .0) (rounds .before .loop .h) (sym (tests .changed-nothing .ensures) ∙ refuses .before .if1 .taken)
+    eqb-true (rounds .least-in .result .0) (rounds .before .loop .h) (sym (tests .changed-nothing .ensures) ∙
+    refuses .before .if1 .taken)
 
 -- the step is not refused
 pub not-refused :
@@ -156,12 +168,14 @@ pub halves : (c : tie.Then3 Inv-loop μ-loop Inv-ceilings μ-ceilings) → 2 ≤
 halves c =
     let tries = trial-of (c .before) in
     let at = loop-of-trial tries in
-    halve-above (model-of at) (is-sound-at (start-of at)) (at .loop .h) (kept (refusal-of-trial tries)) (not-refused (tries .before .before)) (objected c)
+    halve-above (model-of at) (is-sound-at (start-of at)) (at .loop .h) (kept (refusal-of-trial tries))
+    (not-refused (tries .before .before)) (objected c)
 
--- the words behind the trial's are kept
+-- the words after the trial's are kept
 pub behind-trial :
     (tries : tie.After-trial-into Inv-loop μ-loop Inv-ceilings μ-ceilings) →
-    SameBehind (part-count (start-of (loop-of-trial tries) .args .table .now)) (start-of (loop-of-trial tries) .args .new .now) (words-of tries)
+    SameBehind (part-count (start-of (loop-of-trial tries) .args .table .now))
+    (start-of (loop-of-trial tries) .args .new .now) (words-of tries)
 behind-trial tries =
     let at = loop-of-trial tries in
     let s = start-of at in
@@ -169,7 +183,8 @@ behind-trial tries =
     (behind-at at) (tries .trial-into .ensures .behind)
 
 -- there is room for it
-pub room-of-trial : (tries : tie.After-trial-into Inv-loop μ-loop Inv-ceilings μ-ceilings) → WordsThere (start-of (loop-of-trial tries) .args .table .now) (words-of tries)
+pub room-of-trial : (tries : tie.After-trial-into Inv-loop μ-loop Inv-ceilings μ-ceilings) →
+    WordsThere (start-of (loop-of-trial tries) .args .table .now) (words-of tries)
 room-of-trial tries =
     let room = start-of (loop-of-trial tries) .pre .new-there in
     record { table = room .table; state = omega (arith, room .state, behind-trial tries .size) }

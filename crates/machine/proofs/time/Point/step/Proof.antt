@@ -1,6 +1,7 @@
--- `Point::step` gives the definition's answer: the code's test of h picks `led-to`'s point, and how points compare decides `in-time`: the last point of the
--- tick for a step of 0, the last point of the time for another. Past the last tick the code returns before it tests h, so there both of `led-to`'s points are
--- shown to be out; and no step above the last tick is 0.
+-- `Point::step` gives the definition's answer: the code's test of h picks `led-to`'s point, and how points compare
+-- decides `in-time`: the last point of the tick for a step of 0, the last point of the time for another. Past the last
+-- tick the code returns before it tests h, so there both of `led-to`'s points are shown to be out; and no step above
+-- the last tick is 0.
 use Prim.Native.Nat.{ℕ, _+_, _≤_, _<_}
 use native.Mathlib.Omega.{arith}
 use mathlib.Core.Path.{_≡_, refl, sym, ap, subst, _∙_}
@@ -44,22 +45,24 @@ later-told a true e = refl
 later-told true false e = absurd (let z : _≡_ {A = ℕ} 0 1 = cc in omega arith)
 later-told false false e = absurd (let z : _≡_ {A = ℕ} 0 1 = cc in omega arith)
 
-not-later-told : (a b : Bool) (s t : ℕ) (x : Comparison) → ltb s t ≡ a → ltb t s ≡ b → OneOf (0 ∷ 1 ∷ []) (tagOf the-type (cond a Earlier (cond b Later x))) → s ≤ t
+not-later-told : (a b : Bool) (s t : ℕ) (x : Comparison) → ltb s t ≡ a → ltb t s ≡ b →
+    OneOf (0 ∷ 1 ∷ []) (tagOf the-type (cond a Earlier (cond b Later x))) → s ≤ t
 not-later-told true b s t x ea eb one = let less = ltb-true s t ea in omega arith
 not-later-told false true s t x ea eb (inl e) = absurd (omega arith)
 not-later-told false true s t x ea eb (inr e) = absurd (omega arith)
 not-later-told false false s t x ea eb one = ltb-false t s eb
 
--- a point beside another of its tick
+-- a point compared with another of its tick
 earlier : (p : Point) (n : ℕ) → compared p (point (tick p) n) ≡ Earlier → p .n < n
 unfolding compared
-earlier p n e = ltb-true _ _ (earlier-told (ltb (p .n) n) (ltb n (p .n)) (simp (le-ltb (tick p) (tick p) (omega arith)) at e))
+earlier p n e = ltb-true _ _
+    (earlier-told (ltb (p .n) n) (ltb n (p .n)) (simp (le-ltb (tick p) (tick p) (omega arith)) at e))
 
 not-earlier : (p : Point) (n : ℕ) → OneOf (1 ∷ 2 ∷ []) (tagOf the-type (compared p (point (tick p) n))) → n ≤ p .n
 unfolding compared
 not-earlier p n one = ltb-false _ _ (not-earlier-told _ _ (simp (le-ltb (tick p) (tick p) (omega arith)) at one))
 
--- the first point of a tick beside the last point
+-- the first point of a tick compared with the last point
 later : (t : ℕ) → compared (point t 0) last ≡ Later → last-tick < t
 unfolding compared
 later t e = ltb-true _ _ (later-told (ltb t last-tick) (ltb last-tick t) e)
@@ -75,11 +78,14 @@ too-long p h long = simp (ne-eqb h 0 (λ z. omega arith), lt-leb (tick p + h) la
 
 from-the-end : (p : Point) (h : ℕ) → tick p ≤ last-tick → h ≡ 0 → last-microstep ≤ p .n → Past ≡ stepped p h
 unfolding stepped in-time led-to
-from-the-end p h within zero end = simp (le-leb _ _ within, eq-eqb h 0 zero, lt-leb (p .n + 1) last-microstep (omega arith))
+from-the-end p h within zero end =
+    simp (le-leb _ _ within, eq-eqb h 0 zero, lt-leb (p .n + 1) last-microstep (omega arith))
 
-within-the-tick : (p : Point) (h : ℕ) → tick p ≤ last-tick → h ≡ 0 → p .n < last-microstep → To (point (tick p) (p .n + 1)) ≡ stepped p h
+within-the-tick : (p : Point) (h : ℕ) → tick p ≤ last-tick → h ≡ 0 → p .n < last-microstep →
+    To (point (tick p) (p .n + 1)) ≡ stepped p h
 unfolding stepped in-time led-to
-within-the-tick p h within zero before = simp (le-leb _ _ within, eq-eqb h 0 zero, le-leb (p .n + 1) last-microstep (omega arith))
+within-the-tick p h within zero before =
+    simp (le-leb _ _ within, eq-eqb h 0 zero, le-leb (p .n + 1) last-microstep (omega arith))
 
 within-the-time : (p : Point) (h : ℕ) → (h ≡ 0 → ⊥) → tick p + h ≤ last-tick → To (point (tick p + h) 0) ≡ stepped p h
 unfolding stepped in-time led-to
@@ -107,7 +113,8 @@ returns-3 c =
     let zero = c .before .before in
     let tested = zero .before .before .before .before .before in
     let within = tested .if1 .left in
-    let one = subst (λ (x : Comparison). OneOf (1 ∷ 2 ∷ []) (tagOf the-type x)) (c .before .compare .ensures) (c .match .keys2) in
+    let one = subst (λ (x : Comparison). OneOf (1 ∷ 2 ∷ []) (tagOf the-type x)) (c .before .compare .ensures)
+    (c .match .keys2) in
     from-the-end _ _ within (zero .if3 .taken) (not-earlier _ last-microstep one)
 
 -- the point lies before the last one of its tick

@@ -1,4 +1,5 @@
--- `Ticks::local` gives floor(t / r). At a ratio of 0, where the code returns 0 and divides nothing, so does the definition: t / 0 is 0.
+-- `Ticks::local` gives floor(t / r). At a ratio of 0, where the code returns 0 and divides nothing, so does the
+-- definition: t / 0 is 0.
 use native.Mathlib.Nat.{div-zero}
 use mathlib.Core.Path.{refl}
 use borrow.Author.Needs.{needs}
