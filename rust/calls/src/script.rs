@@ -1,0 +1,5 @@
+//! Call scripts: `tests/scripts/README.md` says what a script is.
+
+pub mod alterations;
+pub mod implementations;
+pub mod registers;
