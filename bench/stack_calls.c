@@ -1,9 +1,9 @@
-// Measures the stack of the calls of the static library (target/staticlib/libboundary.a): each is made on a painted stack
-// for many tables, states and wanted steps, and the deepest word that any of them wrote is told. bench/stack builds and
-// runs it; docs/MEMORY.md says what the figures mean.
+// Measures the stack of the calls of the static library (target/staticlib/libboundary.a). Each call is made on a
+// painted stack, for many tables, states and wanted steps. The deepest word that any of them wrote is printed.
+// bench/stack builds and runs this program; docs/MEMORY.md says what the figures mean.
 //
-//   stack_calls                 prints the counts of parts, and a line for each call: its name, and the bytes at each count
-//   stack_calls streams FOLDER  writes the tables with a score behind them to FOLDER, as COUNT-NUMBER.bin
+//   stack_calls                 prints the counts of parts, and a line for each call: its name, the bytes at each count
+//   stack_calls streams FOLDER  writes the tables, each with a score after it, to FOLDER, as COUNT-NUMBER.bin
 //
 // Status 1 if a table is not accepted, or some number that a call can answer was answered by none.
 #include "../include/dozhumek.h"
@@ -11,7 +11,7 @@
 #include <stdbool.h>
 #include <string.h>
 
-// The three counts of parts at which the calls are measured; the next part behind the most is refused with 6.
+// The three counts of parts at which the calls are measured; one part more than the most is refused with 6.
 static const size_t counts[] = {2, 20, DOZHUMEK_PARTS};
 #define COUNTS (sizeof counts / sizeof *counts)
 
@@ -24,7 +24,7 @@ enum { LOAD, ADVANCE, PREVIEW, SAVE, SHEET, EMPTY, CALLS };
 static const struct {
     const char *name;
     void *function;
-    size_t behind;
+    size_t pushed;
 } calls[CALLS] = {
     {"load", (void *)dozhumek_load, 2},
     {"advance", (void *)dozhumek_advance, 3},
@@ -34,12 +34,12 @@ static const struct {
     {"empty", (void *)empty, 0},
 };
 
-// The call that is made on the painted stack, the others being made on one beside it; the numbers answered, and whether a
-// trial was dropped.
+// The call that is made on the painted stack, the numbers that each call answered, whether a trial was dropped, and the
+// stack on which the other calls are made.
 static int measured;
 static uint64_t seen[CALLS];
 static bool dropped;
-static uint64_t beside[1 << 16];
+static uint64_t other_stack[1 << 16];
 
 static void fail(const char *what, size_t parts) {
     printf("stack: failed: %s, %zu parts\n", what, parts);
@@ -49,8 +49,8 @@ static void fail(const char *what, size_t parts) {
 static uint64_t make(int call, const uint64_t *words) {
     // Of the others only a load and an advance lead on to another model.
     if (call != measured && call != LOAD && call != ADVANCE) return 0;
-    void *top = call == measured ? (void *)stack_top : (void *)(beside + sizeof beside / sizeof *beside);
-    uint64_t number = call_at(top, calls[call].function, words, calls[call].behind);
+    void *top = call == measured ? (void *)stack_top : (void *)(other_stack + sizeof other_stack / sizeof *other_stack);
+    uint64_t number = call_at(top, calls[call].function, words, calls[call].pushed);
     if (number < 64) seen[call] |= (uint64_t)1 << number;
     return number;
 }
@@ -65,7 +65,8 @@ static void put(uint64_t number, int bytes) {
 }
 
 static void put_part(int kind, int preference, int64_t a, int64_t b, uint32_t p) {
-    put(2, 1), put((uint64_t)kind, 1), put((uint64_t)preference, 1), put((uint64_t)a, 4), put((uint64_t)b, 4), put(p, 4);
+    put(2, 1), put((uint64_t)kind, 1), put((uint64_t)preference, 1);
+    put((uint64_t)a, 4), put((uint64_t)b, 4), put(p, 4);
 }
 
 static void put_wire(size_t source, size_t part, int port) {
@@ -121,7 +122,7 @@ static void put_table(size_t number, size_t parts) {
     }
     for (size_t i = 0; i < parts; i++)
         for (int port = 0; port < ports[kind_in(number, i, parts)]; port++) {
-            // From the part behind, from the first one, or from one before. The clappers of table 16 fall by their first
+            // From the next part, from the first one, or from one before. The clappers of table 16 fall by their first
             // speed alone.
             if (number == 14)
                 put_wire(i + 1, i, port);
@@ -146,8 +147,8 @@ static uint64_t load(size_t bytes, size_t parts) {
 }
 
 static uint64_t go(int call, uint64_t wanted, size_t parts, size_t room) {
-    uint64_t words[9] = {(uint64_t)table, DOZHUMEK_TABLE_WORDS(parts), (uint64_t)state, DOZHUMEK_STATE_WORDS(parts), wanted,
-        (uint64_t)next, room, (uint64_t)outcome, DOZHUMEK_ADVANCE_OUT};
+    uint64_t words[9] = {(uint64_t)table, DOZHUMEK_TABLE_WORDS(parts), (uint64_t)state, DOZHUMEK_STATE_WORDS(parts),
+        wanted, (uint64_t)next, room, (uint64_t)outcome, DOZHUMEK_ADVANCE_OUT};
     uint64_t number = make(call, words);
     if (outcome[DOZHUMEK_OUT_REVISIONS] > 0) dropped = true;
     return number;

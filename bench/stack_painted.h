@@ -1,5 +1,5 @@
-// A call on a stack of its own, painted before it: how deep the call wrote. For x86-64 and the System V calling convention,
-// which the static library has.
+// A call on a stack of its own, painted before it: how deep the call wrote. For x86-64 and the System V calling
+// convention, which the static library has.
 #include <stddef.h>
 #include <stdint.h>
 #include <stdio.h>
@@ -11,10 +11,10 @@
 #define ROOM ((size_t)1 << 20)
 #define PAINT 0x5ac396e17d2b48f3u
 
-// Calls `function` with the stack pointer at `top`, which is a multiple of 16: six words in registers, and `behind` more
-// pushed as the convention has it. So the arguments on the stack and the return address are the first that is written, and
-// nothing of the caller is.
-uint64_t call_at(void *top, void *function, const uint64_t *words, size_t behind);
+// Calls `function` with the stack pointer at `top`, which is a multiple of 16. Six words are in registers, and `pushed`
+// more are on the stack, as the convention says. So the arguments on the stack and the return address are the first
+// words that are written, and no word of the caller is.
+uint64_t call_at(void *top, void *function, const uint64_t *words, size_t pushed);
 __asm__(".text\n"
         ".globl call_at\n"
         ".hidden call_at\n"

@@ -15,8 +15,8 @@ static int painted(int count, char **arguments, char **environment) {
     return status;
 }
 
-int __libc_start_main(
-    entry *program, int count, char **arguments, void (*first)(void), void (*last)(void), void (*late)(void), void *end) {
+int __libc_start_main(entry *program, int count, char **arguments, void (*first)(void), void (*last)(void),
+    void (*late)(void), void *end) {
     int (*start)(entry *, int, char **, void (*)(void), void (*)(void), void (*)(void), void *) =
         dlsym(RTLD_NEXT, "__libc_start_main");
     real = program;

@@ -1,9 +1,9 @@
-// The calls of the rehearsal master for C and C++: load, advance, preview, save and sheet. They are in the static library
-// libboundary.a, for x86-64 Linux, which needs nothing beside it but the C library. This is the declaration of record;
-// what the calls promise for every argument is proved, and stands in crates/boundary/specs/Exported.antt.
+// The calls of the rehearsal master for C and C++: load, advance, preview, save and sheet. They are in the static
+// library libboundary.a, for x86-64 Linux, which needs only the C library. This is the declaration of record. What the
+// calls promise for every argument is proved; crates/boundary/specs/Exported.antt says it, and docs/API.md explains it.
 //
-// A model lies in words of 64 bits that the caller lends: those of a table, which no call but a load writes, and those of a
-// state. Every number is a word, a signed one in two's complement. The calls allocate nothing and keep nothing.
+// A model lies in words of 64 bits that the caller lends: those of a table, which no call but a load writes, and those
+// of a state. Every number is a word, a signed one in two's complement. The calls allocate nothing and keep nothing.
 //
 // Free words are those on which no answer depends: the value of a held signal or of an output that is absent, the spans
 // of a part after its count of spans, and the words after the model's. A load leaves 0 in the first three. An advance
@@ -11,8 +11,9 @@
 // old state's word. One that is refused and writes `next` leaves the old state's words there. The words after the
 // model's are kept.
 //
-// The caller owes what a slice is: a pointer that is not null (nor for no words) and is aligned, so many words or bytes behind
-// it, and that those lent for writing overlap no other. Nothing else is asked: any words, bytes and numbers are answered.
+// The caller owes what a slice is: a pointer that is not null (nor for no words) and is aligned, so many words or bytes
+// from it on, and that those lent for writing overlap no other. Nothing else is asked: any words, bytes and numbers are
+// answered.
 //
 // Each call answers a number, DOZHUMEK_NOT_REFUSED or a refusal's, which is the first of its words for `out` too. What
 // a call answers and writes elsewhere does not depend on `out`: of its words those that `out` has room for are written,
@@ -37,8 +38,8 @@ extern "C" {
 #define DOZHUMEK_STATE_RECORD 9
 #define DOZHUMEK_HEAD 2
 
-// How many words the table of so many parts has, and a state of it; also the place of the first word of a part's record, by
-// the part's number.
+// How many words the table of so many parts has, and a state of it; also the place of the first word of a part's
+// record, by the part's number.
 #define DOZHUMEK_TABLE_WORDS(parts) (DOZHUMEK_HEAD + DOZHUMEK_TABLE_RECORD * (parts))
 #define DOZHUMEK_STATE_WORDS(parts) (DOZHUMEK_HEAD + DOZHUMEK_STATE_RECORD * (parts))
 
@@ -112,7 +113,7 @@ extern "C" {
 #define DOZHUMEK_UNWIRED 0
 #define DOZHUMEK_WIRED_FROM(part) ((uint64_t)(part) + 1)
 
-// The command bytes of a stream; the operands behind them have the lowest byte first.
+// The command bytes of a stream; the operands after them have the lowest byte first.
 enum dozhumek_command {
     // Begin: the default magnitude, 1 byte.
     DOZHUMEK_COMMAND_BEGIN = 1,
@@ -145,7 +146,7 @@ enum dozhumek_kind {
     DOZHUMEK_KIND_CLAPPER = 12
 };
 
-// The code of a signal: absent, and any word behind it, or present, and its value behind it.
+// The code of a signal: absent, and any word after it, or present, and its value after it.
 enum dozhumek_signal {
     DOZHUMEK_SIGNAL_ABSENT = 0,
     DOZHUMEK_SIGNAL_PRESENT = 1
@@ -165,17 +166,18 @@ enum dozhumek_mark {
     DOZHUMEK_MARK_FALLING = 2
 };
 
-// The number of a call that is not refused: a load accepted, an advance committed, a preview of such a one, bytes written.
+// The number of a call that is not refused: a load accepted, an advance committed, a preview of one, bytes written.
 #define DOZHUMEK_NOT_REFUSED 0
 
-// The numbers of refusals, each with its meaning. A load answers those up to 12, and 25; an advance and a preview 20 to 25; a
-// save 24 and 25; a sheet 24 to 26.
+// The numbers of refusals, each with its meaning. A load answers those up to 12, and 25; an advance and a preview 20 to
+// 25; a save 24 and 25; a sheet 24 to 26.
 enum dozhumek_refusal {
     // the stream ends before End, or inside a command
     DOZHUMEK_REFUSED_CUT = 1,
     // an unknown command byte
     DOZHUMEK_REFUSED_UNKNOWN_COMMAND = 2,
-    // a command out of place: Begin not first or twice, a span not behind a drive, `06` before End, a table's command in the score
+    // a command out of place: Begin not first or twice, a span not after a drive, `06` before End, a table's command in
+    // the score
     DOZHUMEK_REFUSED_OUT_OF_PLACE = 3,
     // an operand out of its range, an unknown kind or preference, or an operand that the kind does not name is not 0
     DOZHUMEK_REFUSED_OUT_OF_RANGE = 5,
@@ -203,9 +205,11 @@ enum dozhumek_refusal {
     DOZHUMEK_REFUSED_PAST_LAST_TICK = 23,
     // the model is not sound; any sound model is accepted, altered or not
     DOZHUMEK_REFUSED_NOT_SOUND = 24,
-    // a lent buffer is too short; nothing is written, and the writing calls (`save`, `sheet`, those of `lines`) return the length needed
+    // a lent buffer is too short; nothing is written, and the writing calls (`save`, `sheet`, those of `write_lines`)
+    // return the length needed
     DOZHUMEK_REFUSED_TOO_SHORT = 25,
-    // a part chosen for a sheet line does not exist, or a number of the committed answer handed in is wider than its field
+    // a part chosen for a sheet line does not exist, or a number of the committed answer handed in is wider than its
+    // field
     DOZHUMEK_REFUSED_NOT_PRINTABLE = 26
 };
 
@@ -214,27 +218,27 @@ enum dozhumek_refusal {
 // 10 and 11 End's. With 1 it is that of the command that is cut, or the stream's length where no command follows. An
 // accepted table of k parts that is lent fewer than DOZHUMEK_TABLE_WORDS(k) or DOZHUMEK_STATE_WORDS(k) words is too
 // short, at the position after End.
-uint64_t dozhumek_load(const uint8_t *stream, size_t stream_length, uint64_t *table, size_t table_length, uint64_t *state,
-    size_t state_length, uint64_t *out, size_t out_length);
+uint64_t dozhumek_load(const uint8_t *stream, size_t stream_length, uint64_t *table, size_t table_length,
+    uint64_t *state, size_t state_length, uint64_t *out, size_t out_length);
 
-// Advances the model by at most `wanted`: with number 0 the state of the new point is in `next`, and the caller goes on with
-// that; with any other the caller goes on with `old`, which with 21 and 22 is in `next` again, and else `next` is kept. Words
-// that spell no sound model are refused with 24; a `next` of fewer than DOZHUMEK_STATE_WORDS(k) words is too short, where
-// nothing else bars the call.
-uint64_t dozhumek_advance(const uint64_t *table, size_t table_length, const uint64_t *old, size_t old_length, uint64_t wanted,
-    uint64_t *next, size_t next_length, uint64_t *out, size_t out_length);
+// Advances the model by at most `wanted`: with number 0 the state of the new point is in `next`, and the caller goes on
+// with that; with any other the caller goes on with `old`, which with 21 and 22 is in `next` again, and else `next` is
+// kept. Words that spell no sound model are refused with 24; a `next` of fewer than DOZHUMEK_STATE_WORDS(k) words is
+// too short, where nothing else bars the call.
+uint64_t dozhumek_advance(const uint64_t *table, size_t table_length, const uint64_t *old, size_t old_length,
+    uint64_t wanted, uint64_t *next, size_t next_length, uint64_t *out, size_t out_length);
 
-// Answers into `out` what an advance of the same arguments would; the caller goes on with `old` whatever the number is. In
-// `next` is the state of the answer's model: with number 0 that of the new point, and else the old one again. It is kept
-// where it is too short, or the words spell no model.
-uint64_t dozhumek_preview(const uint64_t *table, size_t table_length, const uint64_t *old, size_t old_length, uint64_t wanted,
-    uint64_t *next, size_t next_length, uint64_t *out, size_t out_length);
+// Answers into `out` what an advance of the same arguments would; the caller goes on with `old` whatever the number is.
+// In `next` is the state of the answer's model: with number 0 that of the new point, and else the old one again. It is
+// kept where it is too short, or the words spell no model.
+uint64_t dozhumek_preview(const uint64_t *table, size_t table_length, const uint64_t *old, size_t old_length,
+    uint64_t wanted, uint64_t *next, size_t next_length, uint64_t *out, size_t out_length);
 
-// Saves the model's table as bytes, from which a load makes the fresh model again: with number 0 they are at the front of
-// `buffer`, so many as the length says; with any other the buffer is kept. Too short comes with the length that is needed, 24
-// with length 0.
-uint64_t dozhumek_save(const uint64_t *table, size_t table_length, const uint64_t *state, size_t state_length, uint8_t *buffer,
-    size_t buffer_length, uint64_t *out, size_t out_length);
+// Saves the model's table as bytes, from which a load makes the fresh model again: with number 0 they are at the front
+// of `buffer`, so many as the length says; with any other the buffer is kept. Too short comes with the length that is
+// needed, 24 with length 0.
+uint64_t dozhumek_save(const uint64_t *table, size_t table_length, const uint64_t *state, size_t state_length,
+    uint8_t *buffer, size_t buffer_length, uint64_t *out, size_t out_length);
 
 // Prints the sheet's line of an answer: `outcome` is the DOZHUMEK_ADVANCE_OUT words that an advance or a preview wrote,
 // any numbers, `table` and `state` are the words of that answer's model, and `first`, `second` and `third` are the
@@ -242,8 +246,8 @@ uint64_t dozhumek_save(const uint64_t *table, size_t table_length, const uint64_
 // DOZHUMEK_SHEET_LINE; with any other the buffer is kept. Too short comes with that length too, 24 and 26 with length
 // 0. An `outcome` of fewer words spells no answer and is refused with 24, as words that spell no model are.
 uint64_t dozhumek_sheet(const uint64_t *table, size_t table_length, const uint64_t *state, size_t state_length,
-    const uint64_t *outcome, size_t outcome_length, uint64_t first, uint64_t second, uint64_t third, uint8_t *buffer,
-    size_t buffer_length, uint64_t *out, size_t out_length);
+    const uint64_t *outcome, size_t outcome_length, uint64_t first, uint64_t second, uint64_t third,
+    uint8_t *buffer, size_t buffer_length, uint64_t *out, size_t out_length);
 
 #ifdef __cplusplus
 }

@@ -1,6 +1,6 @@
-// The exported calls from C, by include/dozhumek.h alone: small tables are loaded, advanced, previewed, saved and printed, the
-// words are read by the header's places, and every refusal is met and told by the header's name. Prints how many checks
-// passed; the status is 1, and each difference is said, where one did not.
+// The exported calls from C, by include/dozhumek.h alone: small tables are loaded, advanced, previewed, saved and
+// printed, the words are read by the header's places, and every refusal is met and told by the header's name. Prints
+// how many checks passed; the status is 1, and each difference is said, where one did not.
 #include "dozhumek.h"
 #include <stdio.h>
 #include <string.h>
@@ -67,13 +67,15 @@ static void driven(void) {
 // The words that are lent: of a table, of two states, and of an answer; and a buffer.
 
 #define FILL 9
-static uint64_t table[DOZHUMEK_TABLE_WORDS(DOZHUMEK_PARTS)], out[DOZHUMEK_ADVANCE_OUT + 1], outcome[DOZHUMEK_ADVANCE_OUT];
+static uint64_t table[DOZHUMEK_TABLE_WORDS(DOZHUMEK_PARTS)];
 static uint64_t state[DOZHUMEK_STATE_WORDS(DOZHUMEK_PARTS)], next[DOZHUMEK_STATE_WORDS(DOZHUMEK_PARTS)];
+static uint64_t out[DOZHUMEK_ADVANCE_OUT + 1], outcome[DOZHUMEK_ADVANCE_OUT];
 static uint8_t buffer[DOZHUMEK_SAVE_MOST];
 static size_t parts;
 
 #define WORDS(array) (sizeof(array) / sizeof *(array))
-_Static_assert(DOZHUMEK_SAVE_BYTES(DOZHUMEK_PARTS) == DOZHUMEK_SAVE_MOST, "any table's bytes are those of the most parts");
+_Static_assert(
+    DOZHUMEK_SAVE_BYTES(DOZHUMEK_PARTS) == DOZHUMEK_SAVE_MOST, "any table's bytes are those of the most parts");
 _Static_assert(DOZHUMEK_TABLE_WORDS(32) == 578 && DOZHUMEK_STATE_WORDS(32) == 290, "the words of the most parts");
 
 // Fills words.
@@ -102,8 +104,8 @@ static uint64_t moved(size_t part, size_t field) {
 static void load(size_t due) {
     parts = due;
     fill(table, WORDS(table)), fill(state, WORDS(state)), fill(out, WORDS(out));
-    uint64_t number = dozhumek_load(stream, length, table, DOZHUMEK_TABLE_WORDS(parts), state, DOZHUMEK_STATE_WORDS(parts),
-        out, DOZHUMEK_LOAD_OUT);
+    uint64_t number = dozhumek_load(stream, length, table, DOZHUMEK_TABLE_WORDS(parts), state,
+        DOZHUMEK_STATE_WORDS(parts), out, DOZHUMEK_LOAD_OUT);
     check("the number of a load", number, DOZHUMEK_NOT_REFUSED);
     check("the first word of a load", out[DOZHUMEK_OUT_NUMBER], DOZHUMEK_NOT_REFUSED);
     check("the position of a load", out[DOZHUMEK_OUT_POSITION], length);
@@ -127,7 +129,8 @@ static uint64_t advance(uint64_t wanted) {
     return number;
 }
 
-// An advance that is committed with these counts, at this point; the preview before it answers the same and keeps the state.
+// An advance that is committed with these counts, at this point; the preview before it answers the same and keeps the
+// state.
 static void goes(uint64_t wanted, uint64_t t, uint64_t n, uint64_t step, uint64_t rounds, uint64_t revisions) {
     static uint64_t old[WORDS(state)], ahead[WORDS(state)], told[DOZHUMEK_PREVIEW_OUT];
     size_t words = DOZHUMEK_STATE_WORDS(parts);
@@ -162,10 +165,12 @@ static void bars(const char *what, uint64_t wanted, uint64_t due) {
 // The model of the crossing by the header's places: of the table, and of the fresh state.
 static void crossing_read(void) {
     check("the magnitude", table[DOZHUMEK_TABLE_MAGNITUDE], 0);
-    check("kind 0", fixed(0, DOZHUMEK_TABLE_KIND), DOZHUMEK_KIND_CONSTANT), check("a of 0", fixed(0, DOZHUMEK_TABLE_A), 2);
+    check("kind 0", fixed(0, DOZHUMEK_TABLE_KIND), DOZHUMEK_KIND_CONSTANT);
+    check("a of 0", fixed(0, DOZHUMEK_TABLE_A), 2);
     check("kind 1", fixed(1, DOZHUMEK_TABLE_KIND), DOZHUMEK_KIND_INTEGRATOR);
     check("a of 1", fixed(1, DOZHUMEK_TABLE_A), (uint64_t)-7), check("b of 1", fixed(1, DOZHUMEK_TABLE_B), 0);
-    check("kind 2", fixed(2, DOZHUMEK_TABLE_KIND), DOZHUMEK_KIND_DETECTOR), check("p of 2", fixed(2, DOZHUMEK_TABLE_P), 1);
+    check("kind 2", fixed(2, DOZHUMEK_TABLE_KIND), DOZHUMEK_KIND_DETECTOR);
+    check("p of 2", fixed(2, DOZHUMEK_TABLE_P), 1);
     check("the preference of 2", fixed(2, DOZHUMEK_TABLE_PREFERENCE), DOZHUMEK_NO_PREFERENCE);
     check("port 0 of 0", fixed(0, DOZHUMEK_TABLE_PORT_0), DOZHUMEK_UNWIRED);
     check("port 0 of 2", fixed(2, DOZHUMEK_TABLE_PORT_0), DOZHUMEK_WIRED_FROM(1));
@@ -198,8 +203,9 @@ static void crossing_played(void) {
 // The mark of a number that falls, and a held signal.
 static void others_played(void) {
     begin(0), plain(DOZHUMEK_KIND_CONSTANT, -3, 0, 0), plain(DOZHUMEK_KIND_INTEGRATOR, 2, 0, 0);
-    plain(DOZHUMEK_KIND_DETECTOR, 0, 0, 1), plain(DOZHUMEK_KIND_HOLD, 0, 0, 0), wire(0, 1, 0), wire(1, 2, 0), wire(1, 3, 0);
-    put(DOZHUMEK_COMMAND_END, 1), load(4), goes(1, 1, 0, 1, 1, 0);
+    plain(DOZHUMEK_KIND_DETECTOR, 0, 0, 1), plain(DOZHUMEK_KIND_HOLD, 0, 0, 0);
+    wire(0, 1, 0), wire(1, 2, 0), wire(1, 3, 0), put(DOZHUMEK_COMMAND_END, 1);
+    load(4), goes(1, 1, 0, 1, 1, 0);
     check("the mark of 2", moved(2, DOZHUMEK_STATE_MARK), DOZHUMEK_MARK_FALLING);
     check("the held signal of 3", moved(3, DOZHUMEK_STATE_SIGNAL), DOZHUMEK_SIGNAL_PRESENT);
     check("the held signal's value of 3", moved(3, DOZHUMEK_STATE_SIGNAL_VALUE), (uint64_t)-1);
@@ -220,7 +226,8 @@ static void driven_played(void) {
     check("the ratio of 2", fixed(2, DOZHUMEK_TABLE_RATIO), 10);
     goes(9, 5, 0, 5, 2, 0), goes(9, 10, 0, 5, 2, 0);
     check("the local count of 2", moved(2, DOZHUMEK_STATE_LOCAL), 1);
-    check("the speed of 2", moved(2, DOZHUMEK_STATE_SPEED), 1), check("the position of 2", moved(2, DOZHUMEK_STATE_HELD), 11);
+    check("the speed of 2", moved(2, DOZHUMEK_STATE_SPEED), 1);
+    check("the position of 2", moved(2, DOZHUMEK_STATE_HELD), 11);
     bars("a step that no span meets", 1, DOZHUMEK_REFUSED_NO_STEP_ACCEPTED);
     bars("a wanted step of 0", 0, DOZHUMEK_REFUSED_WANTED_OUT_OF_RANGE);
     bars("a wanted step above the most", DOZHUMEK_MOST_WANTED + 1, DOZHUMEK_REFUSED_WANTED_OUT_OF_RANGE);
@@ -453,8 +460,10 @@ static void words_malformed(void) {
     malformed("a table of too few words", words - 1);
     table[DOZHUMEK_TABLE_AT(1, DOZHUMEK_TABLE_KIND)] = DOZHUMEK_KIND_CLAPPER + 1, malformed("an unknown kind", words);
     load(3), table[DOZHUMEK_TABLE_COUNT] = DOZHUMEK_PARTS + 1, malformed("too many parts", words);
-    load(3), state[DOZHUMEK_STATE_AT(2, DOZHUMEK_STATE_SIDE)] = DOZHUMEK_SIDE_POSITIVE + 1, malformed("an unknown side", words);
-    load(3), state[DOZHUMEK_STATE_AT(2, DOZHUMEK_STATE_MARK)] = DOZHUMEK_MARK_FALLING + 1, malformed("an unknown mark", words);
+    load(3), state[DOZHUMEK_STATE_AT(2, DOZHUMEK_STATE_SIDE)] = DOZHUMEK_SIDE_POSITIVE + 1;
+    malformed("an unknown side", words);
+    load(3), state[DOZHUMEK_STATE_AT(2, DOZHUMEK_STATE_MARK)] = DOZHUMEK_MARK_FALLING + 1;
+    malformed("an unknown mark", words);
     load(3), state[DOZHUMEK_STATE_AT(1, DOZHUMEK_STATE_OUTPUT)] = DOZHUMEK_SIGNAL_PRESENT + 1;
     malformed("an unknown signal", words);
     // Spelled, and not sound: the old state is previewed again.

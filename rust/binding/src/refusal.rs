@@ -1,5 +1,5 @@
 //! The refusals: document 01's numbers, and those that later requests added, each with its meaning and what to do about
-//! it. This is the one list of them; README.md's table is checked from it.
+//! it. The table in docs/MANUAL.md is tested against this list, and this list against crates/refusals.
 use std::error::Error;
 use std::fmt;
 
@@ -56,7 +56,7 @@ const TEXTS: [(Refusal, &str, &str); 18] = [
     (Refusal::UnknownCommand, "an unknown command byte", "an operand before it is too long or too short"),
     (
         Refusal::OutOfPlace,
-        "a command out of place: Begin not first or twice, a span not behind a drive, `06` before End, \
+        "a command out of place: Begin not first or twice, a span not after a drive, `06` before End, \
          a table's command in the score",
         "move it",
     ),
@@ -70,7 +70,7 @@ const TEXTS: [(Refusal, &str, &str); 18] = [
     (
         Refusal::NotThere,
         "a wire names a part or port that is not there (yet)",
-        "name a port that the kind has; in bytes, put the wire behind both its parts",
+        "name a port that the kind has; in bytes, put the wire after both its parts",
     ),
     (Refusal::AlreadyWired, "the port is wired already", "join the two sources by an adder"),
     (Refusal::NoParts, "no parts", "add one"),
@@ -100,8 +100,8 @@ const TEXTS: [(Refusal, &str, &str); 18] = [
     ),
     (
         Refusal::TooShort,
-        "a lent buffer is too short; nothing is written, and the writing calls (`save`, `sheet`, those of `lines`) \
-         return the length needed",
+        "a lent buffer is too short; nothing is written, and the writing calls (`save`, `sheet`, those of \
+         `write_lines`) return the length needed",
         "lend a longer one",
     ),
     (

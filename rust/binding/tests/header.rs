@@ -1,6 +1,6 @@
-//! include/dozhumek.h beside this package: its refusals, kinds, sides, marks and constants have the numbers of the
-//! binding's, its places of words are those that the records are read from, and its calls have the parameters that are
-//! linked here. tests/header/run holds the header beside the archive.
+//! Compares include/dozhumek.h with this package: its refusals, kinds, sides, marks and constants have the numbers of
+//! the binding's, its places of words are those that the records are read from, and its calls have the parameters that
+//! are linked here. tests/header/run compares the header with the archive.
 use dozhumek::{state_words, table_words, Kind, Mark, Model, Part, Refusal, Side, KINDS};
 use dozhumek::{HEAD, LAST_MICROSTEP, LAST_TICK, MOST_WANTED, PARTS, SHEET_LINE, SPANS, STATE_RECORD, TABLE_RECORD};
 use std::collections::BTreeMap;
@@ -51,13 +51,21 @@ fn has(prefix: &str, cases: impl IntoIterator<Item = (String, u64)>) {
     assert_eq!(numbers_of(prefix), cases.into_iter().collect());
 }
 
+/// The whole comment above an enumerator, its lines joined by blanks.
+fn comment_above(text: &str, enumerator: &str) -> String {
+    let (above, _) = text.split_once(&format!("\n    {enumerator} = ")).unwrap();
+    let mut comment: Vec<&str> = above.lines().rev().map_while(|line| line.strip_prefix("    // ")).collect();
+    comment.reverse();
+    comment.join(" ")
+}
+
 #[test]
 fn refusals() {
     has("REFUSED_", Refusal::all().map(|refusal| (capitals(refusal), refusal.number())));
     let text = text_of("include/dozhumek.h");
     for refusal in Refusal::all() {
-        let due = format!("    // {}\n    DOZHUMEK_REFUSED_{} = ", refusal.meaning(), capitals(refusal));
-        assert!(text.contains(&due), "{refusal:?} has another comment");
+        let enumerator = format!("DOZHUMEK_REFUSED_{}", capitals(refusal));
+        assert_eq!(comment_above(&text, &enumerator), refusal.meaning(), "the comment of {enumerator}");
     }
 }
 

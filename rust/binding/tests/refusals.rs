@@ -1,5 +1,5 @@
-//! The list of refusals: each has its number and no other has one, what they are printed as, and that README.md at the
-//! repository's root has exactly the list's table.
+//! The list of refusals: each has its number and no other has one, what they are printed as, that docs/MANUAL.md has
+//! exactly the list's table, and that the proved code has the same names and numbers.
 use dozhumek::{load, Refusal, RefusedAt};
 use std::fs;
 
@@ -25,12 +25,12 @@ const NUMBERS: [(Refusal, u64); 18] = [
     (Refusal::NotPrintable, 26),
 ];
 
-/// The first line of README.md's table of refusals.
+/// The first line of the manual's table of refusals.
 const HEADING: &str = "| Number | Meaning | What to do |";
 
-/// The rows of README.md's table of refusals, as they stand there.
+/// The rows of the manual's table of refusals, as they are there.
 fn rows(text: &str) -> Vec<&str> {
-    assert_eq!(text.lines().filter(|&line| line == HEADING).count(), 1, "README.md has one table of refusals");
+    assert_eq!(text.lines().filter(|&line| line == HEADING).count(), 1, "docs/MANUAL.md has one table of refusals");
     let mut below = text.lines().skip_while(|&line| line != HEADING).skip(1);
     assert_eq!(below.next(), Some("|---|---|---|"));
     below.take_while(|line| line.starts_with('|')).collect()
@@ -76,12 +76,28 @@ fn printed() {
 }
 
 #[test]
-fn the_table_of_the_readme() {
-    let text = fs::read_to_string(concat!(env!("CARGO_MANIFEST_DIR"), "/../../README.md")).unwrap();
+fn the_table_of_the_manual() {
+    let text = fs::read_to_string(concat!(env!("CARGO_MANIFEST_DIR"), "/../../docs/MANUAL.md")).unwrap();
     let due: Vec<String> =
         Refusal::all().map(|of| format!("| {} | {} | {} |", of.number(), of.meaning(), of.advice())).collect();
     let rows = rows(&text);
     let others: Vec<_> = rows.iter().zip(&due).filter(|(row, due)| row != due).collect();
-    assert!(others.is_empty(), "README.md's rows and the list's, where they differ: {others:#?}");
-    assert_eq!(rows.len(), due.len(), "README.md has more rows or fewer");
+    assert!(others.is_empty(), "the manual's rows and the list's, where they differ: {others:#?}");
+    assert_eq!(rows.len(), due.len(), "the manual has more rows or fewer");
+}
+
+/// A name of the proved code's list as this list has it: each word begins with a capital.
+fn capitalised(name: &str) -> String {
+    let words = name.split('_').map(|word| word[..1].to_string() + &word[1..].to_lowercase());
+    words.collect()
+}
+
+#[test]
+fn the_list_of_the_proved_code() {
+    let text = fs::read_to_string(concat!(env!("CARGO_MANIFEST_DIR"), "/../../crates/refusals/src/lib.rt")).unwrap();
+    let list =
+        text.lines().filter_map(|line| line.strip_prefix("pub const ")?.strip_suffix(';')?.split_once(": u64 = "));
+    let proved: Vec<(String, u64)> = list.map(|(name, number)| (capitalised(name), number.parse().unwrap())).collect();
+    let due: Vec<(String, u64)> = Refusal::all().map(|refusal| (format!("{refusal:?}"), refusal.number())).collect();
+    assert_eq!(proved, due);
 }

@@ -1,5 +1,5 @@
-//! Which parts are due and which steps a part accepts where a model stands, as document 01 says under "Which steps a part
-//! accepts". A step of 0 every part accepts; here are the steps above it.
+//! Which parts are due and which steps a part accepts where a model stands, as document 01 says under "Which steps a
+//! part accepts". A step of 0 every part accepts; here are the steps above it.
 use dozhumek::{Kind, Mark, Model, Part, PARTS};
 use std::ops::Range;
 
@@ -102,7 +102,8 @@ fn left_of_period(model: &Model, part: &Part) -> u128 {
     period - u128::from(model.t()) % period
 }
 
-/// The steps of 1 to a ceiling that the part with a number accepts where the model stands; none if there is no such part.
+/// The steps of 1 to a ceiling that the part with a number accepts where the model stands; none if there is no such
+/// part.
 pub fn accepted(model: &Model, number: usize, ceiling: u64) -> Steps {
     let Some(part) = model.part(number) else { return Steps::default() };
     if is_due(model, &part) {

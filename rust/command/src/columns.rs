@@ -1,6 +1,6 @@
 //! The lines of a rehearsal: document 01's, with all outputs or with those of some parts, or a sheet's.
 use crate::arguments::Choice;
-use crate::source::Source;
+use crate::input::Input;
 use dozhumek::{Answer, Model, SHEET_LINE};
 use std::io::{self, Write};
 
@@ -17,8 +17,8 @@ const SHEET_OUTPUT: usize = 11;
 
 impl Columns {
     /// The columns of a choice, or which part of it the table does not have.
-    pub fn of_choice(choice: &Choice, source: &Source, model: &Model) -> Result<Columns, String> {
-        let part_of = |option: &str, part: &str| number(option, part, source, model);
+    pub fn of_choice(choice: &Choice, input: &Input, model: &Model) -> Result<Columns, String> {
+        let part_of = |option: &str, part: &str| number(option, part, input, model);
         Ok(match choice {
             Choice::All => Columns::All,
             Choice::Only(parts) => {
@@ -50,17 +50,17 @@ impl Columns {
     }
 
     /// Writes the heading of the lines, with the parts' names. A sheet's columns cut a long one.
-    pub fn heading(&self, source: &Source, out: &mut dyn Write) -> io::Result<()> {
+    pub fn heading(&self, input: &Input, out: &mut dyn Write) -> io::Result<()> {
         match self {
             Columns::Sheet(parts) => {
                 write!(out, "{:>19} {:>3} {:>10} {:>4} {:>2}", "t", "n", "step", "rnds", "rv")?;
-                parts.iter().try_for_each(|&part| write!(out, " {:>SHEET_OUTPUT$}", cut(&source.name(part))))?;
+                parts.iter().try_for_each(|&part| write!(out, " {:>SHEET_OUTPUT$}", cut(&input.name(part))))?;
             }
             _ => {
-                let all: Vec<usize> = (0..source.names.len()).collect();
+                let all: Vec<usize> = (0..input.names.len()).collect();
                 let parts = if let Columns::Only(parts) = self { parts } else { &all };
                 out.write_all(b"t n step rounds revisions")?;
-                parts.iter().try_for_each(|&part| write!(out, " {}", source.name(part)))?;
+                parts.iter().try_for_each(|&part| write!(out, " {}", input.name(part)))?;
             }
         }
         out.write_all(b"\n")
@@ -68,15 +68,15 @@ impl Columns {
 }
 
 /// The number of a part that is told by name or by number.
-fn number(option: &str, part: &str, source: &Source, model: &Model) -> Result<usize, String> {
-    let named = source.names.iter().position(|name| name == part);
+fn number(option: &str, part: &str, input: &Input, model: &Model) -> Result<usize, String> {
+    let named = input.names.iter().position(|name| name == part);
     let digits = part.bytes().all(|byte| byte.is_ascii_digit());
-    let numbered = || part.parse().ok().filter(|&number: &usize| digits && number < source.names.len());
+    let numbered = || part.parse().ok().filter(|&number: &usize| digits && number < input.names.len());
     let count = model.count();
     named.or_else(numbered).ok_or_else(|| {
         format!(
             "{option}: the table has no part '{part}': its parts are {}, or 0 to {}",
-            source.names.join(", "),
+            input.names.join(", "),
             count - 1
         )
     })

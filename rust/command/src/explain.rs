@@ -1,11 +1,12 @@
-//! Explains a stream: each command as its bytes in hexadecimal, with its position and meaning as a comment, and refusals at their place.
-//! The score is played, so that each wanted step has its answer. What is written is hexadecimal text, and can be rehearsed again.
+//! Explains a stream: each command as its bytes in hexadecimal, with its position and meaning as a comment, and
+//! refusals at their place. The score is played, so that each wanted step has its answer. What is written is
+//! hexadecimal text, and can be rehearsed again.
 use crate::columns::Columns;
 use crate::command::{commands, Command, NO_PREFERENCE};
-use crate::input::LIMIT;
+use crate::files::LIMIT;
+use crate::input::{Input, Play};
+use crate::messages::Messages;
 use crate::play::{entries, refused_at, Entry, Rehearsal};
-use crate::source::{Play, Source};
-use crate::told::Told;
 use crate::why::{self, counted};
 use crate::writer::{operands, play_text};
 use dozhumek::{load, Answer, Loaded, RefusedAt};
@@ -15,30 +16,30 @@ use std::io::{self, Write};
 const ROW: usize = 16;
 const WIDTH: usize = 3 * ROW - 1;
 
-/// Writes the explanation of a source. Whether anything was refused.
-pub fn explain(source: &Source, until: Option<Play>, out: &mut dyn Write, told: &mut Told) -> io::Result<bool> {
-    match load(&source.bytes) {
+/// Writes the explanation of a input. Whether anything was refused.
+pub fn explain(input: &Input, until: Option<Play>, out: &mut dyn Write, messages: &mut Messages) -> io::Result<bool> {
+    match load(&input.bytes) {
         Ok(loaded) => {
-            table(source, loaded.position, out)?;
-            score(source, loaded, until, out, told)
+            table(input, loaded.position, out)?;
+            score(input, loaded, until, out, messages)
         }
         Err(refused) => {
-            let behind = table(source, refused.position + 1, out)?;
-            let position = why::place_of(source, &refused);
-            comment(&refused_at(source, &refused, position, &why::load_refused(source, &refused)), out)?;
-            unread(&source.bytes[behind..], behind, out)?;
+            let behind = table(input, refused.position + 1, out)?;
+            let position = why::place_of(input, &refused);
+            comment(&refused_at(input, &refused, position, &why::load_refused(input, &refused)), out)?;
+            unread(&input.bytes[behind..], behind, out)?;
             Ok(true)
         }
     }
 }
 
 /// Writes the commands of a table that begin before a position; the position behind them.
-fn table(source: &Source, before: usize, out: &mut dyn Write) -> io::Result<usize> {
+fn table(input: &Input, before: usize, out: &mut dyn Write) -> io::Result<usize> {
     let (mut parts, mut behind, mut finest) = (0, 0, 0);
-    for (at, command) in commands(&source.bytes).take_while(|&(at, _)| at < before) {
-        let line = on_line(source.line(at));
+    for (at, command) in commands(&input.bytes).take_while(|&(at, _)| at < before) {
+        let line = on_line(input.line(at));
         finest = finest.max(magnitude(&command));
-        row(&command.bytes(), &format!("{at}: {}{line}", meaning(source, &command, parts, finest)), out)?;
+        row(&command.bytes(), &format!("{at}: {}{line}", meaning(input, &command, parts, finest)), out)?;
         parts += usize::from(matches!(command, Command::Part { .. }));
         behind = at + command.length();
     }
@@ -68,16 +69,16 @@ fn on_line(line: Option<usize>) -> String {
 }
 
 /// What a command means, where so many parts come before it, and the finest magnitude up to it is this.
-fn meaning(source: &Source, command: &Command, parts: usize, finest: u8) -> String {
+fn meaning(input: &Input, command: &Command, parts: usize, finest: u8) -> String {
     match *command {
         Command::Begin { magnitude } => format!("Begin: a tick is at most {}", tick(magnitude)),
-        Command::Part { .. } => format!("part {parts}, {}: {}", source.name(parts), operands(command, "")),
+        Command::Part { .. } => format!("part {parts}, {}: {}", input.name(parts), operands(command, "")),
         Command::Span { ticks } => match parts.checked_sub(1) {
-            Some(drive) => format!("span {ticks} of {}", source.name(drive)),
+            Some(drive) => format!("span {ticks} of {}", input.name(drive)),
             None => format!("span {ticks}"),
         },
         Command::Wire { source: from, receiver, port } => {
-            format!("wire {} -> {}.{port}", source.name(from.into()), source.name(receiver.into()))
+            format!("wire {} -> {}.{port}", input.name(from.into()), input.name(receiver.into()))
         }
         Command::End => format!("End: {}; the master's tick is {}", counted(parts as u64, "part"), tick(finest)),
         Command::Want { step } => format!("want {step}"),
@@ -92,20 +93,20 @@ struct Spelling {
 
 /// Writes the score, and what each of its wanted steps comes to.
 fn score(
-    source: &Source,
+    input: &Input,
     loaded: Loaded,
     until: Option<Play>,
     out: &mut dyn Write,
-    told: &mut Told,
+    messages: &mut Messages,
 ) -> io::Result<bool> {
     let mut spelling = Spelling { position: loaded.position, unspelled: 0 };
-    let mut rehearsal = Rehearsal { source, model: loaded.model, columns: Columns::All, refused: false };
-    for entry in entries(source, loaded.position, until) {
+    let mut rehearsal = Rehearsal { input, model: loaded.model, columns: Columns::All, refused: false };
+    for entry in entries(input, loaded.position, until) {
         match entry {
-            Ok(entry) => played(&mut rehearsal, &entry, &mut spelling, out, told)?,
+            Ok(entry) => played(&mut rehearsal, &entry, &mut spelling, out, messages)?,
             Err(refused) => {
                 rehearsal.refused = true;
-                refused_command(source, &refused, out)?;
+                refused_command(input, &refused, out)?;
             }
         }
     }
@@ -122,7 +123,7 @@ fn played(
     entry: &Entry,
     spelling: &mut Spelling,
     out: &mut dyn Write,
-    told: &mut Told,
+    messages: &mut Messages,
 ) -> io::Result<()> {
     let line = on_line(entry.line);
     match entry.play {
@@ -131,7 +132,7 @@ fn played(
         }
         Play::Until { tick, step } => {
             comment(&format!("{}{line}", play_text(&entry.play)), out)?;
-            let run = rehearsal.until((tick, step), told, |rehearsal, wanted| {
+            let run = rehearsal.until((tick, step), messages, |rehearsal, wanted| {
                 // It is at most the step, which a command can spell.
                 spelling.wanted(rehearsal, wanted as u32, &line, out)
             })?;
@@ -169,9 +170,9 @@ impl Spelling {
 }
 
 /// Writes a refused command of the score, and all behind it.
-fn refused_command(source: &Source, refused: &RefusedAt, out: &mut dyn Write) -> io::Result<()> {
-    comment(&refused_at(source, refused, refused.position, &why::score_refused(source, refused)), out)?;
-    unread(&source.bytes[refused.position..], refused.position, out)
+fn refused_command(input: &Input, refused: &RefusedAt, out: &mut dyn Write) -> io::Result<()> {
+    comment(&refused_at(input, refused, refused.position, &why::score_refused(input, refused)), out)?;
+    unread(&input.bytes[refused.position..], refused.position, out)
 }
 
 /// Writes bytes that are not read.

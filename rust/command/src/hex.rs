@@ -1,4 +1,5 @@
-//! Reads hexadecimal text: digits in either case, the two digits of a byte together, with blanks and `#` comments between.
+//! Reads hexadecimal text: digits in either case, the two digits of a byte together, with blanks and `#` comments
+//! between.
 
 /// The bytes that a text spells, and the positions at which another line begins, each with that line.
 pub struct Spelled {

@@ -1,167 +1,79 @@
-//! Reads what is to be rehearsed, from a file or from standard input: a text table, hexadecimal text, or bytes. Of bytes the first
-//! 65,536 are taken, as the programs do; how much lies behind them is told.
-use crate::hex;
-use crate::reader::{self, unmarked};
-use crate::source::{Form, Source};
-use std::fs::File;
-use std::io::{self, IsTerminal, Read, Seek};
-use std::os::fd::AsFd;
-use std::path::Path;
-use std::sync::atomic::{AtomicU64, Ordering};
-use std::sync::{mpsc, Arc};
-use std::thread;
-use std::time::Duration;
+//! What is rehearsed: the bytes of a stream, and where each of its commands stands in what a person wrote. A text table
+//! gives lines and names, hexadecimal text gives lines, and bytes give neither.
+use crate::command::{commands, Command};
+use crate::kinds::default_name;
 
-/// So many bytes of a stream are taken, and so many bytes of text.
-pub const LIMIT: usize = 65_536;
-const TEXT_LIMIT: u64 = 16 << 20;
+/// The form of what was written.
+#[derive(Clone, Copy, Debug, PartialEq, Eq)]
+pub enum Form {
+    Bytes,
+    Hex,
+    Table,
+}
 
-/// So many faults of a text are told, and so many characters of one.
-const FAULTS: usize = 20;
-const LONGEST: usize = 300;
+/// What the score says: a wanted step, so many times, or wanted steps until a tick is reached.
+#[derive(Clone, Copy, Debug, PartialEq, Eq)]
+pub enum Play {
+    Want { step: u32, times: u64 },
+    Until { tick: u64, step: u64 },
+}
 
-/// What a pipe holds behind the limit is counted for so long, and so far.
-const PATIENCE: Duration = Duration::from_secs(2);
-const COUNTED: u64 = 16 << 20;
-
-/// What was read, and what was not.
+/// A stream, and what is known of how it was written. Of a text table `bytes` is the table alone, up to and with End,
+/// and `score` the score with the line of each entry; of other forms the score is in the bytes, and `score` is empty.
+#[derive(Clone, Debug)]
 pub struct Input {
-    pub source: Source,
-    rest: Rest,
-}
-
-/// What lies behind the limit: so many bytes, or what is still to be counted.
-enum Rest {
-    Known(u64),
-    Open(File),
-}
-
-/// Reads a file, or standard input where there is none, in a form, or in that of its name. What goes wrong is told by messages.
-pub fn read(file: Option<&Path>, form: Option<Form>) -> Result<Input, Vec<String>> {
-    let title = file.map_or("standard input".to_string(), |path| plain(&path.display().to_string()));
-    let wrong = |why: &str| vec![format!("rehearse: {title}: {why}")];
-    let opened = file.map_or_else(of_standard_input, of_file).map_err(|why| wrong(&why))?;
-    let form = form.unwrap_or_else(|| form_of(file));
-    match form {
-        Form::Bytes => of_bytes(&title, opened).map_err(|_| wrong("it cannot be read")),
-        Form::Hex => {
-            let spelled = hex::read(unmarked(&text(opened).map_err(|why| wrong(&why))?)).map_err(|why| wrong(&why))?;
-            Ok(of_spelled(&title, spelled))
-        }
-        Form::Table => {
-            let text = text(opened).map_err(|why| wrong(&why))?;
-            let source = reader::read(&title, &text).map_err(|faults| faulty(&title, &faults))?;
-            Ok(Input { source, rest: Rest::Known(0) })
-        }
-    }
-}
-
-/// The messages of a text's faults: so many of them, and whether there are more.
-fn faulty(title: &str, faults: &[reader::Fault]) -> Vec<String> {
-    let told = faults.iter().take(FAULTS).map(|fault| format!("{title}:{}: {}", fault.line, plain(&fault.message)));
-    told.chain((faults.len() > FAULTS).then(|| format!("{title}: and more"))).collect()
-}
-
-/// A message or a name without control characters, and not longer than a reader can take.
-fn plain(message: &str) -> String {
-    let shown: String = message.chars().take(LONGEST).flat_map(shown).collect();
-    let more = if message.chars().nth(LONGEST).is_some() { "…" } else { "" };
-    shown + more
-}
-
-/// A character as it is shown.
-fn shown(character: char) -> Vec<char> {
-    match character.is_control() {
-        true => character.escape_default().collect(),
-        false => vec![character],
-    }
-}
-
-/// The form that a file's name tells, in capitals or not; standard input is bytes.
-fn form_of(file: Option<&Path>) -> Form {
-    let name = file.map(|path| path.as_os_str().as_encoded_bytes().to_ascii_lowercase()).unwrap_or_default();
-    match name {
-        name if name.ends_with(b".table") => Form::Table,
-        name if name.ends_with(b".hex") => Form::Hex,
-        _ => Form::Bytes,
-    }
-}
-
-/// A file, opened.
-fn of_file(path: &Path) -> Result<File, String> {
-    if path.is_dir() {
-        return Err("it is a directory".to_string());
-    }
-    File::open(path).map_err(|error| match error.kind() {
-        io::ErrorKind::NotFound => "no such file".to_string(),
-        _ => "it cannot be read".to_string(),
-    })
-}
-
-/// Standard input as a file, so that no more of it is read than is asked for.
-fn of_standard_input() -> Result<File, String> {
-    io::stdin().as_fd().try_clone_to_owned().map(File::from).map_err(|_| "it cannot be read".to_string())
-}
-
-/// All of a text.
-fn text(file: File) -> Result<Vec<u8>, String> {
-    let mut text = Vec::new();
-    file.take(TEXT_LIMIT + 1).read_to_end(&mut text).map_err(|_| "it cannot be read".to_string())?;
-    match text.len() as u64 > TEXT_LIMIT {
-        true => Err(format!("it is longer than {TEXT_LIMIT} bytes, the most that is read of a text")),
-        false => Ok(text),
-    }
-}
-
-/// The first bytes of a file, and what is known of those behind them.
-fn of_bytes(title: &str, mut file: File) -> io::Result<Input> {
-    let mut bytes = Vec::new();
-    file.by_ref().take(LIMIT as u64).read_to_end(&mut bytes)?;
-    let rest = match (bytes.len() < LIMIT || file.is_terminal(), file.metadata()) {
-        (true, _) => Rest::Known(0),
-        (_, Ok(about)) if about.is_file() => Rest::Known(about.len().saturating_sub(file.stream_position()?)),
-        _ => Rest::Open(file),
-    };
-    Ok(Input { source: Source::of_bytes(title, bytes), rest })
-}
-
-/// The first bytes that a text spells.
-fn of_spelled(title: &str, spelled: hex::Spelled) -> Input {
-    let hex::Spelled { mut bytes, lines } = spelled;
-    let rest = bytes.len().saturating_sub(LIMIT) as u64;
-    bytes.truncate(LIMIT);
-    let source = Source { form: Form::Hex, lines, ..Source::of_bytes(title, bytes) };
-    Input { source, rest: Rest::Known(rest) }
+    pub title: String,
+    pub form: Form,
+    pub bytes: Vec<u8>,
+    /// The positions at which another line begins, each with that line, in rising order; 0 for what no line has.
+    pub lines: Vec<(usize, usize)>,
+    pub names: Vec<String>,
+    pub score: Vec<(usize, Play)>,
 }
 
 impl Input {
-    /// A message where something was not read. What a pipe still holds is counted, for a while.
-    pub fn unread(self) -> Option<String> {
-        let (least, count) = match self.rest {
-            Rest::Known(count) => ("", count),
-            Rest::Open(file) => counted_on(file),
-        };
-        let title = self.source.title;
-        (count > 0).then(|| format!("rehearse: {title}: {least}{count} bytes behind the first {LIMIT} were not read"))
+    /// A stream of bytes. Its parts are named by their kinds and numbers.
+    pub fn of_bytes(title: &str, bytes: Vec<u8>) -> Input {
+        let names = default_names(&bytes);
+        Input { title: title.to_string(), form: Form::Bytes, bytes, lines: Vec::new(), names, score: Vec::new() }
+    }
+
+    /// The line on which the byte at a position was written; none in bytes, and none of what no line of a text table
+    /// has.
+    pub fn line(&self, position: usize) -> Option<usize> {
+        let behind = self.lines.partition_point(|&(at, _)| at <= position);
+        behind.checked_sub(1).map(|entry| self.lines[entry].1).filter(|&line| line != 0)
+    }
+
+    /// Where the byte at a position was written, as a message begins: the title, and the line if there is one.
+    pub fn place(&self, position: usize) -> String {
+        match self.line(position) {
+            Some(line) => format!("{}:{line}", self.title),
+            None => self.title.clone(),
+        }
+    }
+
+    /// The same, as a message mentions it in passing: the line of a text table, the byte of other forms.
+    pub fn mention(&self, position: usize) -> String {
+        match (self.form, self.line(position)) {
+            (Form::Table, Some(line)) => format!("line {line}"),
+            (_, Some(line)) => format!("byte {position}, line {line}"),
+            (_, None) => format!("byte {position}"),
+        }
+    }
+
+    /// The name of a part, whether the table has it or not.
+    pub fn name(&self, part: usize) -> String {
+        self.names.get(part).cloned().unwrap_or_else(|| format!("part {part}"))
     }
 }
 
-/// How many bytes come from a file within the patience, and whether there may be more.
-fn counted_on(mut file: File) -> (&'static str, u64) {
-    let count = Arc::new(AtomicU64::new(0));
-    let (ended, end) = mpsc::channel();
-    let counter = Arc::clone(&count);
-    thread::spawn(move || {
-        let mut buffer = vec![0; LIMIT];
-        while counter.load(Ordering::Relaxed) < COUNTED {
-            match file.read(&mut buffer) {
-                Ok(0) => return ended.send(()).unwrap_or_default(),
-                Ok(more) => drop(counter.fetch_add(more as u64, Ordering::Relaxed)),
-                Err(error) if error.kind() == io::ErrorKind::Interrupted => {}
-                Err(_) => return,
-            }
-        }
-    });
-    let least = if end.recv_timeout(PATIENCE).is_ok() { "" } else { "at least " };
-    (least, count.load(Ordering::Relaxed))
+/// The names of the parts of a stream that gives them none.
+fn default_names(bytes: &[u8]) -> Vec<String> {
+    let parts =
+        commands(bytes).take_while(|(_, command)| *command != Command::End).filter_map(|(_, command)| match command {
+            Command::Part { kind, .. } => Some(kind),
+            _ => None,
+        });
+    parts.enumerate().map(|(number, kind)| default_name(kind, number)).collect()
 }

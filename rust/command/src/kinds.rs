@@ -1,4 +1,5 @@
-//! What the text of a table calls the kinds of part, and which operands and ports each names, as README.md's table has it.
+//! What the text of a table calls the kinds of part, and which operands and ports each names, as the table in
+//! docs/MANUAL.md has it.
 
 /// A kind: the word for it, the operands that it names, how many ports it has, and which of them are direct.
 #[derive(Debug)]

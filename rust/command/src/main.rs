@@ -1,160 +1,78 @@
-//! The command behind `./rehearse` for text tables, explanations and columns.
-//!
-//!     rehearse-front [--names] [--only A,B,..] [--sheet A,B,C] [--until T --step S] [--strict] [--hex | --table] [FILE]
-//!     rehearse-front --explain | --text | --save [--hex | --table] [FILE]
-//!
-//! Status 0: rehearsed, refusals included, or written. 2: bad usage, a file or a text that cannot be read, or a part that is not there.
-//! 3: not all lines could be written. 4: no table is saved, or not all of it written as text, since its load or a byte of its score is
-//! refused. 5: --strict, and something was refused. 141: the reader of a pipe has gone.
-use dozhumek::load;
-use front::arguments::{Act, Arguments, Choice};
-use front::columns::Columns;
-use front::explain::explain;
-use front::input;
-use front::play::{play, refused_at, score_line, told_load};
-use front::source::{Play, Source};
-use front::told::Told;
-use front::{why, writer};
+//! `rehearse`: reads the arguments, sees that what they need is proved and built, and has it done: bytes by the proved
+//! programs, all else by the command over the proved calls. `usage.rs` has the options and the statuses.
+use front::arguments::{self, Arguments, Asked};
+use front::failure::{Failure, BAD, DONE, UNBUILT, UNSAVED, UNWRITTEN};
+use front::files::{self, Taken};
+use front::home::{self, Program};
+use front::input::Form;
+use front::messages::Messages;
+use front::output::Output;
+use front::ready::Ready;
+use front::{program, system, usage};
 use std::env;
-use std::io::{self, BufWriter, ErrorKind, IsTerminal, LineWriter, Write};
-use std::process::ExitCode;
-
-/// The statuses, and that of a reader of a pipe that has gone.
-const DONE: u8 = 0;
-const BAD: u8 = 2;
-const UNWRITTEN: u8 = 3;
-const NO_TABLE: u8 = 4;
-const REFUSED: u8 = 5;
-const READER_GONE: u8 = 141;
+use std::os::unix::process::CommandExt;
+use std::process::{Command, ExitCode};
 
 fn main() -> ExitCode {
-    let mut told = Told::new();
-    let status = match Arguments::read(env::args_os().skip(1)) {
-        Ok(arguments) => run(&arguments, &mut told),
-        Err(wrong) => {
-            told.say(&format!("rehearse: {wrong} (./rehearse --help)"));
-            BAD
-        }
+    let mut messages = Messages::of_build();
+    let done = match arguments::read(env::args_os().skip(1)) {
+        Ok(Asked::Help) => usage::help().map(|()| DONE),
+        Ok(Asked::Version) => usage::version().map(|()| DONE),
+        Ok(Asked::Work(arguments)) => run(&arguments, &mut messages),
+        Err(failure) => Err(failure),
     };
-    ExitCode::from(status)
+    ExitCode::from(done.unwrap_or_else(|failure| messages.fail(&failure)))
 }
 
-/// Reads the input and does with it what the arguments say.
-fn run(arguments: &Arguments, told: &mut Told) -> u8 {
-    let input = match input::read(arguments.file.as_deref(), arguments.form) {
-        Ok(input) => input,
-        Err(messages) => {
-            messages.iter().for_each(|message| told.say(message));
-            return BAD;
-        }
-    };
-    let mut out = output();
-    let result = act(arguments, &input.source, &mut *out, told).and_then(|status| out.flush().map(|()| status));
-    told.clear();
-    let status = match result {
-        Ok(REFUSED) if !arguments.strict => DONE,
-        Ok(status) => status,
-        Err(error) if error.kind() == ErrorKind::BrokenPipe => READER_GONE,
-        Err(_) => {
-            told.say("rehearse: not all lines could be written");
-            UNWRITTEN
-        }
-    };
-    if let Some(message) = input.unread() {
-        told.say(&message);
-    }
-    status
-}
-
-/// Standard output, a line at a time on a terminal.
-fn output() -> Box<dyn Write> {
-    match io::stdout().is_terminal() {
-        true => Box::new(LineWriter::new(io::stdout())),
-        false => Box::new(BufWriter::new(io::stdout())),
+/// Has a proved program do what the arguments say, or the command over the proved calls.
+fn run(arguments: &Arguments, messages: &mut Messages) -> Result<u8, Failure> {
+    let nowhere = || Failure::new(UNBUILT, "the repository is not found: no folder above the command has a crates.txt");
+    let root = home::root().ok_or_else(nowhere)?;
+    let undone = if arguments.out.is_some() { UNSAVED } else { "nothing is rehearsed" };
+    let mut ready = Ready::new(&root, undone, messages);
+    match arguments.program() {
+        Some(program) => by_program(program, arguments, &mut ready),
+        None => by_calls(arguments, &mut ready),
     }
 }
 
-/// Does what is asked for. The status is 5 where something was refused.
-fn act(arguments: &Arguments, source: &Source, out: &mut dyn Write, told: &mut Told) -> io::Result<u8> {
-    let until = arguments.until;
-    match arguments.act {
-        Act::Rehearse => rehearse(arguments, source, until, out, told),
-        Act::Explain => explain(source, until, out, told).map(status_of),
-        Act::Text => text(source, out, told),
-        Act::Save => save(source, out, told),
+/// Has a proved program do it. What is wrong with FILE and OUT is told before anything is built; bytes cannot be wrong,
+/// and are left where they are until then.
+fn by_program(program: Program, arguments: &Arguments, ready: &mut Ready) -> Result<u8, Failure> {
+    files::there(arguments.file.as_deref())?;
+    let spelled = (arguments.form == Form::Hex).then(|| take(arguments)).transpose()?;
+    let output = arguments.out.as_deref().map(Output::find).transpose()?;
+    if output.is_none() {
+        open_output()?;
+    }
+    ready.program(program)?;
+    let taken = spelled.map_or_else(|| take(arguments), Ok)?;
+    match output {
+        Some(output) => program::save(ready.root, program, taken, &output, ready.messages),
+        None => program::print(ready.root, program, arguments, taken, ready.messages),
     }
 }
 
-/// The status by whether anything was refused.
-fn status_of(refused: bool) -> u8 {
-    if refused {
-        REFUSED
-    } else {
-        DONE
-    }
+/// Takes the input.
+fn take(arguments: &Arguments) -> Result<Taken, Failure> {
+    let taken = files::take(arguments.file.as_deref(), arguments.form);
+    taken.map_err(|faults| Failure { status: BAD, message: faults.join("\n") })
 }
 
-/// Loads the table and plays its score.
-fn rehearse(
-    arguments: &Arguments,
-    source: &Source,
-    until: Option<Play>,
-    out: &mut dyn Write,
-    told: &mut Told,
-) -> io::Result<u8> {
-    let loaded = match load(&source.bytes) {
-        Ok(loaded) => loaded,
-        Err(refused) => {
-            score_line(&refused, out)?;
-            out.flush()?;
-            told.say(&told_load(source, &refused));
-            return Ok(REFUSED);
-        }
-    };
-    let columns = match Columns::of_choice(&arguments.choice, source, &loaded.model) {
-        Ok(columns) => columns,
-        Err(wrong) => {
-            told.say(&format!("rehearse: {wrong}"));
-            return Ok(BAD);
-        }
-    };
-    let on_terminal = matches!(arguments.choice, Choice::Sheet(_)) && io::stdout().is_terminal();
-    if arguments.names || on_terminal {
-        columns.heading(source, out)?;
+/// Gives the command over the proved calls the place of this one, with the same arguments.
+fn by_calls(arguments: &Arguments, ready: &mut Ready) -> Result<u8, Failure> {
+    files::there(arguments.file.as_deref())?;
+    match &arguments.out {
+        Some(out) => drop(Output::find(out)?),
+        None => open_output()?,
     }
-    play(source, loaded, columns, until, out, told).map(status_of)
+    let command = ready.calls()?;
+    let why = Command::new(ready.root.join(&command)).args(env::args_os().skip(1)).exec();
+    Err(Failure::new(UNBUILT, format!("{command} cannot be run: {why}")))
 }
 
-/// Writes the table and the score as a text table; of a refused load what comes before the refusal.
-fn text(source: &Source, out: &mut dyn Write, told: &mut Told) -> io::Result<u8> {
-    let loaded = match load(&source.bytes) {
-        Ok(loaded) => loaded,
-        Err(refused) => {
-            let message = told_load(source, &refused);
-            out.write_all(writer::write_refused(source, &refused, &message).as_bytes())?;
-            told.say(&message);
-            return Ok(NO_TABLE);
-        }
-    };
-    let written = writer::write(source, &loaded).map_err(io::Error::other)?;
-    out.write_all(written.text.as_bytes())?;
-    let Some(refused) = written.refused else { return Ok(DONE) };
-    let message = refused_at(source, &refused, refused.position, &why::score_refused(source, &refused));
-    out.write_all(writer::ended(&refused, &message).as_bytes())?;
-    told.say(&message);
-    Ok(NO_TABLE)
-}
-
-/// Writes the table's bytes in their one form.
-fn save(source: &Source, out: &mut dyn Write, told: &mut Told) -> io::Result<u8> {
-    match load(&source.bytes) {
-        Ok(loaded) => {
-            out.write_all(&loaded.model.save().map_err(io::Error::other)?)?;
-            Ok(DONE)
-        }
-        Err(refused) => {
-            told.say(&format!("{}: no table is saved", told_load(source, &refused)));
-            Ok(NO_TABLE)
-        }
-    }
+/// Sees that standard output is open.
+fn open_output() -> Result<(), Failure> {
+    let closed = || Failure::new(UNWRITTEN, "standard output is closed");
+    system::is_open(1).then_some(()).ok_or_else(closed)
 }

@@ -1,8 +1,8 @@
-//! Plays a score: the table is loaded, and each wanted step is an advance. `until` is played by calls, one after the other. Printed are
-//! document 01's lines; what is refused is told in words as well, by where it was written.
+//! Plays a score: the table is loaded, and each wanted step is an advance. `until` is played by calls, one after the
+//! other. Printed are document 01's lines; what is refused is told in words as well, by where it was written.
 use crate::columns::Columns;
-use crate::source::{Form, Play, Source};
-use crate::told::Told;
+use crate::input::{Form, Input, Play};
+use crate::messages::Messages;
 use crate::why;
 use crate::why::counted;
 use crate::writer::play_text;
@@ -16,22 +16,22 @@ pub struct Entry {
     pub play: Play,
 }
 
-/// The entries of a source's score, from the position behind its table on, and then `until`, if there is one. A bad byte of the
-/// score ends it all.
+/// The entries of a input's score, from the position behind its table on, and then `until`, if there is one. A bad byte
+/// of the score ends it all.
 pub fn entries(
-    source: &Source,
+    input: &Input,
     position: usize,
     until: Option<Play>,
 ) -> impl Iterator<Item = Result<Entry, RefusedAt>> + '_ {
-    let written = source
+    let written = input
         .score
         .iter()
-        .map(|&(line, play)| Ok(Entry { line: Some(line), place: format!("{}:{line}", source.title), play }));
-    let bytes = if source.form == Form::Table { &[] } else { &source.bytes[..] };
+        .map(|&(line, play)| Ok(Entry { line: Some(line), place: format!("{}:{line}", input.title), play }));
+    let bytes = if input.form == Form::Table { &[] } else { &input.bytes[..] };
     let mut score = Score::new(bytes, position);
     let spelled = std::iter::from_fn(move || {
         let at = score.position();
-        Some(score.next()?.map(|step| of_byte(source, at, step)))
+        Some(score.next()?.map(|step| of_byte(input, at, step)))
     });
     let last = until.map(|play| Ok(Entry { line: None, place: "rehearse".to_string(), play }));
     let mut refused = false;
@@ -39,28 +39,28 @@ pub fn entries(
 }
 
 /// The entry of a wanted step at a position of a stream.
-fn of_byte(source: &Source, at: usize, step: u32) -> Entry {
-    let place = format!("{}: byte {at}", source.place(at));
-    Entry { line: source.line(at), place, play: Play::Want { step, times: 1 } }
+fn of_byte(input: &Input, at: usize, step: u32) -> Entry {
+    let place = format!("{}: byte {at}", input.place(at));
+    Entry { line: input.line(at), place, play: Play::Want { step, times: 1 } }
 }
 
 /// How a refusal at a position is told: by line alone where that is what was written.
-pub fn refused_at(source: &Source, refused: &RefusedAt, position: usize, why: &str) -> String {
+pub fn refused_at(input: &Input, refused: &RefusedAt, position: usize, why: &str) -> String {
     let number = refused.refusal.number();
-    match source.form {
-        Form::Table => format!("{}: refused {number}: {why}", source.place(position)),
-        _ => format!("{}: refused {number} at {}: {why}", source.place(position), refused.position),
+    match input.form {
+        Form::Table => format!("{}: refused {number}: {why}", input.place(position)),
+        _ => format!("{}: refused {number} at {}: {why}", input.place(position), refused.position),
     }
 }
 
 /// How a refused load is told.
-pub fn told_load(source: &Source, refused: &RefusedAt) -> String {
-    refused_at(source, refused, why::place_of(source, refused), &why::load_refused(source, refused))
+pub fn told_load(input: &Input, refused: &RefusedAt) -> String {
+    refused_at(input, refused, why::place_of(input, refused), &why::load_refused(input, refused))
 }
 
 /// A rehearsal that goes on: the model, what of it is shown, and whether anything was refused.
 pub struct Rehearsal<'a> {
-    pub source: &'a Source,
+    pub input: &'a Input,
     pub model: Model,
     pub columns: Columns,
     pub refused: bool,
@@ -77,7 +77,7 @@ impl Rehearsal<'_> {
     pub fn advance(&mut self, wanted: u64) -> Result<Answer, (Refused, String)> {
         self.model.advance(wanted).map_err(|refused| {
             self.refused = true;
-            let why = why::advance_refused(self.source, &self.model, wanted, &refused);
+            let why = why::advance_refused(self.input, &self.model, wanted, &refused);
             (refused, format!("refused {}: {why}", refused.refusal.number()))
         })
     }
@@ -92,12 +92,12 @@ impl Rehearsal<'_> {
         Ok(why)
     }
 
-    /// Wants `step`, and no more than leads to the tick, until that is reached or a call is refused. Each call is made by `call`, which tells
-    /// in words what refused it.
+    /// Wants `step`, and no more than leads to the tick, until that is reached or a call is refused. Each call is made
+    /// by `call`, which tells in words what refused it.
     pub fn until(
         &mut self,
         (tick, step): (u64, u64),
-        told: &mut Told,
+        messages: &mut Messages,
         mut call: impl FnMut(&mut Self, u64) -> io::Result<Option<String>>,
     ) -> io::Result<Run> {
         let mut calls = 0;
@@ -105,7 +105,7 @@ impl Rehearsal<'_> {
             let wanted = step.min(tick - self.model.t());
             let refused = call(self, wanted)?;
             calls += 1;
-            told.called(self.model.t(), Some(tick));
+            messages.called(self.model.t(), Some(tick));
             if refused.is_some() {
                 return Ok(Run { calls, refused });
             }
@@ -124,50 +124,50 @@ impl Rehearsal<'_> {
     }
 
     /// Plays an entry of the score.
-    fn entry(&mut self, entry: &Entry, out: &mut dyn Write, told: &mut Told) -> io::Result<()> {
+    fn entry(&mut self, entry: &Entry, out: &mut dyn Write, messages: &mut Messages) -> io::Result<()> {
         match entry.play {
             Play::Want { step, times } => {
                 for _ in 0..times {
                     if let Some(why) = self.step(step.into(), out)? {
                         out.flush()?;
-                        told.say(&format!("{}: {why}", entry.place));
+                        messages.say(&format!("{}: {why}", entry.place));
                     }
-                    told.called(self.model.t(), None);
+                    messages.called(self.model.t(), None);
                 }
             }
             Play::Until { tick, step } => {
-                let run = self.until((tick, step), told, |rehearsal, wanted| rehearsal.step(wanted, out))?;
+                let run = self.until((tick, step), messages, |rehearsal, wanted| rehearsal.step(wanted, out))?;
                 out.flush()?;
-                told.say(&format!("{}: {}", entry.place, self.ended(tick, &run)));
+                messages.say(&format!("{}: {}", entry.place, self.ended(tick, &run)));
             }
         }
         Ok(())
     }
 }
 
-/// Plays the score of a source that was loaded. Whether anything was refused.
+/// Plays the score of a input that was loaded. Whether anything was refused.
 pub fn play(
-    source: &Source,
+    input: &Input,
     loaded: Loaded,
     columns: Columns,
     until: Option<Play>,
     out: &mut dyn Write,
-    told: &mut Told,
+    messages: &mut Messages,
 ) -> io::Result<bool> {
-    let mut rehearsal = Rehearsal { source, model: loaded.model, columns, refused: false };
-    let mut entries = entries(source, loaded.position, until).peekable();
+    let mut rehearsal = Rehearsal { input, model: loaded.model, columns, refused: false };
+    let mut entries = entries(input, loaded.position, until).peekable();
     if entries.peek().is_none() {
-        told.say(&format!("{}: no step is wanted: add a line, as want 8, or --until T --step S", source.title));
+        messages.say(&format!("{}: no step is wanted: add a line, as want 8, or --until T --step S", input.title));
     }
     for entry in entries {
         match entry {
-            Ok(entry) => rehearsal.entry(&entry, out, told)?,
+            Ok(entry) => rehearsal.entry(&entry, out, messages)?,
             Err(refused) => {
                 score_line(&refused, out)?;
                 out.flush()?;
-                told.say(&refused_at(source, &refused, refused.position, &why::score_refused(source, &refused)));
+                messages.say(&refused_at(input, &refused, refused.position, &why::score_refused(input, &refused)));
                 if let Some(play) = until {
-                    told.say(&format!("rehearse: {}: not played, since the score has ended", play_text(&play)));
+                    messages.say(&format!("rehearse: {}: not played, since the score has ended", play_text(&play)));
                 }
                 rehearsal.refused = true;
             }

@@ -1,10 +1,10 @@
-//! Reads a text table: one entry a line, `#` comments, parts and wires by names. What bytes can spell is spelled, for the load to
-//! judge; what they cannot spell (a word, kind, name or operand that is none, a number that no field holds) is a fault of its line,
-//! and all faults are told. Lines may stand in any order: parts are numbered and wants are played as they stand.
+//! Reads a text table: one entry a line, `#` comments, parts and wires by names. What bytes can spell is spelled, for
+//! the load to judge; what they cannot spell (a word, kind, name or operand that is none, a number that no field holds)
+//! is a fault of its line, and all faults are told. Lines may stand in any order: parts are numbered and wants are
+//! played as they stand.
 use crate::command::{Command, NO_PREFERENCE};
+use crate::input::{Form, Input, Play};
 use crate::kinds::{self, KindWords, KIND_WORDS};
-use crate::source::{Form, Play, Source};
-use dozhumek::{LAST_TICK, MOST_WANTED};
 use std::collections::HashMap;
 use std::ops::RangeInclusive;
 
@@ -21,6 +21,12 @@ const MAGNITUDES: &str = "0 to 15";
 const VALUES: &str = "-1000000000 to 1000000000";
 const TICKS: &str = "1 to 1000000000";
 const POINTS: &str = "0 to 1000000000000000000";
+
+/// The last tick, and the longest step that can be wanted: those of the proved calls.
+const LAST_TICK: u64 = 1_000_000_000_000_000_000;
+const MOST_WANTED: u64 = 1_000_000_000;
+#[cfg(feature = "calls")]
+const _: () = assert!(LAST_TICK == dozhumek::LAST_TICK && MOST_WANTED == dozhumek::MOST_WANTED);
 
 /// How often a line may want its step.
 const MOST_TIMES: u64 = 1_000_000_000;
@@ -55,7 +61,7 @@ struct Draft {
 }
 
 /// The text table in these bytes, or its faults, by their lines: all of them, but for a text that is none.
-pub fn read(title: &str, text: &[u8]) -> Result<Source, Vec<Fault>> {
+pub fn read(title: &str, text: &[u8]) -> Result<Input, Vec<Fault>> {
     let mut draft = Draft::default();
     for (number, bytes) in unmarked(text).split(|&byte| byte == b'\n').enumerate() {
         let entry = bytes.strip_suffix(b"\r").unwrap_or(bytes).split(|&byte| byte == b'#').next().unwrap_or_default();
@@ -68,7 +74,7 @@ pub fn read(title: &str, text: &[u8]) -> Result<Source, Vec<Fault>> {
             return Err(draft.faults);
         }
     }
-    draft.source(title)
+    draft.input(title)
 }
 
 /// Text without its byte-order mark.
@@ -174,7 +180,7 @@ impl Draft {
     }
 
     /// The bytes of all that was read: Begin, the parts with their spans, the wires and End. Unless there are faults.
-    fn source(mut self, title: &str) -> Result<Source, Vec<Fault>> {
+    fn input(mut self, title: &str) -> Result<Input, Vec<Fault>> {
         let (line, magnitude) = self.tick.unwrap_or((0, 0));
         let mut commands = vec![(line, Command::Begin { magnitude })];
         for (line, part, spans) in &self.parts {
@@ -198,7 +204,7 @@ impl Draft {
             bytes.extend(command.bytes());
         }
         let Draft { names, score, .. } = self;
-        Ok(Source { title: title.to_string(), form: Form::Table, bytes, lines, names, score })
+        Ok(Input { title: title.to_string(), form: Form::Table, bytes, lines, names, score })
     }
 }
 

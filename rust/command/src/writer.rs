@@ -1,9 +1,9 @@
-//! Writes a stream as a text table. The table of an accepted load is the one that the proved save writes, so that equal tables have
-//! equal text: parts with their spans, then the wires by receiving part and port; the score follows. Of a refused load there is what
-//! comes before the refusal, as it stands.
+//! Writes a stream as a text table. The table of an accepted load is the one that the proved save writes, so that equal
+//! tables have equal text: parts with their spans, then the wires by receiving part and port; the score follows. Of a
+//! refused load there is what comes before the refusal, as it stands.
 use crate::command::{commands, Command, NO_PREFERENCE};
+use crate::input::{Form, Input, Play};
 use crate::kinds;
-use crate::source::{Form, Play, Source};
 use dozhumek::{Loaded, Refusal, RefusedAt, Score};
 use std::fmt::Write;
 
@@ -14,35 +14,36 @@ pub struct Written {
 }
 
 /// The text table of a stream that was loaded.
-pub fn write(source: &Source, loaded: &Loaded) -> Result<Written, Refusal> {
-    let mut text = table(source, &loaded.model.save()?);
-    let (score, refused) = score(source, loaded.position);
+pub fn write(input: &Input, loaded: &Loaded) -> Result<Written, Refusal> {
+    let mut text = table(input, &loaded.model.save()?);
+    let (score, refused) = score(input, loaded.position);
     score.iter().for_each(|play| line(&mut text, &play_text(play)));
     Ok(Written { text, refused })
 }
 
-/// The text of a stream whose load is refused: what comes before the refusal, and that as a comment. Behind a refused End it goes on
-/// with the score; any other command that is refused ends it.
-pub fn write_refused(source: &Source, refused: &RefusedAt, told: &str) -> String {
-    let mut text = table(source, &source.bytes[..refused.position]);
-    if Command::read(&source.bytes[refused.position..]) != Some(Command::End) {
+/// The text of a stream whose load is refused: what comes before the refusal, and that as a comment. Behind a refused
+/// End it goes on with the score; any other command that is refused ends it.
+pub fn write_refused(input: &Input, refused: &RefusedAt, told: &str) -> String {
+    let mut text = table(input, &input.bytes[..refused.position]);
+    if Command::read(&input.bytes[refused.position..]) != Some(Command::End) {
         return text + &ended(refused, told);
     }
     line(&mut text, &format!("# {told}"));
-    let (score, _) = score(source, refused.position + 1);
+    let (score, _) = score(input, refused.position + 1);
     score.iter().for_each(|play| line(&mut text, &play_text(play)));
     text
 }
 
-/// The end of a text where a command is refused: why, and a line that no text table has, so that what comes before is not taken for all.
+/// The end of a text where a command is refused: why, and a line that no text table has, so that what comes before is
+/// not taken for all.
 pub fn ended(refused: &RefusedAt, told: &str) -> String {
     format!("# {told}\nrefused {} at {}\n", refused.refusal.number(), refused.position)
 }
 
 /// The lines of a table's commands.
-fn table(source: &Source, bytes: &[u8]) -> String {
+fn table(input: &Input, bytes: &[u8]) -> String {
     let table: Vec<Command> = commands(bytes).map(|(_, command)| command).collect();
-    let width = source.names.iter().map(|name| name.chars().count()).max().unwrap_or(0);
+    let width = input.names.iter().map(|name| name.chars().count()).max().unwrap_or(0);
     let mut text = String::new();
     let mut number = 0;
     for (at, command) in table.iter().enumerate() {
@@ -50,11 +51,11 @@ fn table(source: &Source, bytes: &[u8]) -> String {
             Command::Begin { magnitude } => line(&mut text, &format!("tick {magnitude}")),
             Command::Part { .. } => {
                 let operands = operands(command, &spans(&table[at + 1..]));
-                line(&mut text, &format!("part {:width$}  {operands}", source.name(number)));
+                line(&mut text, &format!("part {:width$}  {operands}", input.name(number)));
                 number += 1;
             }
             Command::Wire { source: from, receiver, port } => {
-                let (from, to) = (source.name(from.into()), source.name(receiver.into()));
+                let (from, to) = (input.name(from.into()), input.name(receiver.into()));
                 line(&mut text, &format!("wire {from} -> {to}.{port}"));
             }
             _ => {}
@@ -99,12 +100,12 @@ pub fn operands(part: &Command, spans: &str) -> String {
 }
 
 /// The score of a stream: equal wants that follow each other together.
-fn score(source: &Source, position: usize) -> (Vec<Play>, Option<RefusedAt>) {
-    if source.form == Form::Table {
-        return (source.score.iter().map(|&(_, play)| play).collect(), None);
+fn score(input: &Input, position: usize) -> (Vec<Play>, Option<RefusedAt>) {
+    if input.form == Form::Table {
+        return (input.score.iter().map(|&(_, play)| play).collect(), None);
     }
     let mut plays = Vec::new();
-    for wanted in Score::new(&source.bytes, position) {
+    for wanted in Score::new(&input.bytes, position) {
         match wanted {
             Ok(wanted) => match plays.last_mut() {
                 Some(Play::Want { step, times }) if *step == wanted => *times += 1,

@@ -1,5 +1,5 @@
-//! Runs the cases of `cases.txt`, each in a folder of its own, and compares status, standard output and standard error with what is written
-//! there, byte for byte.
+//! Runs the cases of `cases.txt`, each in a folder of its own, and compares status, standard output and standard error
+//! with what is written there, byte for byte.
 use std::fs;
 use std::io::Write;
 use std::path::{Path, PathBuf};

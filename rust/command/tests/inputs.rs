@@ -1,4 +1,5 @@
-//! Inputs and outputs that no text can show: bytes that are no text, streams that are too long, readers that go away, a full device.
+//! Inputs and outputs that no text can show: bytes that are no text, streams that are too long, readers that go away, a
+//! full device.
 use std::fs::{self, File};
 use std::io::{Read, Seek, SeekFrom, Write};
 use std::path::PathBuf;
@@ -160,12 +161,16 @@ fn a_long_score_of_a_text_is_played_whole() {
 #[test]
 fn lines_that_cannot_be_written_are_told() {
     let name = file("written.table", b"part x constant a=3\nwant 7\n");
-    for arguments in [&[name.as_str()][..], &["--text", &name], &["--explain", &name], &["--save", &name]] {
+    for arguments in [&[name.as_str()][..], &["--text", &name], &["--explain", &name]] {
         let full = File::options().write(true).open("/dev/full").expect("a device");
         let output = command(arguments).stdout(full).output().expect("its answer");
         assert_eq!(output.status.code(), Some(3), "{arguments:?}");
         assert_eq!(told(&output), "rehearse: not all lines could be written\n");
     }
+    let full = File::options().write(true).open("/dev/full").expect("a device");
+    let output = command(&["--save", &name, "-"]).stdout(full).output().expect("its answer");
+    assert_eq!(output.status.code(), Some(3));
+    assert_eq!(told(&output), "rehearse: -: not all bytes could be written\n");
 }
 
 #[test]
@@ -181,6 +186,6 @@ fn a_reader_that_goes_ends_the_rehearsal() {
 #[test]
 fn what_is_saved_is_the_table_alone() {
     let name = file("saved.table", b"want 7 x3\npart x constant a=3\nuntil 9 step 1\n");
-    let output = command(&["--save", &name]).output().expect("its answer");
+    let output = command(&["--save", &name, "-"]).output().expect("its answer");
     assert_eq!((output.status.code(), output.stdout), (Some(0), stream(0)));
 }

@@ -1,7 +1,7 @@
 //! What is said of each refusal, word for word: of streams of bytes, of hexadecimal text and of text tables.
 use dozhumek::{load, Answer, Model, Refusal, Refused, RefusedAt, Score};
 use front::command::Command;
-use front::source::{Form, Source};
+use front::input::{Form, Input};
 use front::why::{advance_refused, load_refused, place_of, score_refused};
 
 const BEGIN: Command = Command::Begin { magnitude: 0 };
@@ -41,47 +41,47 @@ fn bytes(commands: &[Command]) -> Vec<u8> {
 }
 
 /// A stream of bytes.
-fn stream(commands: &[Command]) -> Source {
-    Source::of_bytes("x.bin", bytes(commands))
+fn stream(commands: &[Command]) -> Input {
+    Input::of_bytes("x.bin", bytes(commands))
 }
 
-/// A text table: the names of its parts, and its commands, each on a line of its own from line 2 on, but for spans, which
-/// stand on the line of the command before, and End, which stands on none.
-fn table(names: &[&str], commands: &[Command]) -> Source {
-    let mut source = Source { form: Form::Table, title: "chime.table".to_string(), ..stream(commands) };
-    source.names = names.iter().map(|name| name.to_string()).collect();
+/// A text table: the names of its parts, and its commands, each on a line of its own from line 2 on, but for spans,
+/// which are on the line of the command before, and End, which is on none.
+fn table(names: &[&str], commands: &[Command]) -> Input {
+    let mut input = Input { form: Form::Table, title: "chime.table".to_string(), ..stream(commands) };
+    input.names = names.iter().map(|name| name.to_string()).collect();
     let (mut position, mut line) = (0, 1);
     for command in commands {
         if !matches!(command, Command::Span { .. } | Command::End) {
             line += 1;
-            source.lines.push((position, line));
+            input.lines.push((position, line));
         }
         position += command.length();
     }
-    source
+    input
 }
 
 /// The stream, written as hexadecimal text with a line for each command, from line 1 on.
-fn hex(commands: &[Command]) -> Source {
-    let mut source = Source { form: Form::Hex, title: "x.hex".to_string(), ..stream(commands) };
+fn hex(commands: &[Command]) -> Input {
+    let mut input = Input { form: Form::Hex, title: "x.hex".to_string(), ..stream(commands) };
     let mut position = 0;
     for (number, command) in commands.iter().enumerate() {
-        source.lines.push((position, number + 1));
+        input.lines.push((position, number + 1));
         position += command.length();
     }
-    source
+    input
 }
 
 /// How a stream's load is refused: the number, and the message behind the place where it begins.
-fn told(source: &Source) -> (u64, String) {
-    let refused = load(&source.bytes).map(|_| "a refusal").expect_err("the load is accepted");
-    let place = source.place(place_of(source, &refused));
-    (refused.refusal.number(), format!("{place}: {}", load_refused(source, &refused)))
+fn told(input: &Input) -> (u64, String) {
+    let refused = load(&input.bytes).map(|_| "a refusal").expect_err("the load is accepted");
+    let place = input.place(place_of(input, &refused));
+    (refused.refusal.number(), format!("{place}: {}", load_refused(input, &refused)))
 }
 
 /// The same of some bytes.
 fn told_of(bytes: &[u8]) -> (u64, String) {
-    told(&Source::of_bytes("x.bin", bytes.to_vec()))
+    told(&Input::of_bytes("x.bin", bytes.to_vec()))
 }
 
 /// A number with a message.
@@ -115,10 +115,10 @@ fn which_byte_is_no_command() {
     assert_eq!(told_of(&[0]), said(2, "x.bin: 00 is no command: a table begins with Begin, 01"));
     let behind = "x.bin: FF is no command, or Begin (byte 0) has too few or too many bytes";
     assert_eq!(told_of(&[1, 0, 0xFF]), said(2, behind));
-    let mut source = bytes(&[BEGIN, part(GAIN, 1, 0, 0)]);
-    source.push(7);
+    let mut input = bytes(&[BEGIN, part(GAIN, 1, 0, 0)]);
+    input.push(7);
     let behind = "x.bin: 07 is no command, or gain0 (byte 2) has too few or too many bytes";
-    assert_eq!(told_of(&source), said(2, behind));
+    assert_eq!(told_of(&input), said(2, behind));
 }
 
 #[test]
@@ -151,8 +151,10 @@ fn which_operands_are_out_of_range() {
     assert_eq!(one(preferring(16, 0, 1, 0, 0)), said(5, "chime.table:3: pref of strike is 16, not 0 to 15"));
     let unnamed = "chime.table:3: b of strike is 5, but a part of kind gain has no b";
     assert_eq!(one(part(GAIN, 1, 5, 0)), said(5, unnamed));
-    let all = "x.bin: pref of adder0 is 254, not 0 to 15, or 255 for none; a of adder0 is -1, but a part of kind adder has \
-               no a; b of adder0 is 2, but a part of kind adder has no b; p of adder0 is 4294967295, but a part of kind \
+    let all =
+        "x.bin: pref of adder0 is 254, not 0 to 15, or 255 for none; a of adder0 is -1, but a part of kind adder \
+               has no a; b of adder0 is 2, but a part of kind adder has no b; p of adder0 is 4294967295, but a part \
+               of kind \
                adder has no p";
     assert_eq!(told(&stream(&[BEGIN, preferring(254, ADDER, -1, 2, u32::MAX)])), said(5, all));
     let all =
@@ -204,11 +206,11 @@ fn what_a_wire_misses() {
 #[test]
 fn which_port_is_wired_already() {
     let commands = [BEGIN, part(0, 1, 0, 0), part(ADDER, 0, 0, 0), wire(0, 1, 0), wire(0, 1, 1), wire(1, 1, 1)];
-    let mut source = table(&["gravity", "clapper"], &commands);
-    assert_eq!(told(&source), said(8, "chime.table:7: clapper.1 is already wired (line 6)"));
-    source.lines[4].1 = 9;
-    source.lines[5].1 = 14;
-    assert_eq!(told(&source), said(8, "chime.table:14: clapper.1 is already wired (line 9)"));
+    let mut input = table(&["gravity", "clapper"], &commands);
+    assert_eq!(told(&input), said(8, "chime.table:7: clapper.1 is already wired (line 6)"));
+    input.lines[4].1 = 9;
+    input.lines[5].1 = 14;
+    assert_eq!(told(&input), said(8, "chime.table:14: clapper.1 is already wired (line 9)"));
     assert_eq!(told(&hex(&commands)), said(8, "x.hex:6: adder1.1 is already wired (byte 36, line 5)"));
     assert_eq!(told(&stream(&commands)), said(8, "x.bin: adder1.1 is already wired (byte 36)"));
 }
@@ -258,21 +260,21 @@ fn which_wires_are_a_loop() {
     let wires = [wire(3, 2, 0), wire(2, 1, 1), wire(1, 0, 0), wire(0, 2, 1), wire(2, 3, 0), wire(0, 1, 0)];
     let commands = [&[BEGIN, amp, sum, reset, hold][..], &wires, &[Command::End]].concat();
     let told_wires = "a loop of wires into direct ports: sum -> amp.0, amp -> sum.0 (lines 9 and 12)";
-    let source = table(&["amp", "sum", "again", "keep"], &commands);
-    assert_eq!(told(&source), said(11, &format!("chime.table:9: {told_wires}: {put}")));
+    let input = table(&["amp", "sum", "again", "keep"], &commands);
+    assert_eq!(told(&input), said(11, &format!("chime.table:9: {told_wires}: {put}")));
     let commands = [&[BEGIN, amp, sum, reset, hold][..], &wires[..5], &[Command::End]].concat();
-    let source = table(&["amp", "sum", "again", "keep"], &commands);
+    let input = table(&["amp", "sum", "again", "keep"], &commands);
     let told_wires =
         "a loop of wires into direct ports: again -> sum.1, sum -> amp.0, amp -> again.1 (lines 8, 9 and 10)";
-    assert_eq!(told(&source), said(11, &format!("chime.table:8: {told_wires}: {put}")));
+    assert_eq!(told(&input), said(11, &format!("chime.table:8: {told_wires}: {put}")));
 }
 
 #[test]
 fn which_span_does_not_rise() {
     let commands = [BEGIN, part(DRIVE, 0, 0, 0), span(5), span(5), Command::End];
-    let source = table(&["drive"], &commands);
+    let input = table(&["drive"], &commands);
     assert_eq!(
-        told(&source),
+        told(&input),
         said(12, "chime.table:3: 5, span 2 of drive, is not above the one before, 5: sort the spans")
     );
     let commands = [BEGIN, part(DRIVE, 0, 0, 0), span(5), span(9), span(2), Command::End];
@@ -284,14 +286,14 @@ fn which_span_does_not_rise() {
 
 #[test]
 fn a_refusal_that_the_bytes_do_not_give_is_told_by_its_meaning() {
-    let source = stream(&[BEGIN, Command::End]);
+    let input = stream(&[BEGIN, Command::End]);
     for refusal in Refusal::all() {
-        let message = load_refused(&source, &RefusedAt { refusal, position: 99 });
+        let message = load_refused(&input, &RefusedAt { refusal, position: 99 });
         assert!(!message.is_empty() && !message.contains('\n'), "{refusal:?}");
     }
     let refused = RefusedAt { refusal: Refusal::Loop, position: 2 };
-    assert_eq!(load_refused(&source, &refused), Refusal::Loop.meaning());
-    assert_eq!(place_of(&source, &refused), 2);
+    assert_eq!(load_refused(&input, &refused), Refusal::Loop.meaning());
+    assert_eq!(place_of(&input, &refused), 2);
 }
 
 /// What is said of the score's end in these bytes behind a table of one part.
@@ -300,8 +302,8 @@ fn score_told(score: &[u8]) -> (u64, String) {
     let position = bytes.len();
     bytes.extend(score);
     let refused = Score::new(&bytes, position).find_map(Result::err).expect("the score ends well");
-    let source = Source::of_bytes("x.bin", bytes.clone());
-    (refused.refusal.number(), score_refused(&source, &refused))
+    let input = Input::of_bytes("x.bin", bytes.clone());
+    (refused.refusal.number(), score_refused(&input, &refused))
 }
 
 #[test]
@@ -316,22 +318,22 @@ fn what_ends_a_score() {
 }
 
 /// Plays wanted steps of a table, each of which is committed, and then one that is refused: the number and the message.
-fn barred(source: &Source, played: &[u64], wanted: u64) -> (u64, String) {
-    let mut model = load(&source.bytes).expect("the load is refused").model;
+fn barred(input: &Input, played: &[u64], wanted: u64) -> (u64, String) {
+    let mut model = load(&input.bytes).expect("the load is refused").model;
     for &step in played {
         model.advance(step).expect("an earlier step is refused");
     }
-    barred_at(source, &mut model, wanted)
+    barred_at(input, &mut model, wanted)
 }
 
 /// The same of a model.
-fn barred_at(source: &Source, model: &mut Model, wanted: u64) -> (u64, String) {
+fn barred_at(input: &Input, model: &mut Model, wanted: u64) -> (u64, String) {
     let refused = model.advance(wanted).expect_err("the step is committed");
-    (refused.refusal.number(), advance_refused(source, model, wanted, &refused))
+    (refused.refusal.number(), advance_refused(input, model, wanted, &refused))
 }
 
 /// Drives with these spans, all of one preference, with their names.
-fn drives(magnitude: u8, named: &[(&str, &[u32])]) -> Source {
+fn drives(magnitude: u8, named: &[(&str, &[u32])]) -> Input {
     let mut commands = vec![Command::Begin { magnitude }];
     for (_, spans) in named {
         commands.push(preferring(0, DRIVE, 0, 0, 0));
@@ -343,10 +345,10 @@ fn drives(magnitude: u8, named: &[(&str, &[u32])]) -> Source {
 
 #[test]
 fn a_wanted_step_that_is_none() {
-    let source = stream(&[BEGIN, part(0, 1, 0, 0), Command::End]);
-    assert_eq!(barred(&source, &[], 0), said(20, "a wanted step is 1 to 1000000000, not 0"));
+    let input = stream(&[BEGIN, part(0, 1, 0, 0), Command::End]);
+    assert_eq!(barred(&input, &[], 0), said(20, "a wanted step is 1 to 1000000000, not 0"));
     let far = "a wanted step is 1 to 1000000000, not 1000000001";
-    assert_eq!(barred(&source, &[], 1_000_000_001), said(20, far));
+    assert_eq!(barred(&input, &[], 1_000_000_001), said(20, far));
 }
 
 #[test]
@@ -364,24 +366,25 @@ fn which_parts_are_due_at_the_last_microstep() {
     ];
     let wires = [wire(0, 1, 0), wire(3, 1, 1), wire(1, 2, 0), wire(2, 3, 0), wire(1, 4, 0)];
     let ring = [&[BEGIN][..], &parts, &wires, &[Command::End]].concat();
-    let source = table(&["strike", "sum", "echo", "turn", "trial"], &ring);
-    let due = "echo (its input is present) and trial (a mark is pending) are due at microstep 999, behind which there is none";
-    assert_eq!(barred(&source, &[3; 1000], 3), said(21, due));
-    let mut model = load(&source.bytes).unwrap().model;
+    let input = table(&["strike", "sum", "echo", "turn", "trial"], &ring);
+    let due = "echo (its input is present) and trial (a mark is pending) are due at microstep 999, \
+               behind which there is none";
+    assert_eq!(barred(&input, &[3; 1000], 3), said(21, due));
+    let mut model = load(&input.bytes).unwrap().model;
     model.advance(3).unwrap();
     let answer = Answer { number: 21, step: 0, rounds: 1, revisions: 0, ceiling: 3 };
     let refused = Refused { refusal: Refusal::DueAtLastMicrostep, answer };
     let due = "strike (the tick is a multiple of its P) is due at microstep 0, behind which there is none";
-    assert_eq!(advance_refused(&source, &model, 3, &refused), due);
+    assert_eq!(advance_refused(&input, &model, 3, &refused), due);
 }
 
 #[test]
 fn drives_that_do_not_meet() {
-    let source = drives(0, &[("left", &[3, 8]), ("right", &[2, 5, 6])]);
+    let input = drives(0, &[("left", &[3, 8]), ("right", &[2, 5, 6])]);
     let apart =
         "no step of 1 to 9 is accepted by all: left accepts 3 or 8, right accepts 2 or 5 to 6; left and right do \
                  not meet";
-    assert_eq!(barred(&source, &[], 9), said(22, apart));
+    assert_eq!(barred(&input, &[], 9), said(22, apart));
     let higher =
         "no step of 1 to 7 is accepted by all: left accepts 3, right accepts 2 or 5; left and right do not meet; \
                   the least step that all accept is 8";
@@ -416,8 +419,9 @@ fn of_many_drives_those_that_matter() {
     assert_eq!(barred(&five, &[], 6), said(22, pair));
     let far: &[u32] = &[9];
     let six = drives(0, &[("a", far), ("b", far), ("c", far), ("d", far), ("e", far), ("f", far)]);
-    let none = "no step of 1 to 6 is accepted by all: a accepts none, its least step is 9; b accepts none, its least step is \
-                9; c accepts none, its least step is 9; d accepts none, its least step is 9; nor do 2 more parts; the least \
+    let none = "no step of 1 to 6 is accepted by all: a accepts none, its least step is 9; b accepts none, its least \
+                step is 9; c accepts none, its least step is 9; d accepts none, its least step is 9; nor do 2 more \
+                parts; the least \
                 step that all accept is 9";
     assert_eq!(barred(&six, &[], 6), said(22, none));
 }
@@ -434,8 +438,8 @@ fn a_drive_that_accepts_none() {
         "no step of 1 to 9 is accepted by all: left accepts none, its least step is 12; right accepts none, its least \
                 step is 15; the least step that all accept is 20";
     assert_eq!(barred(&drives(0, &[("left", &[12, 20]), ("right", &[15, 20])]), &[], 9), said(22, none));
-    let none =
-        "no step of 1 to 9 is accepted by all: left accepts none, its least step is 12; right accepts 2; the least step \
+    let none = "no step of 1 to 9 is accepted by all: left accepts none, its least step is 12; right accepts 2; \
+         the least step \
                 that all accept is 20";
     assert_eq!(barred(&drives(0, &[("left", &[12, 20]), ("right", &[2, 20])]), &[], 9), said(22, none));
     // At tick 9 the drive's own tick of ten ends with the next step, and then it grows by at least 2.
@@ -450,23 +454,23 @@ fn a_drive_that_accepts_none() {
 
 #[test]
 fn a_drive_so_far_from_its_span_that_no_step_says_it() {
-    let source = drives(15, &[("left", &[1_000_000_000])]);
-    let model = load(&source.bytes).unwrap().model;
+    let input = drives(15, &[("left", &[1_000_000_000])]);
+    let model = load(&input.bytes).unwrap().model;
     let (table, mut state) = (model.table().to_vec(), model.state().to_vec());
     state[0] = 999_999_999_999_999;
     let mut model = Model::from_words(table, state);
     let none = "no step of 1 to 9 is accepted by all: left accepts none that can be wanted";
-    assert_eq!(barred_at(&source, &mut model, 9), said(22, none));
+    assert_eq!(barred_at(&input, &mut model, 9), said(22, none));
 }
 
 #[test]
 fn a_square_or_pulse_that_ends_steps() {
     let parts =
         [part(SQUARE, 1, 2, 7), part(PULSE, 1, 0, 4), part(DRIVE, 0, 0, 0), span(6), span(9), part(PULSE, 1, 0, 4)];
-    let source = table(&["turn", "strike", "hammer", "too"], &[&[BEGIN][..], &parts, &[Command::End]].concat());
+    let input = table(&["turn", "strike", "hammer", "too"], &[&[BEGIN][..], &parts, &[Command::End]].concat());
     let apart =
         "no step of 1 to 8 is accepted by all: strike accepts 1 to 4, hammer accepts 6; strike and hammer do not meet";
-    assert_eq!(barred(&source, &[], 8), said(22, apart));
+    assert_eq!(barred(&input, &[], 8), said(22, apart));
 }
 
 #[test]
@@ -475,41 +479,43 @@ fn a_search_that_was_revised() {
     let parts =
         [part(0, 2, 0, 0), part(INTEGRATOR, -7, 0, 0), part(DETECTOR, 0, 0, 1), part(DRIVE, 0, 0, 0), span(4), span(8)];
     let wires = [wire(0, 1, 0), wire(1, 2, 0)];
-    let source = table(&["two", "fall", "trial", "hammer"], &[&[BEGIN][..], &parts, &wires, &[Command::End]].concat());
+    let input = table(&["two", "fall", "trial", "hammer"], &[&[BEGIN][..], &parts, &wires, &[Command::End]].concat());
     let twice =
-        "no step of 1 to 2 is accepted by all (after 2 revisions, as trial objected, 2 of the wanted 12 are left): hammer accepts none, \
+        "no step of 1 to 2 is accepted by all (after 2 revisions, as trial objected, 2 of the wanted 12 are left): \
+         hammer accepts none, \
                  its least step is 4";
-    assert_eq!(barred(&source, &[], 12), said(22, twice));
+    assert_eq!(barred(&input, &[], 12), said(22, twice));
     let once =
-        "no step of 1 to 2 is accepted by all (after 1 revision, as trial objected, 2 of the wanted 5 are left): hammer accepts none, its \
+        "no step of 1 to 2 is accepted by all (after 1 revision, as trial objected, 2 of the wanted 5 are left): \
+         hammer accepts none, its \
                 least step is 4";
-    assert_eq!(barred(&source, &[], 5), said(22, once));
+    assert_eq!(barred(&input, &[], 5), said(22, once));
 }
 
 /// A table of one constant, and its model at a tick.
-fn constant_at(t: u64) -> (Source, Model) {
-    let source = stream(&[BEGIN, part(0, 1, 0, 0), Command::End]);
-    let model = load(&source.bytes).unwrap().model;
+fn constant_at(t: u64) -> (Input, Model) {
+    let input = stream(&[BEGIN, part(0, 1, 0, 0), Command::End]);
+    let model = load(&input.bytes).unwrap().model;
     let (table, mut state) = (model.table().to_vec(), model.state().to_vec());
     state[0] = t;
     state[dozhumek::HEAD] = t;
-    (source, Model::from_words(table, state))
+    (input, Model::from_words(table, state))
 }
 
 #[test]
 fn how_much_is_left_before_the_last_tick() {
-    let (source, mut model) = constant_at(999_999_999_999_999_997);
+    let (input, mut model) = constant_at(999_999_999_999_999_997);
     let past = "a step of 5 from tick 999999999999999997 may lead past tick 10^18: at most 3 can be wanted";
-    assert_eq!(barred_at(&source, &mut model, 5), said(23, past));
-    let (source, mut model) = constant_at(1_000_000_000_000_000_000);
+    assert_eq!(barred_at(&input, &mut model, 5), said(23, past));
+    let (input, mut model) = constant_at(1_000_000_000_000_000_000);
     let past = "a step of 1 leads past tick 10^18, which is reached: no step is left";
-    assert_eq!(barred_at(&source, &mut model, 1), said(23, past));
+    assert_eq!(barred_at(&input, &mut model, 1), said(23, past));
 }
 
 #[test]
 fn a_model_that_is_not_sound() {
-    let (source, _) = constant_at(0);
+    let (input, _) = constant_at(0);
     let mut model = Model::from_words(Vec::new(), Vec::new());
     let unsound = "the model is not sound; any sound model is accepted, altered or not";
-    assert_eq!(barred_at(&source, &mut model, 1), said(24, unsound));
+    assert_eq!(barred_at(&input, &mut model, 1), said(24, unsound));
 }

@@ -1,33 +1,34 @@
 //! Why an advance was refused.
 use super::words::{counted, listed, steps};
 use crate::accepted::{accepted, accepted_by_all, due, meet, numbers, period, Steps};
-use crate::source::Source;
+use crate::input::Input;
 use dozhumek::{Kind, Model, Refusal, Refused, LAST_TICK, MOST_WANTED};
 
 /// How many parts are told that bound a search, whether they matter or not, and how many pairs of parts.
 const TOLD_PARTS: usize = 4;
 const TOLD_PAIRS: usize = 3;
 
-/// Why an advance of a model by a wanted step was refused, in one line. The model is the one that the call was given, and kept.
-pub fn advance_refused(source: &Source, model: &Model, wanted: u64, refused: &Refused) -> String {
+/// Why an advance of a model by a wanted step was refused, in one line. The model is the one that the call was given,
+/// and kept.
+pub fn advance_refused(input: &Input, model: &Model, wanted: u64, refused: &Refused) -> String {
     match refused.refusal {
         Refusal::WantedOutOfRange => format!("a wanted step is 1 to {MOST_WANTED}, not {wanted}"),
-        Refusal::DueAtLastMicrostep => still_due(source, model),
-        Refusal::NoStepAccepted => Search::of(source, model, wanted, refused).told(),
+        Refusal::DueAtLastMicrostep => still_due(input, model),
+        Refusal::NoStepAccepted => Search::of(input, model, wanted, refused).told(),
         Refusal::PastLastTick => past_last_tick(model, wanted),
         other => other.meaning().to_string(),
     }
 }
 
 /// The parts that are due, and why each is.
-fn still_due(source: &Source, model: &Model) -> String {
+fn still_due(input: &Input, model: &Model) -> String {
     let told = |number: usize| {
         let why = match model.part(number).map(|part| part.kind) {
             Some(Kind::Delay) => "its input is present",
             Some(Kind::Detector) => "a mark is pending",
             _ => "the tick is a multiple of its P",
         };
-        format!("{} ({why})", source.name(number))
+        format!("{} ({why})", input.name(number))
     };
     let told: Vec<String> = due(model).into_iter().map(told).collect();
     let are = if told.len() == 1 { "is" } else { "are" };
@@ -45,7 +46,7 @@ fn past_last_tick(model: &Model, wanted: u64) -> String {
 
 /// A search for a step that found none: where, and what each part that bounds it accepts within the last ceiling.
 struct Search<'a> {
-    source: &'a Source,
+    input: &'a Input,
     model: &'a Model,
     wanted: u64,
     revisions: u64,
@@ -55,9 +56,9 @@ struct Search<'a> {
 
 impl<'a> Search<'a> {
     /// The search of a refused advance.
-    fn of(source: &'a Source, model: &'a Model, wanted: u64, refused: &Refused) -> Search<'a> {
+    fn of(input: &'a Input, model: &'a Model, wanted: u64, refused: &Refused) -> Search<'a> {
         let (revisions, ceiling) = (refused.answer.revisions, refused.answer.ceiling);
-        Search { source, model, wanted, revisions, ceiling, bounds: bounds(model, ceiling) }
+        Search { input, model, wanted, revisions, ceiling, bounds: bounds(model, ceiling) }
     }
 
     /// The whole message.
@@ -87,13 +88,14 @@ impl<'a> Search<'a> {
         }
     }
 
-    /// The detectors one of which objected to the last step that was tried: it was twice the ceiling, or one more, and above their P.
+    /// The detectors one of which objected to the last step that was tried: it was twice the ceiling, or one more, and
+    /// above their P.
     fn objecting(&self) -> String {
         let least = 2 * u128::from(self.ceiling);
         let parts = numbers(self.model).filter_map(|number| Some((number, self.model.part(number)?)));
         let detectors =
             parts.filter(|(_, part)| part.kind == Kind::Detector && part.port0.is_some() && period(part) <= least);
-        let names: Vec<String> = detectors.map(|(number, _)| self.source.name(number)).collect();
+        let names: Vec<String> = detectors.map(|(number, _)| self.input.name(number)).collect();
         match names.len() {
             0 => "a detector".to_string(),
             1 => names[0].clone(),
@@ -112,9 +114,10 @@ impl<'a> Search<'a> {
         told.chain(more).collect::<Vec<_>>().join("; ")
     }
 
-    /// What is said of a part: the steps within the ceiling that it accepts, or where there are none the least above it.
+    /// What is said of a part: the steps within the ceiling that it accepts, or where there are none the least above
+    /// it.
     fn one(&self, part: usize) -> String {
-        let (name, own) = (self.source.name(part), accepted(self.model, part, self.ceiling));
+        let (name, own) = (self.input.name(part), accepted(self.model, part, self.ceiling));
         if !own.is_empty() {
             return format!("{name} accepts {}", steps(&own));
         }
@@ -131,7 +134,8 @@ impl<'a> Search<'a> {
         self.model.part(part).is_some_and(|part| part.span_count > 0)
     }
 
-    /// What each part accepts, where each accepts some steps, and which do not meet. Of many parts those are told that matter.
+    /// What each part accepts, where each accepts some steps, and which do not meet. Of many parts those are told that
+    /// matter.
     fn together(&self) -> String {
         let mut pairs = apart(&self.bounds);
         let more = pairs.len().saturating_sub(TOLD_PAIRS);
@@ -143,20 +147,20 @@ impl<'a> Search<'a> {
                 self.bounds.iter().filter(|(part, _)| pairs.iter().any(|pair| pair.contains(part))).cloned().collect()
             }
         };
-        let accepting = told.iter().map(|(part, own)| format!("{} accepts {}", self.source.name(*part), steps(own)));
+        let accepting = told.iter().map(|(part, own)| format!("{} accepts {}", self.input.name(*part), steps(own)));
         let accepting = accepting.collect::<Vec<_>>().join(", ");
         if pairs.is_empty() {
             return format!("{accepting}; each two of these meet, but not all {}", told.len());
         }
         let mut pairs: Vec<String> =
-            pairs.iter().map(|pair| pair.map(|part| self.source.name(part)).join(" and ")).collect();
+            pairs.iter().map(|pair| pair.map(|part| self.input.name(part)).join(" and ")).collect();
         pairs.extend((more > 0).then(|| counted(more as u64, "more pair")));
         let others: String = pairs[1..].iter().map(|pair| format!(", nor do {pair}")).collect();
         format!("{accepting}; {} do not meet{others}", pairs[0])
     }
 
-    /// The least step that all accept, where it can be wanted and is not told yet. It lies above the ceiling, and after a
-    /// revision a detector has objected to such a step already.
+    /// The least step that all accept, where it can be wanted and is not told yet. It lies above the ceiling, and after
+    /// a revision a detector has objected to such a step already.
     fn least_of_all(&self, alone: &[usize]) -> String {
         let least = accepted_by_all(self.model, MOST_WANTED).least();
         let told = alone.len() == 1 && accepted(self.model, alone[0], MOST_WANTED).least() == least;
@@ -167,8 +171,9 @@ impl<'a> Search<'a> {
     }
 }
 
-/// The parts that bound a search up to a ceiling, with the steps that they accept: the drives, and of the squares and pulses that do
-/// not accept all, each of which accepts the steps up to some one, the first of those that accept the fewest.
+/// The parts that bound a search up to a ceiling, with the steps that they accept: the drives, and of the squares and
+/// pulses that do not accept all, each of which accepts the steps up to some one, the first of those that accept the
+/// fewest.
 fn bounds(model: &Model, ceiling: u64) -> Vec<(usize, Steps)> {
     let all = Steps::all(ceiling);
     let is_drive = |part: usize| model.part(part).is_some_and(|part| part.kind == Kind::Drive);

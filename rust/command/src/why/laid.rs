@@ -1,7 +1,7 @@
 //! What stands in a stream before the command that a load refused: the parts with their spans, and the wires.
 use crate::command::{commands, Command};
+use crate::input::Input;
 use crate::kinds::{of_number, KindWords};
-use crate::source::Source;
 
 /// A part, with the position of its command.
 #[derive(Clone, Debug)]
@@ -31,7 +31,7 @@ pub struct LaidWire {
 
 /// What stands before a position of a stream, and the stream.
 pub struct Laid<'a> {
-    pub source: &'a Source,
+    pub input: &'a Input,
     pub position: usize,
     pub begin: Option<(usize, u8)>,
     pub parts: Vec<LaidPart>,
@@ -41,10 +41,10 @@ pub struct Laid<'a> {
 
 impl<'a> Laid<'a> {
     /// What stands before a position, and before End.
-    pub fn before(source: &'a Source, position: usize) -> Laid<'a> {
-        let position = position.min(source.bytes.len());
-        let mut laid = Laid { source, position, begin: None, parts: Vec::new(), wires: Vec::new(), last: None };
-        for (at, command) in commands(&source.bytes[..position]).take_while(|(_, command)| *command != Command::End) {
+    pub fn before(input: &'a Input, position: usize) -> Laid<'a> {
+        let position = position.min(input.bytes.len());
+        let mut laid = Laid { input, position, begin: None, parts: Vec::new(), wires: Vec::new(), last: None };
+        for (at, command) in commands(&input.bytes[..position]).take_while(|(_, command)| *command != Command::End) {
             laid.take(at, command);
             laid.last = Some((at, command));
         }
@@ -73,7 +73,7 @@ impl<'a> Laid<'a> {
 
     /// The bytes at the position and behind it.
     pub fn behind(&self) -> &'a [u8] {
-        &self.source.bytes[self.position..]
+        &self.input.bytes[self.position..]
     }
 
     /// The command at the position; none where it is unknown or cut.
@@ -83,6 +83,6 @@ impl<'a> Laid<'a> {
 
     /// The name of a part.
     pub fn name(&self, part: usize) -> String {
-        self.source.name(part)
+        self.input.name(part)
     }
 }

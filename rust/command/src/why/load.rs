@@ -3,13 +3,13 @@ use super::laid::Laid;
 use super::words::command;
 use super::{operands, wires};
 use crate::command::Command;
-use crate::input::LIMIT;
-use crate::source::Source;
+use crate::files::LIMIT;
+use crate::input::Input;
 use dozhumek::{Refusal, RefusedAt};
 
 /// Why a load was refused, in one line.
-pub fn load_refused(source: &Source, refused: &RefusedAt) -> String {
-    let laid = Laid::before(source, refused.position);
+pub fn load_refused(input: &Input, refused: &RefusedAt) -> String {
+    let laid = Laid::before(input, refused.position);
     let told = match refused.refusal {
         Refusal::Cut => cut(&laid),
         Refusal::UnknownCommand => unknown(&laid),
@@ -27,10 +27,10 @@ pub fn load_refused(source: &Source, refused: &RefusedAt) -> String {
     told.unwrap_or_else(|| refused.refusal.meaning().to_string())
 }
 
-/// The position whose line the message begins with: that of the refused command, but where End is refused for a part's P or for
-/// a loop, that of the part, or of a wire of the loop.
-pub fn place_of(source: &Source, refused: &RefusedAt) -> usize {
-    let laid = Laid::before(source, refused.position);
+/// The position whose line the message begins with: that of the refused command, but where End is refused for a part's
+/// P or for a loop, that of the part, or of a wire of the loop.
+pub fn place_of(input: &Input, refused: &RefusedAt) -> usize {
+    let laid = Laid::before(input, refused.position);
     let place = match refused.refusal {
         Refusal::PeriodTooLong => operands::first_too_long(&laid),
         Refusal::Loop => wires::first_of_a_loop(&laid),
@@ -40,11 +40,11 @@ pub fn place_of(source: &Source, refused: &RefusedAt) -> usize {
 }
 
 /// Why a command of the score in a stream's bytes was refused, in one line.
-pub fn score_refused(source: &Source, refused: &RefusedAt) -> String {
-    let behind = source.bytes.get(refused.position..).unwrap_or(&[]);
+pub fn score_refused(input: &Input, refused: &RefusedAt) -> String {
+    let behind = input.bytes.get(refused.position..).unwrap_or(&[]);
     let byte = behind.first().copied().unwrap_or(0);
     match (refused.refusal, command(byte)) {
-        (Refusal::Cut, Some((name, length))) => cut_command(source, name, behind.len(), length),
+        (Refusal::Cut, Some((name, length))) => cut_command(input, name, behind.len(), length),
         (Refusal::UnknownCommand, _) => {
             format!("{byte:02X} is no command: behind End there are wanted steps, 06, alone")
         }
@@ -56,8 +56,8 @@ pub fn score_refused(source: &Source, refused: &RefusedAt) -> String {
 }
 
 /// A command of which only some bytes are there.
-fn cut_command(source: &Source, name: &str, there: usize, length: usize) -> String {
-    if source.bytes.len() == LIMIT {
+fn cut_command(input: &Input, name: &str, there: usize, length: usize) -> String {
+    if input.bytes.len() == LIMIT {
         return format!("the {LIMIT} bytes that are read end inside {name}");
     }
     let missing = length.saturating_sub(there);
@@ -69,7 +69,7 @@ fn cut_command(source: &Source, name: &str, there: usize, length: usize) -> Stri
 fn cut(laid: &Laid) -> Option<String> {
     match (laid.behind().first(), laid.last) {
         (Some(&byte), _) => {
-            command(byte).map(|(name, length)| cut_command(laid.source, name, laid.behind().len(), length))
+            command(byte).map(|(name, length)| cut_command(laid.input, name, laid.behind().len(), length))
         }
         (None, None) => Some("the stream is empty: Begin is missing".to_string()),
         (None, Some(last)) => Some(format!("the stream ends behind {}: End is missing", told(laid, last))),
@@ -86,7 +86,7 @@ fn told(laid: &Laid, (position, command): (usize, Command)) -> String {
         Command::End => "End".to_string(),
         Command::Want { .. } => "a wanted step".to_string(),
     };
-    format!("{what} ({})", laid.source.mention(position))
+    format!("{what} ({})", laid.input.mention(position))
 }
 
 /// A byte that begins no command.
@@ -94,7 +94,10 @@ fn unknown(laid: &Laid) -> Option<String> {
     let byte = laid.behind().first()?;
     Some(match laid.last {
         None if byte.is_ascii_graphic() || byte.is_ascii_whitespace() || *byte == 0xEF => {
-            format!("{byte:02X} is no command: a table begins with Begin, 01. Is this a text table (--table) or hexadecimal text (--hex)?")
+            format!(
+                "{byte:02X} is no command: a table begins with Begin, 01. Is this a text table (--table) or \
+                 hexadecimal text (--hex)?"
+            )
         }
         None => format!("{byte:02X} is no command: a table begins with Begin, 01"),
         Some(last) => format!("{byte:02X} is no command, or {} has too few or too many bytes", told(laid, last)),
@@ -106,7 +109,7 @@ fn out_of_place(laid: &Laid) -> Option<String> {
     let (name, _) = command(*laid.behind().first()?)?;
     match (laid.behind()[0], laid.begin, laid.last) {
         (6, _, _) => Some("a wanted step comes before End, and belongs behind it".to_string()),
-        (1, Some((first, _)), _) => Some(format!("Begin is there already ({})", laid.source.mention(first))),
+        (1, Some((first, _)), _) => Some(format!("Begin is there already ({})", laid.input.mention(first))),
         (_, None, _) => Some(format!("{name} comes before Begin, which stands first")),
         (3, _, Some(last)) => {
             Some(format!("a span stands behind its drive or the drive's span before, not behind {}", told(laid, last)))

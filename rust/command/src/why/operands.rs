@@ -1,8 +1,8 @@
 //! Operands that are out of their range, and those P that are too long.
 use super::laid::{Laid, LaidPart};
 use crate::command::{Command, NO_PREFERENCE};
+use crate::input::Form;
 use crate::kinds::{of_number, KIND_WORDS};
-use crate::source::Form;
 use dozhumek::LAST_TICK;
 
 /// The largest value, p and span.
@@ -13,12 +13,12 @@ const LARGEST_MAGNITUDE: u8 = 15;
 pub fn out_of_range(laid: &Laid) -> Option<String> {
     let wrong = match laid.command()? {
         Command::Begin { magnitude } => {
-            let what = if laid.source.form == Form::Table { "tick" } else { "the default magnitude" };
+            let what = if laid.input.form == Form::Table { "tick" } else { "the default magnitude" };
             vec![outside(what, magnitude.into(), 0, LARGEST_MAGNITUDE.into())]
         }
         Command::Part { kind, preference, a, b, p } => {
             let name = laid.name(laid.parts.len());
-            let preference = wrong_preference(&name, preference, laid.source.form);
+            let preference = wrong_preference(&name, preference, laid.input.form);
             preference.into_iter().chain(wrong_operands(&name, kind, [a.into(), b.into(), p.into()])).collect()
         }
         Command::Span { ticks } => {
@@ -76,7 +76,7 @@ fn long<'a>(laid: &'a Laid) -> impl Iterator<Item = (usize, &'a LaidPart, u32)> 
 /// Each P that is above 10^18.
 pub fn too_long(laid: &Laid) -> Option<String> {
     let told = long(laid).map(|(number, part, power)| {
-        let (name, place) = (laid.name(number), laid.source.mention(part.position));
+        let (name, place) = (laid.name(number), laid.input.mention(part.position));
         format!("P of {name} ({place}) is {} × 10^{power}, above 10^18", part.p)
     });
     let told: Vec<String> = told.collect();

@@ -2,7 +2,7 @@
 use super::laid::{Laid, LaidWire};
 use super::words::listed;
 use crate::command::Command;
-use crate::source::Form;
+use crate::input::Form;
 
 /// The parts and the port that the wire at the position names and that are not there.
 pub fn not_there(laid: &Laid) -> Option<String> {
@@ -20,13 +20,13 @@ fn missing_part(laid: &Laid, part: usize) -> Option<String> {
     if part < parts {
         return None;
     }
-    let all = Laid::before(laid.source, laid.source.bytes.len());
+    let all = Laid::before(laid.input, laid.input.bytes.len());
     Some(match (all.parts.get(part), parts) {
         (Some(later), _) => {
             format!(
                 "part {part} is not there yet: {} comes later ({})",
                 laid.name(part),
-                laid.source.mention(later.position)
+                laid.input.mention(later.position)
             )
         }
         (None, 0) => format!("part {part} is not there: no part is"),
@@ -53,7 +53,7 @@ fn missing_port(laid: &Laid, receiver: usize, port: u8) -> Option<String> {
 pub fn already_wired(laid: &Laid) -> Option<String> {
     let Command::Wire { receiver, port, .. } = laid.command()? else { return None };
     let earlier = laid.wires.iter().find(|wire| wire.receiver == usize::from(receiver) && wire.port == port)?;
-    let place = laid.source.mention(earlier.position);
+    let place = laid.input.mention(earlier.position);
     Some(format!("{}.{port} is already wired ({place})", laid.name(receiver.into())))
 }
 
@@ -76,7 +76,7 @@ pub fn first_of_a_loop(laid: &Laid) -> Option<usize> {
 /// Where the wires of a loop stand: `lines 8 and 9`.
 fn places(laid: &Laid, wires: &[LaidWire]) -> String {
     let mut positions: Vec<usize> = wires.iter().map(|wire| wire.position).collect();
-    let mut lines: Vec<usize> = positions.iter().filter_map(|&position| laid.source.line(position)).collect();
+    let mut lines: Vec<usize> = positions.iter().filter_map(|&position| laid.input.line(position)).collect();
     positions.sort_unstable();
     lines.sort_unstable();
     lines.dedup();
@@ -84,15 +84,15 @@ fn places(laid: &Laid, wires: &[LaidWire]) -> String {
         let many = if numbers.len() == 1 { "" } else { "s" };
         format!("{what}{many} {}", listed(&numbers.iter().map(usize::to_string).collect::<Vec<_>>(), "and"))
     };
-    match (laid.source.form, lines.is_empty()) {
+    match (laid.input.form, lines.is_empty()) {
         (Form::Table, false) => counted("line", &lines),
         (_, false) => format!("{}, {}", counted("byte", &positions), counted("line", &lines)),
         (_, true) => counted("byte", &positions),
     }
 }
 
-/// A shortest loop of wires into direct ports, each wire into the part from which the next one comes. It begins with the one
-/// of its wires that stands first.
+/// A shortest loop of wires into direct ports, each wire into the part from which the next one comes. It begins with
+/// the one of its wires that stands first.
 fn a_loop(laid: &Laid) -> Option<Vec<LaidWire>> {
     let is_direct = |wire: &&LaidWire| {
         let words = laid.parts.get(wire.receiver).and_then(|part| part.words());

@@ -3,24 +3,24 @@
 use dozhumek::{load, Loaded, RefusedAt, Score};
 use front::columns::Columns;
 use front::explain::explain;
-use front::input::LIMIT;
+use front::files::LIMIT;
+use front::input::{Input, Play};
+use front::messages::Messages;
 use front::play::{entries, play, score_line, Entry, Rehearsal};
-use front::source::{Play, Source};
-use front::told::Told;
 use front::{hex, reader, writer};
 use std::io::Write;
 
 /// A teller to whom nobody listens.
-fn silent() -> Told {
-    Told::to(Box::new(std::io::sink()))
+fn silent() -> Messages {
+    Messages::to(Box::new(std::io::sink()))
 }
 
 /// The lines of a stream have to be those that the second implementation prints for it.
 pub fn printed(stream: &[u8]) -> Result<(), String> {
-    let source = Source::of_bytes("stream", stream[..stream.len().min(LIMIT)].to_vec());
+    let input = Input::of_bytes("stream", stream[..stream.len().min(LIMIT)].to_vec());
     let (mut lines, mut due): (Vec<u8>, Vec<u8>) = (Vec::new(), Vec::new());
-    let result = match load(&source.bytes) {
-        Ok(loaded) => play(&source, loaded, Columns::All, None, &mut lines, &mut silent()).map(|_| ()),
+    let result = match load(&input.bytes) {
+        Ok(loaded) => play(&input, loaded, Columns::All, None, &mut lines, &mut silent()).map(|_| ()),
         Err(refused) => score_line(&refused, &mut lines),
     };
     result.and_then(|()| second::rehearse::rehearse(stream, &mut due)).map_err(|error| error.to_string())?;
@@ -34,9 +34,9 @@ pub fn printed(stream: &[u8]) -> Result<(), String> {
 /// text.
 pub fn explained(stream: &[u8]) -> Result<(), String> {
     let stream = &stream[..stream.len().min(LIMIT)];
-    let source = Source::of_bytes("stream", stream.to_vec());
+    let input = Input::of_bytes("stream", stream.to_vec());
     let mut text = Vec::new();
-    explain(&source, None, &mut text, &mut silent()).map_err(|error| error.to_string())?;
+    explain(&input, None, &mut text, &mut silent()).map_err(|error| error.to_string())?;
     // Hexadecimal text of no bytes is none.
     let again = hex::read(&text).map_or_else(|fault| (Vec::new(), fault), |again| (again.bytes, String::new()));
     match again.0 == stream {
@@ -47,14 +47,14 @@ pub fn explained(stream: &[u8]) -> Result<(), String> {
 
 /// The text of an accepted stream, read again, has to give the saved table, the score, the same text and the same
 /// lines.
-pub fn written(source: &Source, loaded: &Loaded) -> Result<(), String> {
-    let written = writer::write(source, loaded).map_err(|refusal| format!("the text is refused: {refusal}"))?;
+pub fn written(input: &Input, loaded: &Loaded) -> Result<(), String> {
+    let written = writer::write(input, loaded).map_err(|refusal| format!("the text is refused: {refusal}"))?;
     let again = reader::read("stream.table", written.text.as_bytes())
         .map_err(|faults| format!("the text is not read again: {faults:?}\n{}", written.text))?;
     if again.bytes != loaded.model.save().map_err(|refusal| refusal.to_string())? {
         return Err(format!("the text gives other bytes:\n{}", written.text));
     }
-    if (wanted(&again), written.refused) != score(source, loaded) {
+    if (wanted(&again), written.refused) != score(input, loaded) {
         return Err(format!("the text gives another score:\n{}", written.text));
     }
     let loaded_again = load(&again.bytes).map_err(|refused| format!("the text's bytes are refused: {refused}"))?;
@@ -62,15 +62,15 @@ pub fn written(source: &Source, loaded: &Loaded) -> Result<(), String> {
     if twice.text != written.text || twice.refused.is_some() {
         return Err(format!("the text of the text is another:\n{}\n{}", written.text, twice.text));
     }
-    match lines(source, loaded)? == lines(&again, &loaded_again)? {
+    match lines(input, loaded)? == lines(&again, &loaded_again)? {
         true => Ok(()),
         false => Err("a rehearsal of the text prints other lines".to_string()),
     }
 }
 
 /// The wanted steps of a text table, one by one.
-fn wanted(source: &Source) -> Vec<u32> {
-    let steps = source.score.iter().flat_map(|&(_, play)| match play {
+fn wanted(input: &Input) -> Vec<u32> {
+    let steps = input.score.iter().flat_map(|&(_, play)| match play {
         Play::Want { step, times } => vec![step; times as usize],
         Play::Until { .. } => vec![],
     });
@@ -78,16 +78,16 @@ fn wanted(source: &Source) -> Vec<u32> {
 }
 
 /// The wanted steps of a stream, and what ends them.
-fn score(source: &Source, loaded: &Loaded) -> (Vec<u32>, Option<RefusedAt>) {
-    let (steps, refused): (Vec<_>, Vec<_>) = Score::new(&source.bytes, loaded.position).partition(Result::is_ok);
+fn score(input: &Input, loaded: &Loaded) -> (Vec<u32>, Option<RefusedAt>) {
+    let (steps, refused): (Vec<_>, Vec<_>) = Score::new(&input.bytes, loaded.position).partition(Result::is_ok);
     (steps.into_iter().flatten().collect(), refused.into_iter().find_map(Result::err))
 }
 
 /// The lines of a rehearsal. Where a byte ends the score of a stream there is none of it, as a text has no such byte.
-fn lines(source: &Source, loaded: &Loaded) -> Result<Vec<u8>, String> {
+fn lines(input: &Input, loaded: &Loaded) -> Result<Vec<u8>, String> {
     let mut out: Vec<u8> = Vec::new();
-    let mut rehearsal = Rehearsal { source, model: loaded.model.clone(), columns: Columns::All, refused: false };
-    for entry in entries(source, loaded.position, None) {
+    let mut rehearsal = Rehearsal { input, model: loaded.model.clone(), columns: Columns::All, refused: false };
+    for entry in entries(input, loaded.position, None) {
         let Ok(Entry { play: Play::Want { step, times }, .. }) = entry else { break };
         for _ in 0..times {
             let answer = rehearsal.advance(step.into()).unwrap_or_else(|(refused, _)| refused.answer);

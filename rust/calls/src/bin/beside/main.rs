@@ -18,25 +18,25 @@ use cases::random::Random;
 use cases::{generate, hexadecimal, options, swept};
 use coverage::Coverage;
 use dozhumek::{load, Refusal, RefusedAt, Score};
-use front::source::Source;
+use front::input::Input;
 use front::why::{load_refused, place_of, score_refused};
 use std::process::ExitCode;
 use std::time::Instant;
 
 /// Tries a stream.
 fn try_stream(stream: &[u8], random: &mut Random, coverage: &mut Coverage) -> Result<(), String> {
-    let source = Source::of_bytes("stream", stream.to_vec());
+    let input = Input::of_bytes("stream", stream.to_vec());
     coverage.streams += 1;
     again::printed(stream)?;
     again::explained(stream)?;
     let loaded = match load(stream) {
         Ok(loaded) => loaded,
         Err(refused) => {
-            let place = place_of(&source, &refused);
+            let place = place_of(&input, &refused);
             if place > refused.position {
                 return Err(format!("the place {place} is behind the refused command, at {}", refused.position));
             }
-            return coverage.told(refused.refusal, &load_refused(&source, &refused));
+            return coverage.told(refused.refusal, &load_refused(&input, &refused));
         }
     };
     coverage.accepted += 1;
@@ -44,18 +44,18 @@ fn try_stream(stream: &[u8], random: &mut Random, coverage: &mut Coverage) -> Re
     for wanted in Score::new(stream, loaded.position) {
         match wanted {
             Ok(wanted) => score.push(wanted.into()),
-            Err(refused) => coverage.told(refused.refusal, &score_refused(&source, &refused))?,
+            Err(refused) => coverage.told(refused.refusal, &score_refused(&input, &refused))?,
         }
     }
     for refusal in [Refusal::Loop, Refusal::PeriodTooLong] {
         // Of a table that is accepted there is nothing to be told but the meaning.
         let end = RefusedAt { refusal, position: loaded.position - 1 };
-        if load_refused(&source, &end) != refusal.meaning() {
-            return Err(format!("an accepted table is told to be refused: {}", load_refused(&source, &end)));
+        if load_refused(&input, &end) != refusal.meaning() {
+            return Err(format!("an accepted table is told to be refused: {}", load_refused(&input, &end)));
         }
     }
-    steps::play(&source, loaded.model.clone(), &score, random, coverage)?;
-    again::written(&source, &loaded)
+    steps::play(&input, loaded.model.clone(), &score, random, coverage)?;
+    again::written(&input, &loaded)
 }
 
 struct Arguments {

@@ -3,27 +3,27 @@ use crate::coverage::Coverage;
 use cases::random::Random;
 use dozhumek::{Answer, Model, Refusal, Refused, HEAD, LAST_MICROSTEP, LAST_TICK, MOST_WANTED, STATE_RECORD};
 use front::accepted::{accepted, accepted_by_all, due, meet, numbers, period, Steps};
-use front::source::Source;
+use front::input::Input;
 use front::why::advance_refused;
 
 /// Plays the score of a model, then wanted steps at random, and then some from ticks at random.
 pub fn play(
-    source: &Source,
+    input: &Input,
     mut model: Model,
     score: &[u64],
     random: &mut Random,
     coverage: &mut Coverage,
 ) -> Result<(), String> {
     for &wanted in score {
-        advance(source, &mut model, wanted, coverage)?;
+        advance(input, &mut model, wanted, coverage)?;
     }
     for _ in 0..random.below(6) {
-        advance(source, &mut model, random.of_any_size(MOST_WANTED), coverage)?;
+        advance(input, &mut model, random.of_any_size(MOST_WANTED), coverage)?;
     }
     for _ in 0..random.below(4) {
         model = moved(&model, random);
         for _ in 0..1 + random.below(4) {
-            advance(source, &mut model, random.of_any_size(MOST_WANTED), coverage)?;
+            advance(input, &mut model, random.of_any_size(MOST_WANTED), coverage)?;
         }
     }
     Ok(())
@@ -52,7 +52,7 @@ fn moved(model: &Model, random: &mut Random) -> Model {
 }
 
 /// Makes an advance, whose answer has to be the one that the due parts and the accepted steps give.
-fn advance(source: &Source, model: &mut Model, wanted: u64, coverage: &mut Coverage) -> Result<(), String> {
+fn advance(input: &Input, model: &mut Model, wanted: u64, coverage: &mut Coverage) -> Result<(), String> {
     let before = model.clone();
     let agrees = match model.advance(wanted) {
         Ok(answer) => committed(&before, &answer, coverage),
@@ -60,7 +60,7 @@ fn advance(source: &Source, model: &mut Model, wanted: u64, coverage: &mut Cover
             if model.state() != before.state() {
                 return Err("a refused advance moves the model".to_string());
             }
-            let message = advance_refused(source, model, wanted, &refused);
+            let message = advance_refused(input, model, wanted, &refused);
             coverage.told(refused.refusal, &message)?;
             if refused.refusal == Refusal::NoStepAccepted {
                 count_barred(&before, &refused, &message, coverage)?;
