@@ -20,7 +20,7 @@ static void check(const char *what, uint64_t is, uint64_t due) {
 static uint8_t stream[1024];
 static size_t length;
 
-// Puts a number behind the stream, the lowest byte first.
+// Puts a number after the stream, the lowest byte first.
 static void put(int64_t number, int bytes) {
     uint64_t rest = (uint64_t)number;
     for (; bytes > 0; bytes--, rest >>= 8) stream[length++] = (uint8_t)rest;
@@ -289,7 +289,7 @@ static void refuses(const char *what, uint64_t due, size_t position) {
     check("words of a refused load", written(table, 0, WORDS(table)) + written(state, 0, WORDS(state)), 0);
 }
 
-// Ends the stream with a command at fault, whose position is given, and End behind it.
+// Ends the stream with a command at fault, whose position is given, and End after it.
 static void refuses_at(const char *what, uint64_t due, size_t position) {
     put(DOZHUMEK_COMMAND_END, 1), refuses(what, due, position);
 }

@@ -69,7 +69,7 @@ pub struct Model {
     next: Vec<u64>,
 }
 
-/// An accepted load: the model, and the position behind End, where the score begins.
+/// An accepted load: the model, and the position after End, where the score begins.
 #[derive(Clone, Debug)]
 pub struct Loaded {
     pub model: Model,
@@ -102,7 +102,7 @@ impl fmt::Display for Refused {
 
 impl Error for Refused {}
 
-/// What previewing answers where an advance would be committed: its answer, and the model that it would then stand at.
+/// What previewing answers where an advance would be committed: its answer, and the model that it would then have.
 #[derive(Clone, Debug)]
 pub struct Preview {
     pub answer: Answer,
@@ -154,7 +154,7 @@ impl Model {
         Model { table, state, next }
     }
 
-    /// One advance, by at most `wanted`: the model then stands at the new point. Where it is refused it is kept.
+    /// One advance, by at most `wanted`: the model then is at the new point. Where it is refused it is kept.
     pub fn advance(&mut self, wanted: u64) -> Result<Answer, Refused> {
         let mut out = [0; 5];
         advance_into(&self.table, &self.state, wanted, &mut self.next, &mut out);
@@ -172,7 +172,7 @@ impl Model {
         Ok(Preview { answer, model: Model::from_words(self.table.clone(), state) })
     }
 
-    /// The bytes of the model's table, from which `load` makes the fresh model again, wherever this one stands. Where
+    /// The bytes of the model's table, from which `load` makes the fresh model again, wherever this one is. Where
     /// it is not sound it has none, and is refused.
     ///
     /// ```

@@ -1,4 +1,4 @@
-//! The score behind a table: its wanted steps, one after the other. This is plain Rust; the proved reader is the crate
+//! The score after a table: its wanted steps, one after the other. This is plain Rust; the proved reader is the crate
 //! `score`, which the programs use.
 use crate::refusal::{Refusal, RefusedAt};
 

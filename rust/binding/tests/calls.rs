@@ -303,7 +303,7 @@ fn spelled() -> (Vec<u64>, Vec<u64>) {
 fn previews_before_their_advances() {
     let drive = table(&[part(0, 1, 0, 0), part(11, 0, 0, 0), span(2), span(5), wire(0, 1, 0)]);
     let mut model = accepted(&drive);
-    // Of other wanted steps: the advance behind them is the one that it is without them.
+    // Of other wanted steps: the advance after them is the one that it is without them.
     for (wanted, number, t) in [(4, 0, 2), (9, 0, 5), (4, 0, 2), (1, 22, 0), (0, 20, 0)] {
         let (answer, ahead) = tried(&model, wanted);
         assert_eq!((answer.number, ahead.t(), model.t()), (number, t, 0));
@@ -347,7 +347,7 @@ fn previews_near_the_last_point() {
 fn previews_into_lent_words() {
     let (table, state) = spelled();
     let needed = state.len();
-    // A spare word behind the state and behind the answer, which are kept.
+    // A spare word after the state and after the answer, which are kept.
     let called = |wanted: u64, length: usize, room: usize| {
         let (mut new, mut out) = (vec![9; length], vec![9; room]);
         let number = preview_into(&table, &state, wanted, &mut new, &mut out);
@@ -471,7 +471,7 @@ fn sheets_into_lent_bytes() {
     let (table, state) = spelled();
     let text = "                  0   0          5    1  0           3          10           3\n";
     for (number, text) in [(0, text.to_string()), (22, refused_line(22))] {
-        // A word behind the answer is not looked at.
+        // A word after the answer is not looked at.
         let outcome = [number, 5, 1, 0, 5, u64::MAX];
         let sheet = Sheet { table: &table, state: &state, outcome: &outcome, choice: [0, 1, 0] };
         for room in [0, 1, 78] {

@@ -168,7 +168,7 @@ fn places_of_words() {
     assert_eq!(model.part(1), Some(due));
 }
 
-/// The calls that a text declares, each by its name behind `before`, and the types of its parameters in C's words.
+/// The calls that a text declares, each by its name after `before`, and the types of its parameters in C's words.
 fn declared(text: &str, before: &str, type_of: fn(&str) -> String) -> BTreeMap<String, Vec<String>> {
     let mut calls = BTreeMap::new();
     for declaration in text.split(before).skip(1) {

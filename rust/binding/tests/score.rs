@@ -131,7 +131,7 @@ fn command(wanted: u32) -> [u8; 5] {
 
 #[test]
 fn empty_scores() {
-    // No bytes, none behind the position, and a position past the end.
+    // No bytes, none after the position, and a position past the end.
     for (stream, position) in [(&[][..], 0), (&[], 7), (&[6, 1, 0, 0, 0], 5), (&[6, 1, 0, 0, 0], usize::MAX)] {
         let mut score = Score::new(stream, position);
         assert_eq!((score.position(), score.next(), score.next()), (stream.len(), None, None));
@@ -144,7 +144,7 @@ fn positions() {
     let mut score = Score::new(&stream, 1);
     assert_eq!((score.position(), score.next(), score.position()), (1, Some(Ok(8)), 6));
     assert_eq!((score.next(), score.position()), (Some(Ok(1)), 11));
-    // What is refused ends the score, and what lies behind it is not read.
+    // What is refused ends the score, and what lies after it is not read.
     let refused = RefusedAt { refusal: Refusal::UnknownCommand, position: 11 };
     assert_eq!((score.next(), score.position()), (Some(Err(refused)), stream.len()));
     assert_eq!((score.next(), score.next()), (None, None));

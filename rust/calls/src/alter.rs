@@ -376,7 +376,7 @@ pub fn any_word(random: &mut Random) -> u64 {
     }
 }
 
-/// Puts another number in a place; false if it stood there.
+/// Puts another number in a place; false if it was there.
 fn set(place: &mut u64, number: u64) -> bool {
     let other = *place != number;
     *place = number;

@@ -32,7 +32,7 @@ impl Expected {
     }
 
     /// The words of a model afterwards, whose table and state were these: the state of the new point where a step was
-    /// committed, with the old words behind it, and all as before where none was.
+    /// committed, with the old words after it, and all as before where none was.
     pub fn after(&self, table: &[u64], old: &[u64]) -> Words {
         if self.counts[0] != 0 {
             return Words::of_lent(table, old);
@@ -171,7 +171,7 @@ fn load_short(
     Ok(())
 }
 
-/// The words of a model as they are lent: as many as are needed, or more, and any behind an absent signal.
+/// The words of a model as they are lent: as many as are needed, or more, and any after an absent signal.
 fn lend(given: &Words, random: &mut Random, coverage: &mut Coverage) -> (Vec<u64>, Vec<u64>) {
     let mut words = given.clone();
     if given.0[COUNT] <= PARTS as u64 && random.once_in(4) {

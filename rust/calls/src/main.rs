@@ -6,12 +6,12 @@
 //!
 //! The streams that `differ` sweeps are loaded with both. Then each case loads a generated stream, plays some steps,
 //! alters the model and plays on. Every answer is compared word for word: the places in use with the second
-//! implementation's model, what lies behind them, which is noise, with what was lent. Where words spell no model, or
+//! implementation's model, what lies after them, which is noise, with what was lent. Where words spell no model, or
 //! one that cannot be said in the second implementation's types, it is unsound, so the answer is by rule: 24, counts 0,
 //! and nothing written. Each advance is previewed on the same words before it is made: the answer has to be the
 //! advance's, and the new state that of the answer's model, which is the old one where the call is refused; only words
 //! that spell no model leave none. Every model that is loaded or advanced is saved, into room of every sort, and
-//! compared byte for byte, with what lies behind. Of every accepted stream, and of some models that were moved or
+//! compared byte for byte, with what lies after. Of every accepted stream, and of some models that were moved or
 //! altered, the saved bytes are loaded again by both, and saved again. Every answer of an advance and of a preview is
 //! printed as a line of a sheet, and compared in the same way. What differs is printed with its seed, case and words;
 //! --only repeats one case, --trace tells each case's number before it is tried. The status is 0 only if nothing

@@ -37,7 +37,7 @@ pub fn preview(
 }
 
 /// Fails unless the new state's words are those of the answer's model, the old ones themselves where the call is
-/// refused, with `fill` behind them. Where the words spell no model none is written.
+/// refused, with `fill` after them. Where the words spell no model none is written.
 fn leaves_state(got: &Left, table: &[u64], old: &[u64], want: &Expected, fill: u64) -> Result<(), String> {
     let written = if want.model.spelled() { want.needed() } else { 0 };
     if !got.kept_from(written, fill) {

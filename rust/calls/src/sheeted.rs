@@ -134,7 +134,7 @@ impl Given<'_> {
         if missing || want.counts[0] == NOT_SOUND {
             return Ok(());
         }
-        // How the number that is widest for its field stands to that.
+        // How the number that is widest for its field compares with that.
         let widest = counts[1..4].iter().zip(WIDEST).map(|(count, most)| count.cmp(&most)).max();
         coverage.count(match (counts[0], widest) {
             (0, Some(Ordering::Greater)) => "sheet of a committed answer with a number too wide",

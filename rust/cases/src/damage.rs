@@ -192,7 +192,7 @@ fn bad_span(random: &mut Random) -> Commands {
     commands
 }
 
-/// A span where none may stand.
+/// A span where none may be.
 fn span_out_of_place(random: &mut Random) -> Commands {
     let mut commands = unended(&one_drive(random.below(3) as u32), random);
     let between = random.pick(&[&[4, 0, 0, 0][..], &[2, 6, 0xFF, 0, 0, 0, 0, 0, 0, 0, 0, 0, 0, 0, 0], &[1, 0]]);

@@ -179,7 +179,7 @@ impl Draft {
         bytes
     }
 
-    /// The table's commands up to End. Wires stand behind both of their parts, at once or later.
+    /// The table's commands up to End. Wires are after both of their parts, at once or later.
     pub fn commands(&self, random: &mut Random) -> Vec<Vec<u8>> {
         let mut wires = self.wires.clone();
         random.shuffle(&mut wires);

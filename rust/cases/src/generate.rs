@@ -360,7 +360,7 @@ fn at_zero(draft: &mut Draft, random: &mut Random) {
     }
 }
 
-/// Drives behind one source.
+/// Drives after one source.
 fn drives(draft: &mut Draft, scale: Scale, random: &mut Random) {
     let from = source(draft, scale, random);
     let common = scale.spans(random);

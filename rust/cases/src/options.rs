@@ -1,4 +1,4 @@
-//! The options of a test program, each a name and a number behind it.
+//! The options of a test program, each a name and a number after it.
 
 /// The number given for each of these names, or none if something else was given.
 pub fn numbers<const N: usize>(mut given: impl Iterator<Item = String>, names: [&str; N]) -> Option<[Option<u64>; N]> {

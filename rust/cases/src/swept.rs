@@ -87,7 +87,7 @@ fn ports(kind: u8, all: &mut Streams) {
     }
 }
 
-/// Every byte as the default magnitude, and where a command may stand.
+/// Every byte as the default magnitude, and where a command may be.
 fn bytes(all: &mut Streams) {
     for byte in 0..=255 {
         all.add(&[&[1, byte], &good_row(CONSTANT), &[5], &SCORE]);
@@ -140,7 +140,7 @@ fn cuts(drive: &[u8], all: &mut Streams) {
     }
 }
 
-/// Every short sequence of commands behind a start, whole and without its last byte.
+/// Every short sequence of commands after a start, whole and without its last byte.
 fn sequences(start: &[u8], all: &mut Streams) {
     let commands: [&[u8]; 10] = [
         &[1, 0],

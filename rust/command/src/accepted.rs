@@ -1,4 +1,4 @@
-//! Which parts are due and which steps a part accepts where a model stands, as document 01 says under "Which steps a
+//! Which parts are due and which steps a part accepts where a model is, as document 01 says under "Which steps a
 //! part accepts". A step of 0 every part accepts; here are the steps above it.
 use dozhumek::{Kind, Mark, Model, Part, PARTS};
 use std::ops::Range;
@@ -73,7 +73,7 @@ pub fn numbers(model: &Model) -> Range<usize> {
     0..model.count().min(PARTS as u64) as usize
 }
 
-/// The parts that are due where a model stands, by their numbers.
+/// The parts that are due where a model is, by their numbers.
 pub fn due(model: &Model) -> Vec<usize> {
     numbers(model).filter(|&number| model.part(number).is_some_and(|part| is_due(model, &part))).collect()
 }
@@ -102,7 +102,7 @@ fn left_of_period(model: &Model, part: &Part) -> u128 {
     period - u128::from(model.t()) % period
 }
 
-/// The steps of 1 to a ceiling that the part with a number accepts where the model stands; none if there is no such
+/// The steps of 1 to a ceiling that the part with a number accepts where the model is; none if there is no such
 /// part.
 pub fn accepted(model: &Model, number: usize, ceiling: u64) -> Steps {
     let Some(part) = model.part(number) else { return Steps::default() };
@@ -122,11 +122,11 @@ fn of_drive(t: u64, drive: &Part) -> Vec<(u128, u128)> {
     let to_count = |count: u128| count.saturating_mul(ratio).saturating_sub(t);
     let spans = drive.spans.iter().take(drive.span_count.min(drive.spans.len() as u64) as usize);
     let grown = std::iter::once(0).chain(spans.copied()).map(u128::from);
-    // The count is reached with the first of these steps, and is the next one just behind the last of them.
+    // The count is reached with the first of these steps, and is the next one just after the last of them.
     grown.map(|d| (to_count(local + d), to_count(local + d + 1).saturating_sub(1))).collect()
 }
 
-/// The steps of 1 to a ceiling that all parts accept where the model stands.
+/// The steps of 1 to a ceiling that all parts accept where the model is.
 pub fn accepted_by_all(model: &Model, ceiling: u64) -> Steps {
     numbers(model).fold(Steps::all(ceiling), |steps, number| meet(&steps, &accepted(model, number, ceiling)))
 }

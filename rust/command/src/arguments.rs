@@ -99,7 +99,7 @@ impl Draft {
     fn option(&mut self, option: &str, next: impl FnOnce() -> Option<OsString>) -> Result<(), Failure> {
         let value = |what: &str| {
             let value = next().map(|value| value.to_string_lossy().into_owned());
-            value.ok_or_else(|| misused(&format!("{option}: behind it has to stand {what}")))
+            value.ok_or_else(|| misused(&format!("{option}: {what} must follow it")))
         };
         match option {
             "--names" => self.names = true,
@@ -108,7 +108,7 @@ impl Draft {
             "--table" => self.formed(Form::Table),
             "--explain" => self.acting(Act::Explain),
             "--text" => self.acting(Act::Text),
-            "--save" if !self.files.is_empty() => return Err(misused("--save stands before FILE and OUT")),
+            "--save" if !self.files.is_empty() => return Err(misused("--save comes before FILE and OUT")),
             "--save" => self.acting(Act::Save),
             "--only" => self.chosen(Choice::Only(listed(&value("parts with commas between")?))),
             "--sheet" => {
@@ -252,6 +252,6 @@ fn three(written: &str) -> Result<[String; 3], Failure> {
 /// Takes an option's value, and whether it had one.
 fn once(option: &str, place: &mut Option<String>, value: String, clash: &mut Option<String>) {
     if place.replace(value).is_some() {
-        clash.get_or_insert_with(|| format!("{option} stands twice"));
+        clash.get_or_insert_with(|| format!("{option} is given twice"));
     }
 }

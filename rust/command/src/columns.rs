@@ -82,7 +82,7 @@ fn number(option: &str, part: &str, input: &Input, model: &Model) -> Result<usiz
     })
 }
 
-/// Writes an output behind what stands on the line.
+/// Writes an output after what is on the line.
 fn output(signal: Option<i64>, out: &mut dyn Write) -> io::Result<()> {
     match signal {
         Some(value) => write!(out, " {value}"),

@@ -33,7 +33,7 @@ pub fn explain(input: &Input, until: Option<Play>, out: &mut dyn Write, messages
     }
 }
 
-/// Writes the commands of a table that begin before a position; the position behind them.
+/// Writes the commands of a table that begin before a position; the position after them.
 fn table(input: &Input, before: usize, out: &mut dyn Write) -> io::Result<usize> {
     let (mut parts, mut behind, mut finest) = (0, 0, 0);
     for (at, command) in commands(&input.bytes).take_while(|&(at, _)| at < before) {
@@ -63,7 +63,7 @@ fn tick(magnitude: u8) -> String {
     }
 }
 
-/// Where something was written, behind its meaning.
+/// Where something was written, after its meaning.
 fn on_line(line: Option<usize>) -> String {
     line.map(|line| format!(" (line {line})")).unwrap_or_default()
 }
@@ -85,7 +85,7 @@ fn meaning(input: &Input, command: &Command, parts: usize, finest: u8) -> String
     }
 }
 
-/// The score as it is spelled: where its next command stands, and how many wanted steps had no room.
+/// The score as it is spelled: where its next command is, and how many wanted steps had no room.
 struct Spelling {
     position: usize,
     unspelled: u64,
@@ -169,7 +169,7 @@ impl Spelling {
     }
 }
 
-/// Writes a refused command of the score, and all behind it.
+/// Writes a refused command of the score, and all after it.
 fn refused_command(input: &Input, refused: &RefusedAt, out: &mut dyn Write) -> io::Result<()> {
     comment(&refused_at(input, refused, refused.position, &why::score_refused(input, refused)), out)?;
     unread(&input.bytes[refused.position..], refused.position, out)

@@ -169,7 +169,7 @@ impl Taken {
             Rest::Open(file) => counted_on(file),
         };
         let title = self.input.title;
-        (count > 0).then(|| format!("rehearse: {title}: {least}{count} bytes behind the first {LIMIT} were not read"))
+        (count > 0).then(|| format!("rehearse: {title}: {least}{count} bytes after the first {LIMIT} were not read"))
     }
 
     /// What is told after the lines of a program: that its bytes look like text, and how many were not taken. A pipe is

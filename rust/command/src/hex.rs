@@ -24,7 +24,7 @@ pub fn read(text: &[u8]) -> Result<Spelled, String> {
     Ok(spelled)
 }
 
-/// The bytes of a line without its comment, behind those before it.
+/// The bytes of a line without its comment, after those before it.
 fn spell(line: &[u8], bytes: &mut Vec<u8>) -> Result<(), &'static str> {
     let blank = |byte: &u8| matches!(byte, b' ' | b'\t' | b'\r');
     if !line.iter().all(|byte| blank(byte) || byte.is_ascii_hexdigit()) {

@@ -1,4 +1,4 @@
-//! What is rehearsed: the bytes of a stream, and where each of its commands stands in what a person wrote. A text table
+//! What is rehearsed: the bytes of a stream, and where each of its commands is in what a person wrote. A text table
 //! gives lines and names, hexadecimal text gives lines, and bytes give neither.
 use crate::command::{commands, Command};
 use crate::kinds::default_name;

@@ -9,14 +9,14 @@ use crate::writer::play_text;
 use dozhumek::{Answer, Loaded, Model, Refused, RefusedAt, Score};
 use std::io::{self, Write};
 
-/// An entry of a score, the line on which it stands, if it stands on one, and how a message about it begins.
+/// An entry of a score, the line on which it is, if it is on one, and how a message about it begins.
 pub struct Entry {
     pub line: Option<usize>,
     pub place: String,
     pub play: Play,
 }
 
-/// The entries of a input's score, from the position behind its table on, and then `until`, if there is one. A bad byte
+/// The entries of a input's score, from the position after its table on, and then `until`, if there is one. A bad byte
 /// of the score ends it all.
 pub fn entries(
     input: &Input,

@@ -1,7 +1,7 @@
 //! Reads a text table: one entry a line, `#` comments, parts and wires by names. What bytes can spell is spelled, for
 //! the load to judge; what they cannot spell (a word, kind, name or operand that is none, a number that no field holds)
-//! is a fault of its line, and all faults are told. Lines may stand in any order: parts are numbered and wants are
-//! played as they stand.
+//! is a fault of its line, and all faults are told. Lines may be in any order: parts are numbered and wants are
+//! played as they are.
 use crate::command::{Command, NO_PREFERENCE};
 use crate::input::{Form, Input, Play};
 use crate::kinds::{self, KindWords, KIND_WORDS};
@@ -31,7 +31,7 @@ const _: () = assert!(LAST_TICK == dozhumek::LAST_TICK && MOST_WANTED == dozhume
 /// How often a line may want its step.
 const MOST_TIMES: u64 = 1_000_000_000;
 
-/// Behind so many faults no more is read.
+/// After so many faults no more is read.
 const MOST_FAULTS: usize = 1000;
 
 /// How many characters a name may have.
@@ -48,7 +48,7 @@ struct Wire {
     port: u8,
 }
 
-/// What was read so far. A part has its command, and the spans behind it.
+/// What was read so far. A part has its command, and the spans after it.
 #[derive(Default)]
 struct Draft {
     tick: Option<(usize, u8)>,
@@ -108,7 +108,7 @@ impl Draft {
     /// Takes the default magnitude.
     fn tick(&mut self, line: usize, magnitude: &str) -> Result<(), String> {
         if let Some((earlier, _)) = self.tick {
-            return Err(format!("tick stands on line {earlier} already"));
+            return Err(format!("tick is on line {earlier} already"));
         }
         let magnitude = number(magnitude, &format!("tick {magnitude}"), MAGNITUDES)?;
         self.tick = Some((line, magnitude));
@@ -137,7 +137,7 @@ impl Draft {
         Ok(())
     }
 
-    /// Takes a wire, of what stands behind the word. Its names are looked up when all lines are read.
+    /// Takes a wire, of what is after the word. Its names are looked up when all lines are read.
     fn wire(&mut self, line: usize, ends: &str) -> Result<(), String> {
         let form = || "a wire line is wire SOURCE -> NAME.PORT, as in wire gravity -> clapper.0".to_string();
         let (source, receiver) = ends.split_once("->").ok_or_else(form)?;
@@ -277,7 +277,7 @@ fn with_operands(number: u8, operands: &[&str]) -> Result<(Command, Vec<u32>), S
             return Err(format!("{operand}: {} has no operand {word}; {}", kind.word, operands_listed(kind)));
         }
         if given.insert(word, value).is_some() {
-            return Err(format!("{operand}: {word} stands twice"));
+            return Err(format!("{operand}: {word} is given twice"));
         }
     }
     if kind.names("p") && !given.contains_key("p") {

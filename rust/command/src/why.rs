@@ -1,5 +1,5 @@
 //! What the proved calls refuse, told in words: which part, port, operand or step it is about, by the names and the
-//! places of what was written. Each message is one line, without the `refused N` that stands before it.
+//! places of what was written. Each message is one line, without the `refused N` that is before it.
 mod advance;
 mod laid;
 mod load;

@@ -1,6 +1,6 @@
 //! Writes a stream as a text table. The table of an accepted load is the one that the proved save writes, so that equal
 //! tables have equal text: parts with their spans, then the wires by receiving part and port; the score follows. Of a
-//! refused load there is what comes before the refusal, as it stands.
+//! refused load there is what comes before the refusal, as it is.
 use crate::command::{commands, Command, NO_PREFERENCE};
 use crate::input::{Form, Input, Play};
 use crate::kinds;
@@ -21,7 +21,7 @@ pub fn write(input: &Input, loaded: &Loaded) -> Result<Written, Refusal> {
     Ok(Written { text, refused })
 }
 
-/// The text of a stream whose load is refused: what comes before the refusal, and that as a comment. Behind a refused
+/// The text of a stream whose load is refused: what comes before the refusal, and that as a comment. After a refused
 /// End it goes on with the score; any other command that is refused ends it.
 pub fn write_refused(input: &Input, refused: &RefusedAt, told: &str) -> String {
     let mut text = table(input, &input.bytes[..refused.position]);
@@ -73,7 +73,7 @@ fn spans(commands: &[Command]) -> String {
     spans.collect::<Vec<String>>().join(",")
 }
 
-/// Puts a line behind a text.
+/// Puts a line after a text.
 fn line(text: &mut String, entry: &str) {
     text.push_str(entry);
     text.push('\n');

@@ -47,14 +47,14 @@ fn what_is_not_read_of_a_file_is_told() {
     let lines = String::from_utf8(output.stdout.clone()).expect("text");
     assert_eq!(lines.lines().count(), 1 + 13_103 + 1);
     assert_eq!(lines.lines().last(), Some("refused 1 at 65533"));
-    let unread = format!("rehearse: {name}: 4482 bytes behind the first 65536 were not read\n");
+    let unread = format!("rehearse: {name}: 4482 bytes after the first 65536 were not read\n");
     assert!(told(&output).ends_with(&unread), "{}", told(&output));
 }
 
 #[test]
 fn what_is_not_read_of_standard_input_is_told() {
     let output = piped(&["--names"], &stream(14_000));
-    let unread = "rehearse: standard input: 4482 bytes behind the first 65536 were not read\n";
+    let unread = "rehearse: standard input: 4482 bytes after the first 65536 were not read\n";
     assert!(told(&output).ends_with(unread), "{}", told(&output));
     let name = file("redirected", &stream(14_000));
     let redirected = command(&["--names"]).stdin(File::open(name).expect("a file")).output().expect("its answer");
@@ -72,7 +72,7 @@ fn standard_input_is_read_from_where_it_stands() {
     opened.seek(SeekFrom::Start(100)).expect("a place");
     let output = command(&["--names"]).stdin(opened).output().expect("its answer");
     assert_eq!(output.stdout, piped(&["--names"], &stream(14_000)).stdout);
-    let unread = "rehearse: standard input: 4482 bytes behind the first 65536 were not read\n";
+    let unread = "rehearse: standard input: 4482 bytes after the first 65536 were not read\n";
     assert!(told(&output).ends_with(unread), "{}", told(&output));
 }
 
@@ -115,7 +115,7 @@ fn a_pipe_that_stays_open_ends() {
     let mut errors = String::new();
     child.stderr.take().expect("its errors").read_to_string(&mut errors).expect("its errors");
     drop(input);
-    let unread = "rehearse: standard input: at least 4482 bytes behind the first 65536 were not read\n";
+    let unread = "rehearse: standard input: at least 4482 bytes after the first 65536 were not read\n";
     assert!(errors.ends_with(unread), "{errors}");
     child.wait().expect("its end");
 }

@@ -72,7 +72,7 @@ fn hex(commands: &[Command]) -> Input {
     input
 }
 
-/// How a stream's load is refused: the number, and the message behind the place where it begins.
+/// How a stream's load is refused: the number, and the message after the place where it begins.
 fn told(input: &Input) -> (u64, String) {
     let refused = load(&input.bytes).map(|_| "a refusal").expect_err("the load is accepted");
     let place = input.place(place_of(input, &refused));
@@ -93,18 +93,18 @@ fn said(number: u64, message: &str) -> (u64, String) {
 fn where_a_stream_is_cut() {
     assert_eq!(told_of(&[]), said(1, "x.bin: the stream is empty: Begin is missing"));
     assert_eq!(told_of(&[1]), said(1, "x.bin: the stream ends inside Begin: 1 of its 2 bytes is missing"));
-    assert_eq!(told_of(&[1, 0]), said(1, "x.bin: the stream ends behind Begin (byte 0): End is missing"));
+    assert_eq!(told_of(&[1, 0]), said(1, "x.bin: the stream ends after Begin (byte 0): End is missing"));
     let drive = [BEGIN, part(DRIVE, 0, 0, 0), span(3)];
-    let behind = "x.bin: the stream ends behind a span of drive0 (byte 17): End is missing";
+    let behind = "x.bin: the stream ends after a span of drive0 (byte 17): End is missing";
     assert_eq!(told(&stream(&drive)), said(1, behind));
     let inside = "x.bin: the stream ends inside Span: 3 of its 5 bytes are missing";
     assert_eq!(told_of(&bytes(&drive)[..19]), said(1, inside));
     let inside = "x.bin: the stream ends inside Part: 14 of its 15 bytes are missing";
     assert_eq!(told_of(&bytes(&drive)[..3]), said(1, inside));
-    let behind = "x.hex:2: the stream ends behind drive0 (byte 2, line 2): End is missing";
+    let behind = "x.hex:2: the stream ends after drive0 (byte 2, line 2): End is missing";
     assert_eq!(told(&hex(&drive[..2])), said(1, behind));
     let wired = [BEGIN, part(INTEGRATOR, 0, 0, 0), wire(0, 0, 0)];
-    let behind = "x.bin: the stream ends behind a wire (byte 17): End is missing";
+    let behind = "x.bin: the stream ends after a wire (byte 17): End is missing";
     assert_eq!(told(&stream(&wired)), said(1, behind));
     let inside = "x.bin: the stream ends inside Wire: 1 of its 4 bytes is missing";
     assert_eq!(told_of(&bytes(&wired)[..20]), said(1, inside));
@@ -124,15 +124,15 @@ fn which_byte_is_no_command() {
 #[test]
 fn what_is_out_of_place() {
     let constant = part(0, 1, 0, 0);
-    assert_eq!(told(&stream(&[constant])), said(3, "x.bin: Part comes before Begin, which stands first"));
-    assert_eq!(told_of(&[3]), said(3, "x.bin: Span comes before Begin, which stands first"));
-    assert_eq!(told_of(&[5]), said(3, "x.bin: End comes before Begin, which stands first"));
+    assert_eq!(told(&stream(&[constant])), said(3, "x.bin: Part comes before Begin, which comes first"));
+    assert_eq!(told_of(&[3]), said(3, "x.bin: Span comes before Begin, which comes first"));
+    assert_eq!(told_of(&[5]), said(3, "x.bin: End comes before Begin, which comes first"));
     assert_eq!(told_of(&[1, 0, 1]), said(3, "x.bin: Begin is there already (byte 0)"));
     let want = Command::Want { step: 7 };
-    let before = "x.hex:3: a wanted step comes before End, and belongs behind it";
+    let before = "x.hex:3: a wanted step comes before End, and belongs after it";
     assert_eq!(told(&hex(&[BEGIN, constant, want])), said(3, before));
-    assert_eq!(told_of(&[6]), said(3, "x.bin: a wanted step comes before End, and belongs behind it"));
-    let not = "x.bin: a span stands behind its drive or the drive's span before, not behind";
+    assert_eq!(told_of(&[6]), said(3, "x.bin: a wanted step comes before End, and belongs after it"));
+    let not = "x.bin: a span comes after its drive or the drive's span before, not after";
     assert_eq!(told(&stream(&[BEGIN, span(1)])), said(3, &format!("{not} Begin (byte 0)")));
     assert_eq!(told(&stream(&[BEGIN, constant, span(1)])), said(3, &format!("{not} constant0 (byte 2)")));
     let drive = [BEGIN, part(DRIVE, 0, 0, 0), span(1), wire(0, 0, 0), span(2)];
@@ -255,7 +255,7 @@ fn which_wires_are_a_loop() {
     let turned = [BEGIN, amp, sum, hold, wire(0, 1, 0), wire(2, 0, 0), wire(1, 2, 0), Command::End];
     let wires = "gain0 -> adder1.0, adder1 -> hold2.0, hold2 -> gain0.0 (bytes 47, 51 and 55)";
     assert_eq!(told(&stream(&turned)), said(11, &format!("x.bin: a loop of wires into direct ports: {wires}: {put}")));
-    // Wires off the loop, before it and behind it, and one into a port that is not direct, are not told.
+    // Wires off the loop, before it and after it, and one into a port that is not direct, are not told.
     let reset = part(7, 0, 0, 0);
     let wires = [wire(3, 2, 0), wire(2, 1, 1), wire(1, 0, 0), wire(0, 2, 1), wire(2, 3, 0), wire(0, 1, 0)];
     let commands = [&[BEGIN, amp, sum, reset, hold][..], &wires, &[Command::End]].concat();
@@ -296,7 +296,7 @@ fn a_refusal_that_the_bytes_do_not_give_is_told_by_its_meaning() {
     assert_eq!(place_of(&input, &refused), 2);
 }
 
-/// What is said of the score's end in these bytes behind a table of one part.
+/// What is said of the score's end in these bytes after a table of one part.
 fn score_told(score: &[u8]) -> (u64, String) {
     let mut bytes = bytes(&[BEGIN, part(0, 1, 0, 0), Command::End]);
     let position = bytes.len();
@@ -312,9 +312,9 @@ fn what_ends_a_score() {
     assert_eq!(score_told(&[6, 1, 0, 0, 0, 6, 1, 0]), said(1, inside));
     let inside = "the stream ends inside the wanted step: 1 of its 5 bytes is missing";
     assert_eq!(score_told(&[6, 1, 0, 0]), said(1, inside));
-    assert_eq!(score_told(&[0x2A]), said(2, "2A is no command: behind End there are wanted steps, 06, alone"));
-    assert_eq!(score_told(&[2]), said(3, "Part comes behind End, where there are wanted steps, 06, alone"));
-    assert_eq!(score_told(&[5]), said(3, "End comes behind End, where there are wanted steps, 06, alone"));
+    assert_eq!(score_told(&[0x2A]), said(2, "2A is no command: after End there are only wanted steps, 06"));
+    assert_eq!(score_told(&[2]), said(3, "Part comes after End, where there are only wanted steps, 06"));
+    assert_eq!(score_told(&[5]), said(3, "End comes after End, where there are only wanted steps, 06"));
 }
 
 /// Plays wanted steps of a table, each of which is committed, and then one that is refused: the number and the message.
@@ -354,7 +354,7 @@ fn a_wanted_step_that_is_none() {
 #[test]
 fn which_parts_are_due_at_the_last_microstep() {
     let echo = [BEGIN, part(0, 1, 0, 0), part(DELAY, 0, 0, 0), wire(0, 1, 0), Command::End];
-    let due = "echo (its input is present) is due at microstep 999, behind which there is none";
+    let due = "echo (its input is present) is due at microstep 999, after which there is none";
     assert_eq!(barred(&table(&["one", "echo"], &echo), &[5; 999], 5), said(21, due));
     // A ring of a delay and a gain of -1 turns its sign without end, and the detector marks each turn.
     let parts = [
@@ -368,13 +368,13 @@ fn which_parts_are_due_at_the_last_microstep() {
     let ring = [&[BEGIN][..], &parts, &wires, &[Command::End]].concat();
     let input = table(&["strike", "sum", "echo", "turn", "trial"], &ring);
     let due = "echo (its input is present) and trial (a mark is pending) are due at microstep 999, \
-               behind which there is none";
+               after which there is none";
     assert_eq!(barred(&input, &[3; 1000], 3), said(21, due));
     let mut model = load(&input.bytes).unwrap().model;
     model.advance(3).unwrap();
     let answer = Answer { number: 21, step: 0, rounds: 1, revisions: 0, ceiling: 3 };
     let refused = Refused { refusal: Refusal::DueAtLastMicrostep, answer };
-    let due = "strike (the tick is a multiple of its P) is due at microstep 0, behind which there is none";
+    let due = "strike (the tick is a multiple of its P) is due at microstep 0, after which there is none";
     assert_eq!(advance_refused(&input, &model, 3, &refused), due);
 }
 

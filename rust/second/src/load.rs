@@ -61,7 +61,7 @@ enum Command {
 }
 
 impl Command {
-    /// The operands that follow `code`, and the bytes behind them; none if they are cut.
+    /// The operands that follow `code`, and the bytes after them; none if they are cut.
     fn read(code: u8, rest: &[u8]) -> Option<(Command, &[u8])> {
         Some(match code {
             BEGIN => {
@@ -128,7 +128,7 @@ struct Reading {
 }
 
 impl Reading {
-    /// The command at the front of these bytes and the bytes behind it, or the number of its refusal: where it is not
+    /// The command at the front of these bytes and the bytes after it, or the number of its refusal: where it is not
     /// known, not in its place or not whole.
     fn command<'a>(&self, bytes: &'a [u8]) -> Result<(Command, &'a [u8]), u8> {
         let Some((&code, operands)) = bytes.split_first() else {

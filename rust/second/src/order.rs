@@ -1,4 +1,4 @@
-//! The order of parts: always the lowest-numbered part whose direct sources all stand before it.
+//! The order of parts: always the lowest-numbered part whose direct sources all are before it.
 
 use crate::model::{Part, MOST_PARTS};
 use std::cmp::Reverse;
@@ -30,13 +30,13 @@ pub(crate) fn order(parts: &[Part]) -> Option<Vec<u8>> {
 
 /// Whether `given` is what [`order`] gives for these parts, found without building it again.
 ///
-/// A part must stand after its direct sources, and where a higher number stands before it, it must have been held up
-/// there: between the nearest such higher number (itself counted) and the part stands one of its direct sources.
+/// A part must be after its direct sources, and where a higher number is before it, it must have been held up
+/// there: between the nearest such higher number (itself counted) and the part is one of its direct sources.
 pub(crate) fn is_the_order(parts: &[Part], given: &[u8]) -> bool {
     if given.len() != parts.len() || parts.len() > MOST_PARTS {
         return false;
     }
-    // Where each part stands, counted from 1; 0 as long as it does not.
+    // Where each part is, counted from 1; 0 as long as it is not.
     let mut place = [0u8; MOST_PARTS];
     // Of the parts placed so far, those without a higher number after them, so in falling order.
     let mut higher = [0u8; MOST_PARTS];

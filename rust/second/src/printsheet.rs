@@ -31,7 +31,7 @@ pub fn printsheet(input: &[u8], out: &mut impl Write, errors: &mut impl Write) -
     play(stream, accepted, out, |model, outcome, out| write_line(model, outcome, choice, out))
 }
 
-/// The three numbers at the front of the input, and the stream behind them; none if they are cut.
+/// The three numbers at the front of the input, and the stream after them; none if they are cut.
 fn chosen(input: &[u8]) -> Option<([u64; 3], &[u8])> {
     let (&first, rest) = input.split_first_chunk::<NUMBER>()?;
     let (&second, rest) = rest.split_first_chunk::<NUMBER>()?;

@@ -30,7 +30,7 @@ pub fn rehearse(stream: &[u8], out: &mut impl Write) -> io::Result<()> {
     }
 }
 
-/// Plays the score behind a table: `write_line` writes the line of each of its advances, committed or refused. A
+/// Plays the score after a table: `write_line` writes the line of each of its advances, committed or refused. A
 /// command that is refused itself ends it.
 pub(crate) fn play<W: Write>(
     stream: &[u8],

@@ -4,7 +4,7 @@ use crate::load::{BEGIN, END, PART, SPAN, WIRE};
 use crate::model::{Kind, Model, Part, NO_PREFERENCE};
 use crate::writing::{put, Written, NOT_SOUND};
 
-/// Writes the table of any model, sound or not, to the front of a buffer. What lies behind the length is kept, and all
+/// Writes the table of any model, sound or not, to the front of a buffer. What lies after the length is kept, and all
 /// of the buffer where the call is refused.
 pub fn save(model: &Model, buffer: &mut [u8]) -> Written {
     if !model.sound() {
@@ -37,7 +37,7 @@ fn table(model: &Model) -> Vec<u8> {
     bytes
 }
 
-/// A Part command and the Span commands behind it.
+/// A Part command and the Span commands after it.
 fn put_part(bytes: &mut Vec<u8>, part: &Part) {
     let (kind, a, b, p) = part.kind.operands();
     bytes.extend([PART, kind, part.preference.unwrap_or(NO_PREFERENCE)]);

@@ -29,7 +29,7 @@ impl From<Outcome> for Shown {
 }
 
 /// Writes the line of an answer with any model, sound or not, and the outputs of three parts chosen by number, to the
-/// front of a buffer. What lies behind the line is kept, and all of the buffer where the call is refused.
+/// front of a buffer. What lies after the line is kept, and all of the buffer where the call is refused.
 pub fn sheet(model: &Model, shown: Shown, choice: [u64; 3], buffer: &mut [u8]) -> Written {
     if !model.sound() {
         return Written::refused(NOT_SOUND);

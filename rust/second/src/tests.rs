@@ -370,7 +370,7 @@ fn previews_anywhere_alter_no_answer_of_a_list() {
     assert!(alone.point.t > 500);
 }
 
-/// Saves a model into so much room, and fails unless what lies behind the length is kept, and all of it where refused.
+/// Saves a model into so much room, and fails unless what lies after the length is kept, and all of it where refused.
 fn saved_into(model: &Model, room: usize) -> (Written, Vec<u8>) {
     let mut buffer = vec![0xAA; room];
     let written = save(model, &mut buffer);
@@ -495,7 +495,7 @@ fn the_longest_table_is_saved() {
 /// A committed answer's numbers.
 const COMMITTED: Shown = Shown { number: 0, step: 5, rounds: 2, revisions: 1 };
 
-/// Prints a sheet line into so much room, and fails unless what lies behind the line is kept, and all of it where
+/// Prints a sheet line into so much room, and fails unless what lies after the line is kept, and all of it where
 /// refused.
 fn printed_into(model: &Model, shown: Shown, choice: [u64; 3], room: usize) -> (Written, String) {
     let mut buffer = vec![0xAA; room];

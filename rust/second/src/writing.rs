@@ -18,7 +18,7 @@ impl Written {
     }
 }
 
-/// Puts bytes to the front of a buffer and keeps what lies behind them; all of the buffer where it is too short.
+/// Puts bytes to the front of a buffer and keeps what lies after them; all of the buffer where it is too short.
 pub(crate) fn put(bytes: &[u8], buffer: &mut [u8]) -> Written {
     let length = bytes.len();
     match buffer.get_mut(..length) {

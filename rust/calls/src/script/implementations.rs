@@ -62,7 +62,7 @@ fn counts_of(answered: Result<dozhumek::Answer, Refused>) -> [u64; 5] {
     [number, answer.step, answer.rounds, answer.revisions, answer.ceiling]
 }
 
-/// The words of a table and of a state of the most parts, all 0 before, behind a load.
+/// The words of a table and of a state of the most parts, all 0 before, after a load.
 fn words_loaded(stream: &[u8]) -> Words {
     let (mut table, mut state) = (vec![0; table_words(PARTS)], vec![0; state_words(PARTS)]);
     load_into(stream, &mut table, &mut state, &mut [0; 2]);

@@ -1,4 +1,4 @@
-//! Cases of request 2. Above each stands how its answer comes about: of each step the new speed, s = clamp(s + x × d),
+//! Cases of request 2. Above each is how its answer comes about: of each step the new speed, s = clamp(s + x × d),
 //! and the position that s × d leads to.
 
 use super::{case, Named, Table};
@@ -117,7 +117,7 @@ fn among_others() -> Vec<Named> {
         case(
             "missed: a clapper's port is direct",
             // The gain shows -10, 0, 10. s = 0 - 10 = -10, 10 - 10 = 0; s = -10 + 0 = -10, 0 - 10 = -10; s = -10 + 10 =
-            // 0, -10 + 0 = -10. End stands behind 2 + 15 + 15 + 4 + 4 bytes.
+            // 0, -10 + 0 = -10. End is after 2 + 15 + 15 + 4 + 4 bytes.
             Table::new(0).part(CLAPPER, 10, 0, 0).part(GAIN, -1, 0, 0).wire(0, 1, 0).wire(1, 0, 0).score(&[1; 3]),
             "1 0 1 1 0 0 0\n2 0 1 1 0 -10 10\n3 0 1 1 0 -10 10\n",
             Some("refused 11 at 40\n"),

@@ -32,7 +32,7 @@ fn still_due(input: &Input, model: &Model) -> String {
     };
     let told: Vec<String> = due(model).into_iter().map(told).collect();
     let are = if told.len() == 1 { "is" } else { "are" };
-    format!("{} {are} due at microstep {}, behind which there is none", listed(&told, "and"), model.n())
+    format!("{} {are} due at microstep {}, after which there is none", listed(&told, "and"), model.n())
 }
 
 /// A step that may lead past the last tick, and how much is left.

@@ -1,4 +1,4 @@
-//! What stands in a stream before the command that a load refused: the parts with their spans, and the wires.
+//! What is in a stream before the command that a load refused: the parts with their spans, and the wires.
 use crate::command::{commands, Command};
 use crate::input::Input;
 use crate::kinds::{of_number, KindWords};
@@ -29,7 +29,7 @@ pub struct LaidWire {
     pub port: u8,
 }
 
-/// What stands before a position of a stream, and the stream.
+/// What is before a position of a stream, and the stream.
 pub struct Laid<'a> {
     pub input: &'a Input,
     pub position: usize,
@@ -40,7 +40,7 @@ pub struct Laid<'a> {
 }
 
 impl<'a> Laid<'a> {
-    /// What stands before a position, and before End.
+    /// What is before a position, and before End.
     pub fn before(input: &'a Input, position: usize) -> Laid<'a> {
         let position = position.min(input.bytes.len());
         let mut laid = Laid { input, position, begin: None, parts: Vec::new(), wires: Vec::new(), last: None };
@@ -71,7 +71,7 @@ impl<'a> Laid<'a> {
         }
     }
 
-    /// The bytes at the position and behind it.
+    /// The bytes at the position and after it.
     pub fn behind(&self) -> &'a [u8] {
         &self.input.bytes[self.position..]
     }

@@ -46,10 +46,10 @@ pub fn score_refused(input: &Input, refused: &RefusedAt) -> String {
     match (refused.refusal, command(byte)) {
         (Refusal::Cut, Some((name, length))) => cut_command(input, name, behind.len(), length),
         (Refusal::UnknownCommand, _) => {
-            format!("{byte:02X} is no command: behind End there are wanted steps, 06, alone")
+            format!("{byte:02X} is no command: after End there are only wanted steps, 06")
         }
         (Refusal::OutOfPlace, Some((name, _))) => {
-            format!("{name} comes behind End, where there are wanted steps, 06, alone")
+            format!("{name} comes after End, where there are only wanted steps, 06")
         }
         _ => refused.refusal.meaning().to_string(),
     }
@@ -72,7 +72,7 @@ fn cut(laid: &Laid) -> Option<String> {
             command(byte).map(|(name, length)| cut_command(laid.input, name, laid.behind().len(), length))
         }
         (None, None) => Some("the stream is empty: Begin is missing".to_string()),
-        (None, Some(last)) => Some(format!("the stream ends behind {}: End is missing", told(laid, last))),
+        (None, Some(last)) => Some(format!("the stream ends after {}: End is missing", told(laid, last))),
     }
 }
 
@@ -104,15 +104,15 @@ fn unknown(laid: &Laid) -> Option<String> {
     })
 }
 
-/// A command that may not stand where it does.
+/// A command that may not be where it is.
 fn out_of_place(laid: &Laid) -> Option<String> {
     let (name, _) = command(*laid.behind().first()?)?;
     match (laid.behind()[0], laid.begin, laid.last) {
-        (6, _, _) => Some("a wanted step comes before End, and belongs behind it".to_string()),
+        (6, _, _) => Some("a wanted step comes before End, and belongs after it".to_string()),
         (1, Some((first, _)), _) => Some(format!("Begin is there already ({})", laid.input.mention(first))),
-        (_, None, _) => Some(format!("{name} comes before Begin, which stands first")),
+        (_, None, _) => Some(format!("{name} comes before Begin, which comes first")),
         (3, _, Some(last)) => {
-            Some(format!("a span stands behind its drive or the drive's span before, not behind {}", told(laid, last)))
+            Some(format!("a span comes after its drive or the drive's span before, not after {}", told(laid, last)))
         }
         _ => None,
     }

@@ -83,7 +83,7 @@ pub fn too_long(laid: &Laid) -> Option<String> {
     (!told.is_empty()).then(|| told.join("; "))
 }
 
-/// Where the first part with such a P stands.
+/// Where the first part with such a P is.
 pub fn first_too_long(laid: &Laid) -> Option<usize> {
     let mut long = long(laid);
     long.next().map(|(_, part, _)| part.position)

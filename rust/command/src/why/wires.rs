@@ -68,12 +68,12 @@ pub fn in_a_loop(laid: &Laid) -> Option<String> {
     Some(format!("a loop of wires into direct ports: {wires} ({places}): put a delay or an integrator into it"))
 }
 
-/// Where the first wire of that loop stands.
+/// Where the first wire of that loop is.
 pub fn first_of_a_loop(laid: &Laid) -> Option<usize> {
     a_loop(laid)?.first().map(|wire| wire.position)
 }
 
-/// Where the wires of a loop stand: `lines 8 and 9`.
+/// Where the wires of a loop are: `lines 8 and 9`.
 fn places(laid: &Laid, wires: &[LaidWire]) -> String {
     let mut positions: Vec<usize> = wires.iter().map(|wire| wire.position).collect();
     let mut lines: Vec<usize> = positions.iter().filter_map(|&position| laid.input.line(position)).collect();
@@ -92,7 +92,7 @@ fn places(laid: &Laid, wires: &[LaidWire]) -> String {
 }
 
 /// A shortest loop of wires into direct ports, each wire into the part from which the next one comes. It begins with
-/// the one of its wires that stands first.
+/// the one of its wires that is first.
 fn a_loop(laid: &Laid) -> Option<Vec<LaidWire>> {
     let is_direct = |wire: &&LaidWire| {
         let words = laid.parts.get(wire.receiver).and_then(|part| part.words());

@@ -42,10 +42,10 @@ fn files_and_values_that_are_wrong() {
         ("--sheet", "three parts with commas between"),
     ];
     for (option, what) in values {
-        let why = format!("{option}: behind it has to stand {what}");
+        let why = format!("{option}: {what} must follow it");
         misused(&root, &format!("bad usage, --names {option}"), &why, &["--names", option]);
     }
-    let why = "--sheet: behind it has to stand three parts with commas between";
+    let why = "--sheet: three parts with commas between must follow it";
     misused(&root, "no numbers", why, &["--sheet"]);
     misused(&root, "that option behind FILE", why, &["bytes", "--sheet"]);
 }
@@ -61,7 +61,7 @@ fn saving_has_a_file_and_an_out() {
     misused(&root, "bad usage, --save", wanted, &["--save"]);
     misused(&root, "bad usage, --save chime.table", wanted, &["--save", "chime.table"]);
     misused(&root, "bad usage, --save chime.table new new", wanted, &["--save", "chime.table", "new", "new"]);
-    let before = "--save stands before FILE and OUT";
+    let before = "--save comes before FILE and OUT";
     misused(&root, "the option behind FILE", before, &["bytes", "--save", "new"]);
     misused(&root, "bad usage, chime.table --save new", before, &["chime.table", "--save", "new"]);
     for words in [
@@ -111,7 +111,7 @@ fn options_that_do_not_go_together_are_told_before_anything_is_built() {
         ("--only a --sheet 0,1,2", "--only and --sheet: one of them, once"),
         ("--until 6000", "--until T and --step S go together"),
         ("--step 100", "--until T and --step S go together"),
-        ("--until 1 --until 2 --step 1", "--until stands twice"),
+        ("--until 1 --until 2 --step 1", "--until is given twice"),
         ("--until 4 --step 0", "--step 0: out of range, 1 to 1000000000"),
         ("--explain --text", "--explain, --text and --save: one of them"),
         ("--text --until 4 --step 1", "--until is for a rehearsal: a text table has lines until TICK step STEP"),

@@ -7,7 +7,7 @@ use std::process::{Child, Command, Stdio};
 
 /// What is told of bytes that were not read.
 fn behind(name: &str, count: &str) -> String {
-    format!("rehearse: {name}: {count} bytes behind the first 65536 were not read")
+    format!("rehearse: {name}: {count} bytes after the first 65536 were not read")
 }
 
 /// A repository with programs that count what they read, and files of zeros.

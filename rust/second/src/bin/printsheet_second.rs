@@ -1,4 +1,4 @@
-//! Reads the numbers of three parts, four bytes each, and rehearses the 65,536 bytes of standard input behind them,
+//! Reads the numbers of three parts, four bytes each, and rehearses the 65,536 bytes of standard input after them,
 //! with a sheet line for each advance that shows the outputs of these parts.
 
 use second::{input, printsheet, PRINTSHEET_LIMIT};

@@ -5,7 +5,7 @@
 //! The streams that `differ` sweeps, and then so many generated ones, are loaded. Of an accepted one the score is
 //! played, then wanted steps at random, and then some from ticks that no score leads to; each answer has to be the one
 //! that the accepted steps and the due parts give where the call began. Every refusal is told in words: one line, about
-//! what stands there and not by its meaning alone. The text of an accepted stream, read again, has to give the saved
+//! what is there and not by its meaning alone. The text of an accepted stream, read again, has to give the saved
 //! table and the score, the same text again, and the same lines where it is rehearsed; the explanation of any stream,
 //! read as hexadecimal text, its bytes; and the lines of any stream are the second implementation's. What differs is
 //! printed with its seed, case and bytes. The status is 0 only if nothing differs and all refusals were reached.

@@ -60,7 +60,7 @@ struct Made {
 }
 
 impl Made {
-    /// Puts a line behind the others. The number that it is answered, of a call.
+    /// Puts a line after the others. The number that it is answered, of a call.
     fn line(&mut self, line: &str) -> Option<u64> {
         self.script.push_str(line);
         self.script.push('\n');
@@ -130,7 +130,7 @@ impl Made {
         }
     }
 
-    /// Advances a model by some step, up to `most` times, with previews, saves and sheets before, and sheets behind.
+    /// Advances a model by some step, up to `most` times, with previews, saves and sheets before, and sheets after.
     /// The last number of an advance.
     fn play(&mut self, name: &str, most: usize, random: &mut Random) -> Option<u64> {
         let mut number = None;

@@ -106,7 +106,7 @@ impl Code {
         self.records.get(name).map_or_else(|| failed(&format!("no record {name} in the middle code")), Vec::as_slice)
     }
 
-    /// Whether a type has a signal in it, by value or behind a reference.
+    /// Whether a type has a signal in it, by value or after a reference.
     pub fn signals(&self, of: &Type) -> bool {
         match of {
             Type::Named(name) => name == SIGNAL || self.fields(name).iter().flatten().any(|field| self.signals(field)),

@@ -1,4 +1,4 @@
-//! The declarations in sources, by their words alone. A name stands for whatever has it in any file.
+//! The declarations in sources, by their words alone. A name means whatever has it in any file.
 
 use crate::failed;
 use std::collections::BTreeSet;
@@ -23,7 +23,7 @@ fn words_of(source: &str) -> Vec<String> {
     words
 }
 
-/// The words of each record, and of each name that stands for a type.
+/// The words of each record, and of each name that means a type.
 fn declarations(words: &[String]) -> Vec<(String, Vec<String>)> {
     let mut found = Vec::new();
     for at in 0..words.len().saturating_sub(1) {

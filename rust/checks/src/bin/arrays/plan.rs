@@ -13,7 +13,7 @@ struct Row {
     places: Vec<String>,
 }
 
-/// What stands between backquotes.
+/// What is between backquotes.
 fn quoted(cell: &str) -> Vec<String> {
     cell.split('`').skip(1).step_by(2).map(str::to_string).collect()
 }

@@ -5,7 +5,7 @@ use crate::lines::Line;
 use second::{Kind, Model};
 
 /// How often each was seen, by the side before (none, negative, positive), whether the input was zero at more than one
-/// tick, and the side behind (negative, positive).
+/// tick, and the side after (negative, positive).
 #[derive(Default)]
 pub struct Zeros([u64; 12]);
 

@@ -19,7 +19,7 @@ pub enum Place {
 }
 
 impl Place {
-    /// The place that the words behind `# refused in:` name.
+    /// The place that the words after `# refused in:` name.
     fn read(words: &str) -> Result<Place, String> {
         let mut rest = words.split(' ');
         match (rest.next(), rest.next(), rest.next(), rest.next()) {
