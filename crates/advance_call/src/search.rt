@@ -1,7 +1,7 @@
 // The search for the step of one advance on lent words, of a sound model.
 //
 // Its contracts cite this crate's `specs/Into.antt` and `specs/Searching.antt`, which go by `machine`'s
-// `specs/Advance.antt`, and `steps`'s `specs/StepInto.antt`.
+// `specs/Advance.antt`, and `step_parts`'s `specs/StepInto.antt`.
 use crate::past::leads_past;
 use ask_parts::dues::any_due_in;
 use ask_parts::rounds::least_in;

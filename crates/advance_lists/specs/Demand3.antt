@@ -1,7 +1,7 @@
 -- Document 01's third demand, of every stream that loads and every chain of calls from the model that it loads to,
 -- whatever is in that model's unused places: the model is the fresh one of a table that fits, so it is sound, and it is
--- at the start point. That the calls of `advance` form such chains is in `master`'s specs/EveryList.antt, above the
--- crate that has the call. Assumes nothing.
+-- at the start point. That the calls of `advance` form such chains is in `advance_call`'s specs/EveryList.antt, above
+-- the crate that has the call. Assumes nothing.
 use Prim.Native.Nat.{ℕ}
 use native.Mathlib.Omega.{arith}
 use mathlib.Core.Path.{_≡_, ap, sym, subst, _∙_}

@@ -1,6 +1,6 @@
 // Whether some part of a model in words is due.
 //
-// Its contract cites `machine`'s `specs/Advance.antt` and `store`'s `specs/ModelIn.antt`.
+// Its contract cites `machine`'s `specs/Advance.antt` and `words_store`'s `specs/ModelIn.antt`.
 use ask_part::due::due_of;
 use step_parts::heard::heard_at;
 use words_store::lookup::part_at;

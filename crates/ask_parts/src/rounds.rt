@@ -1,6 +1,6 @@
 // A round of all parts of a model in words: the least of their longest steps.
 //
-// Its contracts cite `machine`'s `specs/Advance.antt`, `acceptance`'s `specs/Agreed.antt`, `store`'s
+// Its contracts cite `machine`'s `specs/Advance.antt`, `ask_laws`'s `specs/Agreed.antt`, `words_store`'s
 // `specs/ModelIn.antt` and this crate's `specs/Askable.antt`.
 use ask_part::longest::longest_of;
 use ask_part::longest::longest_of_drive;

@@ -1,6 +1,6 @@
 // Whether some part of a trial in words objects to the step that led there.
 //
-// Its contracts cite this crate's `specs/Trials.antt` and `store`'s `specs/ModelIn.antt`.
+// Its contracts cite this crate's `specs/Trials.antt` and `words_store`'s `specs/ModelIn.antt`.
 use ask_part::objection::objects_of;
 use machine::part::Kind;
 use machine::time::Ticks;

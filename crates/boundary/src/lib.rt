@@ -1,10 +1,10 @@
 // The calls `load`, `advance`, `preview`, `save` and `sheet` for programs in Rust and C, through a static library. A
-// model lies in words of 64 bits that the caller lends, as the crate `store` lays down in its `specs/ModelIn.antt`:
-// those of a table, 18 for each part and 2 before them, and those of a state, 9 for each part and 2 before them. The
-// calls work in the caller's own memory. Each returns its number whatever is lent; of the answer's words those that
-// `out` has room for are written into it, from the first on, and the words of `out` after them are kept. The contracts
-// cite `specs/Exported.antt`; they ask nothing of the caller but that each slice is one, and that what is lent for
-// writing overlaps no other.
+// model lies in words of 64 bits that the caller lends, as the crate `words_store` lays down in its
+// `specs/ModelIn.antt`: those of a table, 18 for each part and 2 before them, and those of a state, 9 for each part and
+// 2 before them. The calls work in the caller's own memory. Each returns its number whatever is lent; of the answer's
+// words those that `out` has room for are written into it, from the first on, and the words of `out` after them are
+// kept. The contracts cite `specs/Exported.antt`; they ask nothing of the caller but that each slice is one, and that
+// what is lent for writing overlaps no other.
 use advance_call::advance_into;
 use load_call::load;
 use machine::model::Model;

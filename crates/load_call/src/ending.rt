@@ -1,6 +1,6 @@
 // End: the refusals that it alone decides, in document 01's order, and the model of an accepted table. Its contracts
 // cite `specs/EndRefusals.antt` and `specs/Blank.antt`, the machine's `specs/Load.antt`, and `specs/Concluded.antt` of
-// `table`.
+// `load_table`.
 use crate::blank::refused;
 use crate::first::first_parts;
 use crate::ratios::master_magnitude;

@@ -1,6 +1,6 @@
 -- Document 01, "Played examples": the ten cases marked *, as rows of a single statement. Each is about the definitions
 -- that the promises cite; the first is about `rehearsed`, which the program's promises are about
--- (`crates/rehearse/specs/Batches.antt`). Assumes nothing.
+-- (`crates/play_score/specs/WholeScore.antt`). Assumes nothing.
 use Prim.Native.Nat.{ℕ, _+_, _-_}
 use mathlib.Core.Path.{_≡_}
 use mathlib.Core.Bool.{true}

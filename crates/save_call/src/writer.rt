@@ -1,6 +1,6 @@
 // The commands of a table, put into a buffer. Each function puts some at a position and returns the position after
-// them; the machine's `specs/TableBytes.antt` says which bytes they are, and `writing`'s `specs/Put.antt` what is left
-// in the buffer.
+// them; the machine's `specs/TableBytes.antt` says which bytes they are, and `write_bytes`'s `specs/Put.antt` what is
+// left in the buffer.
 use load_operands::refusal::BEGIN_BYTE;
 use load_operands::refusal::PART_BYTE;
 use load_operands::refusal::SPAN_BYTE;

@@ -1,6 +1,6 @@
 // The fields of a sheet line, put into a buffer: a number or an output, right-aligned in its width, and the character
 // after it. Each function puts its piece at a position and returns the position after it; the machine's
-// `specs/Sheet.antt` says what is put, and `writing`'s `specs/Put.antt` what is left in the buffer.
+// `specs/Sheet.antt` says what is put, and `write_bytes`'s `specs/Put.antt` what is left in the buffer.
 use machine::signal::Signal;
 use write_bytes::put::put_byte;
 use write_lines::length::characters_of;

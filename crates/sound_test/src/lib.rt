@@ -1,5 +1,5 @@
 // The test of soundness, which advancing asks first. Its contract cites the machine's
-// `specs/Sound.antt` and `store`'s `specs/ModelIn.antt` and `specs/Form.antt`.
+// `specs/Sound.antt` and `words_store`'s `specs/ModelIn.antt` and `specs/Form.antt`.
 use crate::parts::parts_fit_in;
 use crate::survey::surveyed_in;
 use machine::time::Point;

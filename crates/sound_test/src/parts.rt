@@ -1,5 +1,5 @@
 // The tests of the parts of a model in words, one by one. Its contracts cite `specs/Parts.antt`, which gathers what
-// the machine's `specs/Sound.antt` asks of one part, and `store`'s `specs/ModelIn.antt`.
+// the machine's `specs/Sound.antt` asks of one part, and `words_store`'s `specs/ModelIn.antt`.
 use machine::part::Kind;
 use machine::part::Part;
 use machine::part::State;

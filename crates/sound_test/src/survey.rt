@@ -1,6 +1,6 @@
 // What the words of a table say of it as a whole, found in one loop over the parts: the master's magnitude, the direct
 // sources, which the part order follows from, and the part order that is given. Its contract cites the machine's
-// `specs/Table.antt` and `store`'s `specs/ModelIn.antt`.
+// `specs/Table.antt` and `words_store`'s `specs/ModelIn.antt`.
 use machine::model::PARTS;
 use machine::part::Source;
 use order_place::Direct;

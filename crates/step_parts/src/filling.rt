@@ -1,6 +1,7 @@
 // The outputs of a point, filled in part order in the words of the new state.
 //
-// Its contract cites `store`'s `specs/ModelIn.antt`, and this crate's `specs/Fillable.antt` and `specs/StepInto.antt`.
+// Its contract cites `words_store`'s `specs/ModelIn.antt`, and this crate's `specs/Fillable.antt` and
+// `specs/StepInto.antt`.
 use crate::heard::heard_at;
 use step_part::output::output_of;
 use words_store::lookup::ordered_part;

@@ -1,7 +1,7 @@
 // Every part settled in the words of the new state, once the outputs of the point are there.
 //
-// Its contracts cite `store`'s `specs/ModelIn.antt`, and this crate's `specs/Fillable.antt`, `specs/Settling.antt` and
-// `specs/StepInto.antt`.
+// Its contracts cite `words_store`'s `specs/ModelIn.antt`, and this crate's `specs/Fillable.antt`,
+// `specs/Settling.antt` and `specs/StepInto.antt`.
 use crate::heard::heard_at;
 use machine::part::Kind;
 use step_part::change::settled_part;

@@ -1,6 +1,6 @@
 // The step made up to its settling, from the words of the old state into those of the new.
 //
-// Its contract cites `machine`'s `specs/Time.antt`, `store`'s `specs/ModelIn.antt` and this crate's
+// Its contract cites `machine`'s `specs/Time.antt`, `words_store`'s `specs/ModelIn.antt` and this crate's
 // `specs/StepInto.antt`.
 use crate::filling::filled_into;
 use crate::moving::moved_into;

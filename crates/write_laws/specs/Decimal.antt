@@ -1,6 +1,6 @@
 -- Laws of `decimal`: it is the digits of the tenth part with the last digit after them, and a number below 10 ^ k has
 -- at most k digits; and of `signed-decimal`, by the sign. The definition puts digits in front of characters, with fuel;
--- that the characters are after, and that more fuel changes nothing (`digits-enough` of `printing`), give the laws.
+-- that the characters are after, and that more fuel changes nothing (`digits-enough` of `write_laws`), give the laws.
 -- Assumes nothing.
 use Prim.Native.Nat.{ℕ, zero, suc, _+_, _/_, _%_, _^_, _≤_, _<_}
 use native.Mathlib.Nat.{pow-suc}

@@ -1,3 +1,3 @@
--- What the promises of this crate cite besides the definitions of `machine` and `writing`.
+-- What the promises of this crate cite besides the definitions of `machine` and `write_bytes`.
 pub mod LineNumbers
 pub mod LentLines

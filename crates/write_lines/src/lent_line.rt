@@ -1,7 +1,7 @@
 // The line of a call on lent words, written into a buffer that the caller lends: the numbers of the call, and the
 // point and the outputs of the state that it left. The line is put straight into the buffer, once it is known to have
 // room for it. The promises cite `specs/LentLines.antt`, the machine's `Rehearse.antt` and `Writing.antt`,
-// `writing`'s `specs/Put.antt` and `store`'s `specs/ModelIn.antt`.
+// `write_bytes`'s `specs/Put.antt` and `words_store`'s `specs/ModelIn.antt`.
 use crate::length::output_length;
 use crate::line::numbers_length;
 use crate::line::put_numbers;

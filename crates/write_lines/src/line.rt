@@ -1,6 +1,6 @@
 // The lines of a rehearsal's refusals, each written into a buffer that the caller lends, and the numbers that begin the
 // line of a committed advance. A line's length is worked out before the buffer is touched, and the line is put straight
-// into it. The promises cite the machine's `Rehearse.antt` and `Writing.antt`, and `writing`'s `specs/Put.antt`.
+// into it. The promises cite the machine's `Rehearse.antt` and `Writing.antt`, and `write_bytes`'s `specs/Put.antt`.
 use crate::length::digits_of;
 use crate::text::put_decimal;
 use machine::model::Written;

@@ -1,5 +1,5 @@
 // The pieces of a line: numbers in base ten and outputs. Each function puts one into a line at a position
-// and returns the position after it; `writing`'s `specs/Put.antt` says what it leaves there.
+// and returns the position after it; `write_bytes`'s `specs/Put.antt` says what it leaves there.
 use machine::signal::Signal;
 use write_bytes::number::absolute;
 use write_bytes::put::put_byte;

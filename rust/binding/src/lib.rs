@@ -1,7 +1,7 @@
 //! The rehearsal master's calls `load`, `advance`, `preview`, `save` and `sheet`. The calls themselves are the proved
 //! ones of the static library, and work in words of 64 bits that they are lent (`load_into`, `advance_into`,
 //! `preview_into`, `save_into`, `sheet_into`); here is the owner of those words, and what they say as typed records.
-//! The crate `store` of the repository defines the words, in `specs/Held.antt` and `specs/Form.antt`.
+//! The crate `words_store` of the repository defines the words, in `specs/ModelIn.antt` and `specs/Form.antt`.
 //!
 //! ```
 //! use dozhumek::{load, Refusal, Score};
