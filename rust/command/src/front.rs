@@ -1,7 +1,7 @@
 //! Text tables, explanations and columns, over the proved calls. `rehearse` hands its arguments on to this command,
 //! where no proved program does what they ask for; its statuses are told there (`usage.rs`).
 use dozhumek::load;
-use front::arguments::{self, Act, Arguments, Asked, Choice};
+use front::arguments::{Act, Arguments, Choice};
 use front::columns::Columns;
 use front::explain::explain;
 use front::failure::{Failure, BAD, DONE, NO_TABLE, READER_GONE, REFUSED, UNSAVED, UNWRITTEN};
@@ -11,19 +11,11 @@ use front::messages::Messages;
 use front::output::Output;
 use front::play::{play, refused_at, score_line, told_load};
 use front::{usage, why, writer};
-use std::env;
 use std::io::{self, BufWriter, ErrorKind, IsTerminal, LineWriter, Write};
 use std::process::ExitCode;
 
 fn main() -> ExitCode {
-    let mut messages = Messages::new();
-    let done = match arguments::read(env::args_os().skip(1)) {
-        Ok(Asked::Help) => usage::help().map(|()| DONE),
-        Ok(Asked::Version) => usage::version().map(|()| DONE),
-        Ok(Asked::Work(arguments)) => run(&arguments, &mut messages),
-        Err(failure) => Err(failure),
-    };
-    ExitCode::from(done.unwrap_or_else(|failure| messages.fail(&failure)))
+    usage::answer(Messages::new(), run)
 }
 
 /// Takes the input and does with it what the arguments say.

@@ -1,7 +1,7 @@
 //! `rehearse`: reads the arguments, sees that what they need is proved and built, and has it done: bytes by the proved
 //! programs, all else by the command over the proved calls. `usage.rs` has the options and the statuses.
-use front::arguments::{self, Arguments, Asked};
-use front::failure::{Failure, BAD, DONE, UNBUILT, UNSAVED, UNWRITTEN};
+use front::arguments::Arguments;
+use front::failure::{Failure, BAD, UNBUILT, UNSAVED, UNWRITTEN};
 use front::files::{self, Taken};
 use front::home::{self, Program};
 use front::input::Form;
@@ -14,14 +14,7 @@ use std::os::unix::process::CommandExt;
 use std::process::{Command, ExitCode};
 
 fn main() -> ExitCode {
-    let mut messages = Messages::of_build();
-    let done = match arguments::read(env::args_os().skip(1)) {
-        Ok(Asked::Help) => usage::help().map(|()| DONE),
-        Ok(Asked::Version) => usage::version().map(|()| DONE),
-        Ok(Asked::Work(arguments)) => run(&arguments, &mut messages),
-        Err(failure) => Err(failure),
-    };
-    ExitCode::from(done.unwrap_or_else(|failure| messages.fail(&failure)))
+    usage::answer(Messages::of_build(), run)
 }
 
 /// Has a proved program do what the arguments say, or the command over the proved calls.

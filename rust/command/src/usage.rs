@@ -1,6 +1,10 @@
-//! How the command is called, in words.
-use crate::failure::{Failure, UNWRITTEN};
+//! How the command is called, in words, and how a call of it is answered.
+use crate::arguments::{self, Arguments, Asked};
+use crate::failure::{Failure, DONE, UNWRITTEN};
+use crate::messages::Messages;
+use std::env;
 use std::io::{self, Write};
+use std::process::ExitCode;
 
 /// The usage.
 pub const USAGE: &str = "\
@@ -10,7 +14,7 @@ A FILE named .table is a text table, one named .hex is bytes in hexadecimal, any
   --names            a heading with the columns' names above the lines
   --only A,B,...     the outputs of these parts only, by name or number
   --sheet A,B,C      a sheet of 78 columns, with the outputs of three parts, by name or number
-  --until T --step S behind the score: on to tick T, in steps of S
+  --until T --step S after the score: on to tick T, in steps of S
   --strict           status 5 where anything was refused
   --hex, --table     the input is hexadecimal, or a text table, whatever its name
   --explain          instead of rehearsing: each command, with its place and meaning
@@ -30,13 +34,24 @@ Status 0: rehearsed, refusals included, or written
        5: --strict: something was refused
 ";
 
+/// Answers a call of the command: help, the version, or what `run` does with the arguments. Its status.
+pub fn answer(mut messages: Messages, run: fn(&Arguments, &mut Messages) -> Result<u8, Failure>) -> ExitCode {
+    let done = match arguments::read(env::args_os().skip(1)) {
+        Ok(Asked::Help) => help().map(|()| DONE),
+        Ok(Asked::Version) => version().map(|()| DONE),
+        Ok(Asked::Work(arguments)) => run(&arguments, &mut messages),
+        Err(failure) => Err(failure),
+    };
+    ExitCode::from(done.unwrap_or_else(|failure| messages.fail(&failure)))
+}
+
 /// Prints the usage and the statuses.
-pub fn help() -> Result<(), Failure> {
+fn help() -> Result<(), Failure> {
     print(&format!("{USAGE}{STATUSES}"))
 }
 
 /// Prints the version.
-pub fn version() -> Result<(), Failure> {
+fn version() -> Result<(), Failure> {
     print(&format!("rehearse {}\n", env!("CARGO_PKG_VERSION")))
 }
 
