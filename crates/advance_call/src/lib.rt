@@ -1,6 +1,8 @@
 // One advance: what bars a call, the search for a step by rounds in which every part is asked, trials, and
 // the answer. The calls are `advance_into` on lent words, `advance_sound_into` on those of a model that is known to be
 // sound, and `advance` by value; what they are made of stays within the crate.
+#![tactic(auto)]
+
 ghost use Rattle.std.specs.Prelude.{◌≡◌, true};
 ghost use Rattle.machine.specs.Sound.{sound};
 ghost use Rattle.machine.specs.Advance.{barred_outcome};

@@ -5,6 +5,8 @@
 // words those that `out` has room for are written into it, from the first on, and the words of `out` after them are
 // kept. The contracts cite `specs/Exported.antt`; they ask nothing of the caller but that each slice is one, and that
 // what is lent for writing overlaps no other.
+#![tactic(auto)]
+
 ghost use Rattle.std.specs.Prelude.{◌≡◌, [], ◌∷◌, ◌≤◌, length, set};
 ghost use Rattle.machine.specs.Model.{most_parts};
 ghost use Rattle.boundary.specs.PutFront.{put_front};

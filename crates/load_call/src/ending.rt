@@ -30,7 +30,7 @@ fn end_refusal(count: usize, fit: bool, placed: usize) -> u64
 }
 
 // What End comes to: document 01's number (0: accepted), the master's magnitude, and the part order.
-#[derive(Drop)]
+#[derive(Clone, Copy)]
 struct Ending {
     number: u64,
     magnitude: u8,

@@ -1,5 +1,7 @@
 // Loading a table from bytes, up to its End. The contract of `load` cites the machine's `specs/Load.antt`; this crate's
 // `specs/LoadOwed.antt` says what follows for a caller.
+#![tactic(auto)]
+
 ghost use Rattle.std.specs.Prelude.{◌≡◌};
 ghost use Rattle.machine.specs.Load.{load};
 ghost use Rattle.machine.specs.Model.{trimmed_loaded};

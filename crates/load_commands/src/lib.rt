@@ -1,4 +1,6 @@
 // Reads each command of a table from bytes, and answers its refusal or the progress after it.
+#![tactic(auto)]
+
 pub mod progress;
 pub mod rows;
 pub mod table_command;

@@ -18,7 +18,7 @@ use refusals::NOT_THERE;
 // Whether Begin was read, whether a span may follow, the default magnitude, and the parts: the first `count` places are
 // in use. Free in every progress that is answered: the places after them, and a component's own places for spans, which
 // its row means.
-#[derive(Drop)]
+#[derive(Clone, Copy)]
 pub struct Progress {
     pub begun: bool,
     pub spannable: bool,

@@ -24,7 +24,7 @@ use refusals::CUT;
 // What a command comes to: its refusal's number, 0 meaning none, and the position and the progress after it; those of a
 // refusal are the command's own position and the progress before it. Free are the unused places of a progress
 // (`progress.rt`).
-#[derive(Drop)]
+#[derive(Clone, Copy)]
 pub struct CommandResult {
     pub number: u64,
     pub next: usize,
@@ -142,7 +142,7 @@ pub fn wire(s: &[u8], at: usize, progress: Progress) -> CommandResult
 }
 
 // What a Span comes to: the step, and the span that goes into the last part's row, 0 where it is refused.
-#[derive(Drop)]
+#[derive(Clone, Copy)]
 pub struct SpanResult {
     pub span: u32,
     pub step: CommandResult,

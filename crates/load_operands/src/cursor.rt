@@ -5,20 +5,20 @@ ghost use Rattle.machine.specs.Load.{signed};
 ghost use Rattle.load_operands.specs.Operands.{ByteMeant, WordMeant};
 
 // Where reading is in a stream.
-#[derive(Drop)]
+#[derive(Clone, Copy)]
 pub struct Cursor {
     pub at: usize,
 }
 
 // A byte and the cursor after it, or that the stream ends before.
-#[derive(Drop)]
+#[derive(Clone, Copy)]
 pub enum ByteRead {
     Got(u8, Cursor),
     Cut,
 }
 
 // Four bytes as a number and the cursor after them, or that the stream ends before.
-#[derive(Drop)]
+#[derive(Clone, Copy)]
 pub enum WordRead {
     Got(u32, Cursor),
     Cut,

@@ -6,7 +6,7 @@ ghost use Rattle.load_operands.specs.Operands.{PartMeant, WireMeant};
 use crate::cursor::{ByteRead, Cursor, WordRead, byte, u32_at};
 
 // The operands of a Part, the signed ones still as they are in the stream.
-#[derive(Drop)]
+#[derive(Clone, Copy)]
 pub struct PartOperands {
     pub kind: u8,
     pub preference: u8,
@@ -16,7 +16,7 @@ pub struct PartOperands {
 }
 
 // The operands of a Wire.
-#[derive(Drop)]
+#[derive(Clone, Copy)]
 pub struct WireOperands {
     pub source: u8,
     pub receiver: u8,
@@ -24,14 +24,14 @@ pub struct WireOperands {
 }
 
 // A Part's operands and the cursor after them, or that the stream ends before.
-#[derive(Drop)]
+#[derive(Clone, Copy)]
 pub enum PartRead {
     Got(PartOperands, Cursor),
     Cut,
 }
 
 // A Wire's operands and the cursor after them, or that the stream ends before.
-#[derive(Drop)]
+#[derive(Clone, Copy)]
 pub enum WireRead {
     Got(WireOperands, Cursor),
     Cut,

@@ -70,7 +70,7 @@ fn with_rows(parts: [Component; PARTS], rows: [[u32; SPANS]; PARTS]) -> [Compone
 
 // What reading comes to. Number 0: End was reached, at the position, and the parts hold their spans; otherwise document
 // 01's number and position of a refusal, no parts, and all else 0.
-#[derive(Drop)]
+#[derive(Clone, Copy)]
 pub struct TableRead {
     pub number: u64,
     pub position: usize,

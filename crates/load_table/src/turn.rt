@@ -91,7 +91,7 @@ pub(crate) fn rows_behind(
 // What a turn of reading comes to: a refusal's number, 0 meaning none, and its position; the byte at the turn's own
 // position, 0 where there is none; after any command but End the position and the progress, and the span that goes into
 // the last part's row. A refusal and End move nothing: the progress is the one before, and the span 0.
-#[derive(Drop)]
+#[derive(Clone, Copy)]
 pub struct CommandRead {
     pub number: u64,
     pub position: usize,

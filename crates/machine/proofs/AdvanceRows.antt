@@ -29,7 +29,7 @@ while_due (inr accepts) = false≢true (sym accepts.0)
 -- 1 is not among the spans
 no_span : Memᴰ {A = ℕ} 1 (2 ∷ []) → ⊥
 no_span (Memᴰ.head e) = omega (arith, e)
-no_span (Memᴰ.tail m) = Memᴰ.not_nil m
+no_span (Memᴰ.tail m) = Memᴰ.not-nil m
 
 -- the drive of ratio 10 with the span 2 does not accept 3 at t = 7, since d is 1
 between_spans : Accepts (only ratio_10) (point 7 0) Absent 3 → ⊥

@@ -7,7 +7,7 @@ pub const PARTS: usize = 32;
 
 // A model. Of `order` and `parts` the first `count` places are in use; `order` is the part order that
 // loading gave.
-#[derive(Drop)]
+#[derive(Clone, Copy)]
 pub struct Model {
     pub magnitude: u8,
     pub count: usize,
@@ -17,7 +17,7 @@ pub struct Model {
 }
 
 // What loading answers: document 01's number (0: accepted), the position, and the model.
-#[derive(Drop)]
+#[derive(Clone, Copy)]
 pub struct Loaded {
     pub number: u64,
     pub position: usize,
@@ -25,7 +25,7 @@ pub struct Loaded {
 }
 
 // What advancing answers: the model, document 01's number (0: committed) and the counts.
-#[derive(Drop)]
+#[derive(Clone, Copy)]
 pub struct Answer {
     pub model: Model,
     pub number: u64,
@@ -37,7 +37,7 @@ pub struct Answer {
 
 // How a call ends: document 01's number (0: committed) and the counts. Where the model is in lent words, this is the
 // answer.
-#[derive(Drop)]
+#[derive(Clone, Copy)]
 pub struct Outcome {
     pub number: u64,
     pub step: u64,
@@ -47,7 +47,7 @@ pub struct Outcome {
 }
 
 // What a preview returns: the model handed in, and the answer that an advance of it has.
-#[derive(Drop)]
+#[derive(Clone, Copy)]
 pub struct Preview {
     pub given: Model,
     pub answer: Answer,
@@ -55,7 +55,7 @@ pub struct Preview {
 
 // What a call that writes into a lent buffer answers: its number (0: written) and its length, which with 25 is the one
 // that the buffer needs.
-#[derive(Drop)]
+#[derive(Clone, Copy)]
 pub struct Written {
     pub number: u64,
     pub length: usize,
@@ -63,7 +63,7 @@ pub struct Written {
 
 // What the score holds at a position: its end, a wanted step with the position after it, or a refusal
 // with document 01's number and position.
-#[derive(Drop)]
+#[derive(Clone, Copy)]
 pub enum Score {
     End,
     Wanted(u64, usize),

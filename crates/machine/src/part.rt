@@ -7,7 +7,7 @@ use crate::time::LocalTicks;
 pub const SPANS: usize = 8;
 
 // The kinds of part, in the order of their numbers.
-#[derive(Drop)]
+#[derive(Clone, Copy)]
 pub enum Kind {
     Constant,
     Gain,
@@ -25,7 +25,7 @@ pub enum Kind {
 }
 
 // What a port is wired to: nothing, or the output of the part with this number.
-#[derive(Drop)]
+#[derive(Clone, Copy)]
 pub enum Source {
     Unwired,
     From(u16),
@@ -33,7 +33,7 @@ pub enum Source {
 
 // The side of zero on which a zero-crossing detector last saw its input; zero itself is on neither.
 // Document 01 has negative and not negative, and request 1 made the second positive.
-#[derive(Drop)]
+#[derive(Clone, Copy)]
 pub enum Side {
     Unset,
     Negative,
@@ -41,7 +41,7 @@ pub enum Side {
 }
 
 // A zero-crossing detector's pending mark: none, 1 or -1.
-#[derive(Drop)]
+#[derive(Clone, Copy)]
 pub enum Mark {
     Clear,
     Rising,
@@ -50,7 +50,7 @@ pub enum Mark {
 
 // What the table fixes of a part. Of `spans` the first `span_count` places are in use; `preference`
 // is 255 for none; `p` is the operand of that name.
-#[derive(Drop)]
+#[derive(Clone, Copy)]
 pub struct Component {
     pub kind: Kind,
     pub preference: u8,
@@ -65,7 +65,7 @@ pub struct Component {
 
 // What a step changes of a part: its local count, held number, speed, held signal and stored output,
 // and a detector's side and mark. The speed is request 2's second held number, 0 but for a clapper.
-#[derive(Drop)]
+#[derive(Clone, Copy)]
 pub struct State {
     pub local: LocalTicks,
     pub held: i64,
@@ -77,7 +77,7 @@ pub struct State {
 }
 
 // A part of a model.
-#[derive(Drop)]
+#[derive(Clone, Copy)]
 pub struct Part {
     pub component: Component,
     pub ratio: u64,

@@ -9,22 +9,22 @@ ghost use Rattle.std.specs.Prelude.{◌≡◌};
 ghost use Rattle.machine.specs.Time.{compared, last, local_count, start, stepped};
 
 // A count of master ticks.
-#[derive(Drop)]
+#[derive(Clone, Copy)]
 pub struct Ticks(pub u64);
 
 // A count of a part's local ticks.
-#[derive(Drop)]
+#[derive(Clone, Copy)]
 pub struct LocalTicks(pub u64);
 
 // A point of superdense time: the tick t and the microstep n.
-#[derive(Drop)]
+#[derive(Clone, Copy)]
 pub struct Point {
     pub t: Ticks,
     pub n: u64,
 }
 
 // How one point compares with another, in the order by t, then n.
-#[derive(Drop)]
+#[derive(Clone, Copy)]
 pub enum Comparison {
     Earlier,
     Same,
@@ -32,7 +32,7 @@ pub enum Comparison {
 }
 
 // Where a step leads: to a point of the time, or to none (`Past`).
-#[derive(Drop)]
+#[derive(Clone, Copy)]
 pub enum Stepped {
     To(Point),
     Past,

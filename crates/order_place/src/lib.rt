@@ -3,6 +3,8 @@
 //
 // The contracts cite this crate's `specs/Direct.antt` and `specs/OrderByMarks.antt`, where the order is
 // `part_order` of the machine's `specs/Table.antt`.
+#![tactic(auto)]
+
 ghost use Rattle.std.specs.Prelude.{◌≡◌, map, ◌-◌, ◌^◌, ◌≤◌};
 ghost use Rattle.machine.specs.Table.{source_placed};
 ghost use Rattle.machine.specs.Model.{most_parts};
@@ -15,21 +17,21 @@ use machine::part::{Component, Source};
 use part_rules::port::{direct0_of, direct1_of};
 
 // The parts placed, in order. Of `order` the first `count` places are in use, and 0 is in the others.
-#[derive(Drop)]
+#[derive(Clone, Copy)]
 pub struct Placed {
     pub order: [u16; PARTS],
     pub count: usize,
 }
 
 // The direct sources of a part: what each port is wired to if it is direct, else nothing.
-#[derive(Drop)]
+#[derive(Clone, Copy)]
 pub struct Direct {
     pub port0: Source,
     pub port1: Source,
 }
 
 // What is found: a part, by its number, or nothing.
-#[derive(Drop)]
+#[derive(Clone, Copy)]
 enum FoundPart {
     At(u32),
     Nothing,

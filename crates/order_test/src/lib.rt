@@ -17,6 +17,8 @@
 //
 // The contract of the test cites `part_order` of the machine's `specs/Table.antt`, those of its parts
 // this crate's `specs/Times.antt` and `specs/Links.antt`.
+#![tactic(auto)]
+
 ghost use Rattle.std.specs.Prelude.{◌≡◌, ◌&&◌, List, map, take, ◌≤◌, ◌<◌};
 ghost use Rattle.machine.specs.declared.part.Component.{Component};
 ghost use Rattle.machine.specs.Lists.{same};

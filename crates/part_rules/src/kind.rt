@@ -31,7 +31,7 @@ const KINDS: [Kind; KIND_COUNT] = [
 const DRIVE: u8 = 11;
 
 // What is found at a number: the kind that has it, or that no kind has, which is refused with 5.
-#[derive(Drop)]
+#[derive(Clone, Copy)]
 pub enum KindFound {
     Known(Kind),
     Unknown,

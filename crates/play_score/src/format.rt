@@ -23,7 +23,7 @@ pub const SECOND: usize = 4;
 pub const THIRD: usize = 8;
 
 // The numbers of the parts whose outputs a sheet shows.
-#[derive(Drop)]
+#[derive(Clone, Copy)]
 pub struct Choice {
     pub first: usize,
     pub second: usize,
@@ -31,7 +31,7 @@ pub struct Choice {
 }
 
 // What is printed of an answer: a plain line, or a sheet line with the chosen parts.
-#[derive(Drop)]
+#[derive(Clone, Copy)]
 pub enum Format {
     Plain,
     Sheet(Choice),

@@ -1,5 +1,7 @@
 // A score played and printed: a line for each command, up to a bad byte, in one of two formats. The programs that print
 // a rehearsal read their input and call this. Its contracts cite `specs/`.
+#![tactic(auto)]
+
 pub mod format;
 pub mod play;
 pub mod print;

@@ -18,7 +18,7 @@ use machine::model::Score;
 
 // What playing came to: whether the score ended; the position of the next command; how many bytes the lines in the
 // buffer take; and whether the rehearsal is now in the other state.
-#[derive(Drop)]
+#[derive(Clone, Copy)]
 pub struct Played {
     pub ended: bool,
     pub at: usize,

@@ -23,7 +23,7 @@ use write_lines::line::write_refused_at;
 
 // How printing begins: whether it ends there; whether what is said goes to standard error; the position of the first
 // score command; and how many bytes of a buffer are said.
-#[derive(Drop)]
+#[derive(Clone, Copy)]
 pub struct Opening {
     pub ended: bool,
     pub errors: bool,

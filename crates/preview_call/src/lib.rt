@@ -1,6 +1,8 @@
 // Previews: what an advance would answer, of a model that stays as it is. The calls are `preview_into` on lent words
 // and `preview` by value; both are the advance itself, made where nothing is taken up. Their contracts cite `machine`'s
 // `specs/Previews.antt` and this crate's `specs/PreviewedInto.antt`.
+#![tactic(auto)]
+
 ghost use Rattle.std.specs.Prelude.{◌≡◌, true};
 ghost use Rattle.machine.specs.Previews.{Previewed};
 ghost use Rattle.words_store.specs.Form.{spelled};

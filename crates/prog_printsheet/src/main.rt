@@ -2,6 +2,8 @@
 // then a stream, whose table it loads and whose score it plays: a sheet line for each command, up to a bad byte.
 // Where lines could not be written it says so on standard error, since a program has no exit status of its own to
 // tell it by.
+#![tactic(auto)]
+
 ghost use Rattle.std.specs.Prelude.{◌≡◌, ◌≤◌, length};
 ghost use Rattle.prog_printsheet.specs.SheetPrinted.{most_input};
 

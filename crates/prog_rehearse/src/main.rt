@@ -1,6 +1,8 @@
 // The program `rehearse`: loads the table that its standard input holds and plays the score after it. It prints a
 // line for each score command, and stops at a bad byte. Where lines could not be written it says so on standard
 // error, since a program has no exit status of its own to tell it by.
+#![tactic(auto)]
+
 ghost use Rattle.std.specs.Prelude.{◌≡◌, ◌≤◌, length};
 ghost use Rattle.machine.specs.Rehearse.{most_read};
 

@@ -1,6 +1,8 @@
 // The program `savetable`: loads the table that its standard input holds and writes its bytes, as `save` puts them, to
 // standard output. Where the load is refused it writes nothing there, and the line of the refusal to standard error.
 // Where bytes could not be written it says so there, since a program has no exit status of its own to tell it by.
+#![tactic(auto)]
+
 ghost use Rattle.std.specs.Prelude.{◌≤◌, ◌≡◌, length, take};
 ghost use Rattle.machine.specs.Rehearse.{most_read};
 ghost use Rattle.machine.specs.Save.{longest_table};
@@ -19,7 +21,7 @@ const MOST: usize = 65536;
 const ROOM: usize = 1891;
 
 // What there is to tell of a stream: whether its load was refused, and how many bytes of a buffer tell it.
-#[derive(Drop)]
+#[derive(Clone, Copy)]
 struct Told {
     refused: bool,
     length: usize,

@@ -1,6 +1,8 @@
 // The program `streams`, a test of the loader: loads each stream that its standard input spells, and prints the number,
 // the position and what was loaded. A line that has digits spells a stream in hexadecimal; a hyphen alone is the empty
 // stream, and `#` begins a comment.
+#![tactic(auto)]
+
 ghost use Rattle.std.specs.Prelude.{◌≤◌, length};
 
 use crate::print::print_loaded;
@@ -15,7 +17,7 @@ const ROOM: usize = 1024;
 const NONE: u8 = 16;
 
 // What a line spells so far: whether it spells a stream, how many bytes, and the first digit of the next one.
-#[derive(Drop)]
+#[derive(Clone, Copy)]
 struct Spelled {
     found: bool,
     count: usize,

@@ -1,5 +1,7 @@
 // Refusals: the one list of their numbers, with the names of the binding's enum; a number where there is cause for it,
 // 0 meaning none; and the first of two. The order of tests is then the order of operands.
+#![tactic(auto)]
+
 ghost use Rattle.std.specs.Prelude.{◌≡◌, cond, eqb};
 
 // The stream is cut.

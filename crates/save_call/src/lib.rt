@@ -1,5 +1,7 @@
 // Saving: the bytes of a model's table, written into a buffer that the caller lends. The call is `save`, on lent words;
 // its contract cites `specs/SavedInto.antt`, which is made of the machine's `specs/Save.antt` and `specs/Writing.antt`.
+#![tactic(auto)]
+
 ghost use Rattle.std.specs.Prelude.{◌≡◌, true, ◌≤◌, length};
 ghost use Rattle.machine.specs.Sound.{table_fits};
 ghost use Rattle.machine.specs.TableBytes.{table_bytes};

@@ -17,7 +17,7 @@ use words_store::lookup::{
 use write_bytes::put::put_byte;
 
 // How many bytes the parts of a table with their spans take, and its wires.
-#[derive(Drop)]
+#[derive(Clone, Copy)]
 pub struct Lengths {
     pub parts: usize,
     pub wires: usize,

@@ -1,6 +1,8 @@
 // Sheet lines: an answer printed as a line of 78 columns and a line feed into a buffer that the caller lends. The call
 // is `sheet`, on lent words; its contract cites `specs/SheetInto.antt`, which is made of the machine's
 // `specs/Sheet.antt` and `specs/Writing.antt`.
+#![tactic(auto)]
+
 ghost use Rattle.std.specs.Prelude.{◌≡◌, ◌&&◌, ◌≤◌, ltb, length};
 ghost use Rattle.machine.specs.Sheet.{sheet_line};
 ghost use Rattle.write_bytes.specs.Put.{Put};

@@ -1,5 +1,7 @@
 // The test of soundness, which advancing asks first. Its contract cites the machine's
 // `specs/Sound.antt` and `words_store`'s `specs/ModelIn.antt` and `specs/Form.antt`.
+#![tactic(auto)]
+
 ghost use Rattle.std.specs.Prelude.{◌≡◌, ◌&&◌};
 ghost use Rattle.machine.specs.Model.{trimmed};
 ghost use Rattle.machine.specs.Sound.{sound};

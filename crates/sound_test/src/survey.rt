@@ -13,7 +13,7 @@ use part_rules::ratio::larger_of;
 use words_store::lookup::{component_at, magnitude_of, ordered_part, parts_of};
 
 // The master's magnitude, and of the parts in use the direct sources and the numbers in their order.
-#[derive(Drop)]
+#[derive(Clone, Copy)]
 pub struct Survey {
     pub magnitude: u8,
     pub direct: [Direct; PARTS],

@@ -16,7 +16,7 @@ use machine::model::PARTS;
 use machine::part::SPANS;
 
 // The runs of words of a part: those before its spans in the table, its spans, those after them, and its state.
-#[derive(Drop)]
+#[derive(Clone, Copy)]
 enum Run {
     Operands,
     Spans,
