@@ -1,5 +1,5 @@
 -- The rows of demand 3: worked lists compute, and what the claim says is a field of it. Assumes nothing.
-use Prim.Native.Nat.{ℕ, ◌*◌, ◌≤◌, ◌<◌}
+use Prim.Native.Nat.{ℕ, ◌*◌, ◌<◌}
 use mathlib.Core.Path.{◌≡◌, refl}
 use mathlib.Core.List.{List, Memᴰ}
 use lib.ListN.{length}

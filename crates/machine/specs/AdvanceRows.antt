@@ -3,7 +3,7 @@
 -- halving; and the bounds of a call. Assumes nothing.
 use Rattle.std.specs.Prelude.{ℕ, ◌+◌, ◌*◌, ◌≤◌, ◌≡◌, true, false, List, [], ◌∷◌, length, pos, negsuc}
 use Rattle.machine.specs.declared.signal.Signal.TheVariants.{Absent, Value}
-use Rattle.machine.specs.declared.part.Kind.TheVariants.{Constant, Pulse, Delay, Integrator, Detector}
+use Rattle.machine.specs.declared.part.Kind.TheVariants.{Constant, Pulse, Integrator, Detector}
 use Rattle.machine.specs.declared.part.Source.TheVariants.{Unwired, From}
 use Rattle.machine.specs.declared.part.Side.TheVariants.{Negative}
 use Rattle.machine.specs.declared.part.Mark.{Mark}

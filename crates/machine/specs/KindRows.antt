@@ -7,7 +7,7 @@ use Rattle.machine.specs.declared.part.Kind.TheVariants.{Constant, Adder, Square
 use Rattle.machine.specs.Lists.{selected}
 use Rattle.machine.specs.Kind.{kind_number, kinds, kind_known, kind_of, ports, direct0, direct1, names_a, names_b}
 use Rattle.machine.specs.Kind.{names_p, is_positive, operands_fit, integrates, has_mass}
-use Rattle.machine.specs.Accept.{Class, waiting, delaying, detecting, driving, free, class}
+use Rattle.machine.specs.Accept.{waiting, delaying, detecting, driving, free, class}
 
 -- the numbers of the kinds of which f holds
 abbrev pub those : (Kind → Bool) → List ℕ

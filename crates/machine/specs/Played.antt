@@ -1,7 +1,7 @@
 -- Document 01, "Played examples": the ten cases marked *, as rows of a single statement. Each is about the definitions
 -- that the promises cite; the first is about `rehearsed`, which the program's promises are about
 -- (`crates/play_score/specs/WholeScore.antt`). Assumes nothing.
-use Rattle.std.specs.Prelude.{ℕ, ◌+◌, ◌-◌, ◌≡◌, true, List, [], ◌∷◌, ◌++◌, map, replicate, ℤ, pos, negsuc}
+use Rattle.std.specs.Prelude.{ℕ, ◌-◌, ◌≡◌, true, List, [], ◌∷◌, ◌++◌, map, replicate, ℤ, pos, negsuc}
 use Rattle.machine.specs.declared.signal.Signal.{Signal}
 use Rattle.machine.specs.declared.signal.Signal.TheVariants.{Absent, Value}
 use Rattle.machine.specs.declared.part.Kind.{Kind}

@@ -1,6 +1,6 @@
 -- Document 02, request 5: what refuses a sheet line, in which order, and what a line shows of an answer. SheetExamples
 -- has the lines themselves. Assumes nothing.
-use Rattle.std.specs.Prelude.{ℕ, ◌≡◌, true, false, List, [], ◌∷◌, pos, negsuc}
+use Rattle.std.specs.Prelude.{ℕ, ◌≡◌, true, false, [], ◌∷◌, pos, negsuc}
 use Rattle.machine.specs.declared.signal.Signal.TheVariants.{Absent, Value}
 use Rattle.machine.specs.declared.model.Model.{Model}
 use Rattle.machine.specs.declared.model.Answer.{Answer}

@@ -1,6 +1,6 @@
 -- Document 01, "Time", number by number: points and steps at both ends of the time, magnitudes, ratios, local counts.
 -- Each row computes a definition at its ends, so that a number that is off by one makes a row false. Assumes nothing.
-use Rattle.std.specs.Prelude.{ℕ, ◌≡◌, true, false, List, [], ◌∷◌, map}
+use Rattle.std.specs.Prelude.{ℕ, ◌≡◌, true, false, [], ◌∷◌}
 use Rattle.machine.specs.declared.time.Comparison.TheVariants.{Earlier, Same, Later}
 use Rattle.machine.specs.declared.time.LocalTicks.{LocalTicks}
 use Rattle.machine.specs.declared.time.Stepped.TheVariants.{To, Past}

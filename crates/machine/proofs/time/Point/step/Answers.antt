@@ -4,23 +4,17 @@
 -- the last tick is 0.
 use Prim.Native.Nat.{ℕ, ◌+◌, ◌≤◌, ◌<◌}
 use native.Mathlib.Omega.{arith}
-use mathlib.Core.Path.{◌≡◌, refl, sym, ap, subst, ◌∙◌}
+use mathlib.Core.Path.{◌≡◌, refl, sym, ap, ◌∙◌}
 use mathlib.Core.Bool.{Bool, true, false, cond}
-use mathlib.Core.List.{[], ◌∷◌}
-use mathlib.Core.Logic.{inl, inr}
-use denote.Enum.Declared.{tag_of}
-use types.Run.{OneOf}
 use lib.Dec.{eqb, ltb}
-use borrow.Author.Rules.{rules}
 use borrow.Author.Tests.{le-leb, lt-leb, le-ltb, ltb-true, ltb-false, eq-eqb, ne_eqb}
-use Rattle.machine.specs.contracts.time.Comparison.{the_type}
 use Rattle.machine.specs.declared.time.Point.{Point}
 use Rattle.machine.specs.declared.time.Comparison.{Comparison}
 use Rattle.machine.specs.declared.time.Comparison.TheVariants.{Earlier, Same, Later}
 use Rattle.machine.specs.declared.time.Stepped.TheVariants.{To, Past}
 use Rattle.machine.specs.Time.{compared, in_time, last, last_microstep, last_tick, led_to, point, stepped, tick}
-use Rattle.machine.proofs.time.Point.step.Statement.{statement}
-use Rattle.machine.proofs.time.Point.step.Tie as tie
+use Rattle.machine.proofs.time.Point.step.Goals as goal
+use Rattle.machine.proofs.time.Point.step.Goals.{In-Earlier}
 
 -- of two points past the last tick, either one is out of the time
 either_past : (b : Bool) (p q : Point) → last_tick < tick p → last_tick < tick q →
@@ -35,10 +29,9 @@ earlier_told true d e = refl
 earlier_told false true e = absurd (let z : ◌≡◌ {A = ℕ} 0 1 = cc in omega arith)
 earlier_told false false e = absurd (let z : ◌≡◌ {A = ℕ} 0 1 = cc in omega arith)
 
-not_earlier_told : (c : Bool) (x : Comparison) → OneOf (1 ∷ 2 ∷ []) (tag_of the_type (cond c Earlier x)) → c ≡ false
-not_earlier_told true x (inl e) = absurd (omega arith)
-not_earlier_told true x (inr e) = absurd (omega arith)
-not_earlier_told false x one = refl
+not_earlier_told : (c : Bool) (x : Comparison) → (cond c Earlier x ≡ Earlier → ⊥) → c ≡ false
+not_earlier_told true x other = absurd (other refl)
+not_earlier_told false x other = refl
 
 later_told : (a b : Bool) → cond a Earlier (cond b Later Earlier) ≡ Later → b ≡ true
 later_told a true e = refl
@@ -46,11 +39,10 @@ later_told true false e = absurd (let z : ◌≡◌ {A = ℕ} 0 1 = cc in omega 
 later_told false false e = absurd (let z : ◌≡◌ {A = ℕ} 0 1 = cc in omega arith)
 
 not_later_told : (a b : Bool) (s t : ℕ) (x : Comparison) → ltb s t ≡ a → ltb t s ≡ b →
-    OneOf (0 ∷ 1 ∷ []) (tag_of the_type (cond a Earlier (cond b Later x))) → s ≤ t
-not_later_told true b s t x ea eb one = let less = ltb-true s t ea in omega arith
-not_later_told false true s t x ea eb (inl e) = absurd (omega arith)
-not_later_told false true s t x ea eb (inr e) = absurd (omega arith)
-not_later_told false false s t x ea eb one = ltb-false t s eb
+    (cond a Earlier (cond b Later x) ≡ Later → ⊥) → s ≤ t
+not_later_told true b s t x ea eb other = let less = ltb-true s t ea in omega arith
+not_later_told false true s t x ea eb other = absurd (other refl)
+not_later_told false false s t x ea eb other = ltb-false t s eb
 
 -- a point compared with another of its tick
 earlier : (p : Point) (n : ℕ) → compared p (point (tick p) n) ≡ Earlier → p.n < n
@@ -58,18 +50,19 @@ unfolding compared
 earlier p n e = ltb-true _ _
     (earlier_told (ltb p.n n) (ltb n p.n) (simp (le-ltb (tick p) (tick p) (omega arith)) at e))
 
-not_earlier : (p : Point) (n : ℕ) → OneOf (1 ∷ 2 ∷ []) (tag_of the_type (compared p (point (tick p) n))) → n ≤ p.n
+not_earlier : (p : Point) (n : ℕ) → (compared p (point (tick p) n) ≡ Earlier → ⊥) → n ≤ p.n
 unfolding compared
-not_earlier p n one = ltb-false _ _ (not_earlier_told _ _ (simp (le-ltb (tick p) (tick p) (omega arith)) at one))
+not_earlier p n other =
+    ltb-false _ _ (not_earlier_told _ _ (λ e. other (simp (le-ltb (tick p) (tick p) (omega arith)) e)))
 
 -- the first point of a tick compared with the last point
 later : (t : ℕ) → compared (point t 0) last ≡ Later → last_tick < t
 unfolding compared
 later t e = ltb-true _ _ (later_told (ltb t last_tick) (ltb last_tick t) e)
 
-not_later : (t : ℕ) → OneOf (0 ∷ 1 ∷ []) (tag_of the_type (compared (point t 0) last)) → t ≤ last_tick
+not_later : (t : ℕ) → (compared (point t 0) last ≡ Later → ⊥) → t ≤ last_tick
 unfolding compared
-not_later t one = not_later_told _ _ t last_tick _ refl refl one
+not_later t other = not_later_told _ _ t last_tick _ refl refl other
 
 -- where a step leads, by its length and by these
 too_long : (p : Point) (h : ℕ) → last_tick < h → Past ≡ stepped p h
@@ -95,83 +88,38 @@ past_the_time : (p : Point) (h : ℕ) → (h ≡ 0 → ⊥) → last_tick < tick
 unfolding stepped in_time led_to
 past_the_time p h other past = simp (ne_eqb h 0 other, lt-leb _ _ past)
 
-returns : tie.Need-returns
+pub returns-then-t : goal.returns-then-t
 unfolding stepped led_to
-returns c = either_past (eqb c.before.before.args.h.0 0) _ _ c.if1.true (omega arith)
+returns-then-t c = either_past (eqb c.args.h.0 0) _ _ c.if-t.true (omega arith)
 
-returns-2 : tie.Need-returns-2
-returns-2 c = too_long _ _ c.if2.true
+pub returns-then-h : goal.returns-then-h
+returns-then-h c = too_long _ _ c.if-h.true
 
-compare-requires : tie.Need-compare-requires
-compare-requires c κs = search rules
-
-enum_told : tie.Need-enum-told
-enum_told c = search rules
-
-returns-3 : tie.Need-returns-3
-returns-3 c =
-    let zero = c.before.before in
-    let tested = zero.before.before.before.before.before in
-    let within = tested.if1.false in
-    let one = subst (λ (x : Comparison). OneOf (1 ∷ 2 ∷ []) (tag_of the_type x)) c.before.compare.ensures
-    c.match.keys2 in
-    from_the_end _ _ within zero.if3.true (not_earlier _ last_microstep one)
+pub returns-in_default : goal.returns-in_default
+returns-in_default c =
+    let within = c.if-t.false in
+    from_the_end _ _ within c.if-h-eq0.true
+    (not_earlier _ last_microstep (λ e. c.in_default.not-Earlier (c.compare.ensures ∙ e)))
 
 -- the point lies before the last one of its tick
-before_the_end : (c : tie.After-enum-told) →
-    let start = c.before.before.before.before.before.before.before.before.before.before in
-    start.args.self.n < last_microstep
-before_the_end c = earlier _ last_microstep (sym c.before.before.compare.ensures ∙ c.enum_told.given.1)
+before_the_end : (c : In-Earlier) →
+    c.args.self.n < last_microstep
+before_the_end c = earlier _ last_microstep (sym c.compare.ensures ∙ c.in-Earlier.is)
 
-add-t14 : tie.Need-overflow-add-t14
-add-t14 c = omega (arith, before_the_end c)
+pub overflow_add-result : goal.overflow_add-result
+overflow_add-result c = omega (arith, before_the_end (goal.at.overflow_add-result c).In-Earlier)
 
-returns-4 : tie.Need-returns-4
-returns-4 c =
-    let zero = c.before.before.before in
-    let tested = zero.before.before.before.before.before in
-    let within = tested.if1.false in
-    within_the_tick _ _ within zero.if3.true (before_the_end c)
+pub returns-then-h-eq0 : goal.returns-then-h-eq0
+returns-then-h-eq0 c =
+    let within = c.if-t.false in
+    within_the_tick _ _ within c.if-h-eq0.true (before_the_end (goal.at.returns-then-h-eq0 c).In-Earlier)
 
-add-t15 : tie.Need-overflow-add-t15
-add-t15 c = search rules
+pub returns-in_default-compare : goal.returns-in_default-compare
+returns-in_default-compare c =
+    let at = c.compare-2.ensures ∙ ap (compared _) c.last.ensures in
+    within_the_time _ _ c.if-h-eq0.false (not_later _ (λ e. c.in_default-compare.not-Later (at ∙ e)))
 
-last-requires : tie.Need-last-requires
-last-requires c κs = search rules
-
-compare-requires-2 : tie.Need-compare-requires-2
-compare-requires-2 c κs = search rules
-
-enum-told-2 : tie.Need-enum-told-2
-enum-told-2 c = search rules
-
-returns-5 : tie.Need-returns-5
-returns-5 c =
-    let ends = c.before.before in
-    let at = c.before.compare2.ensures ∙ ap (compared _) ends.last.ensures in
-    let one = subst (λ (x : Comparison). OneOf (0 ∷ 1 ∷ []) (tag_of the_type x)) at c.match2.keys2 in
-    within_the_time _ _ ends.before.before.if3.false (not_later _ one)
-
-returns-6 : tie.Need-returns-6
-returns-6 c =
-    let ends = c.before.before.before in
-    let at = c.before.before.compare2.ensures ∙ ap (compared _) ends.last.ensures in
-    past_the_time _ _ ends.before.before.if3.false (later _ (sym at ∙ c.enum_told2.given.1))
-
-pub step_spec : {M : Type 1} → statement M
-step_spec =
-    tie.close
-    (tie.spec
-    returns
-    returns-2
-    compare-requires
-    enum_told
-    returns-3
-    add-t14
-    returns-4
-    add-t15
-    last-requires
-    compare-requires-2
-    enum-told-2
-    returns-5
-    returns-6)
+pub returns : goal.returns
+returns c =
+    let at = c.compare-2.ensures ∙ ap (compared _) c.last.ensures in
+    past_the_time _ _ c.if-h-eq0.false (later _ (sym at ∙ c.in-Later.is))
