@@ -13,7 +13,7 @@ import re
 import sys
 
 WORD = r"[\w'₀-₉◌ℕℤ≤≡]"
-DASHED = re.compile(r"(?<![\w'₀-₉·-])([A-Za-z◌][\w'₀-₉]*(?:-[\w'₀-₉]+)+)(?![\w-])")
+DASHED = re.compile(r"(?<![\w'₀-₉·-])([A-Za-z][\w'₀-₉]*(?:-[\w'₀-₉]+)+)(?![\w-])")
 USE = re.compile(r"\b(?:pub )?use\s+([\w.'+-]+?)\.\{([^}]*)\}", re.S)
 MADE = re.compile(r"^(?:Need-|After-|In-|Else-|Then-|invariant-|decreases-|returns-\d|.*-requires(?:-\d+)?$|loop-(?:holds|less|again|test))")
 
@@ -67,7 +67,7 @@ def turn_code(code, keep, only=None):
     def one(m):
         t = m.group(1)
         before = code[: m.start()]
-        if t in keep or MADE.match(t) or before.endswith("tie.") or (only is not None and t not in only):
+        if t in keep or MADE.match(t) or before.endswith(("tie.", "Memᴰ.")) or (only is not None and t not in only):
             return t
         return respelled(t)
 

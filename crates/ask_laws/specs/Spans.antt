@@ -80,7 +80,7 @@ largest_from [] d v =
       among = Memᴰ.head refl;
       least = omega arith;
       below = λ p. p;
-      most = λ s m. absurd (Memᴰ.not_nil m);
+      most = λ s m. absurd (Memᴰ.not-nil m);
     }
 largest_from (x ∷ xs) d v = by_test (ltb x d) refl (largest_from xs d)
   where

@@ -124,7 +124,7 @@ member_in n (x ∷ xs) h = at_head_or_later (or_cases (eqb n x) (member n xs) h)
 
 pub in_member : (n : ℕ) (xs : List ℕ) → Memᴰ n xs → member n xs ≡ true
 unfolding member any
-in_member n [] m = absurd (Memᴰ.not_nil m)
+in_member n [] m = absurd (Memᴰ.not-nil m)
 in_member n (x ∷ xs) m = at_head_or_later (Memᴰ.cases_cons m) (in_member n xs)
   where
     at_head_or_later : (n ≡ x) ⊎ Memᴰ n xs → (Memᴰ n xs → member n xs ≡ true) → member n (x ∷ xs) ≡ true
@@ -161,7 +161,7 @@ module _
 
   -- from the empty front on
   pub along : (i : ℕ) → Memᴰ i ks → P i
-  along = along_from ks [] refl (λ j n. absurd (Memᴰ.not_nil n))
+  along = along_from ks [] refl (λ j n. absurd (Memᴰ.not-nil n))
 
 -- lists of at most n numbers for each element of a list are together at most n times as long as it
 pub flatMap_few :

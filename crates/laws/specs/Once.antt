@@ -15,7 +15,7 @@ Once (k ∷ ks) = (Memᴰ k ks → ⊥) × Once ks
 
 -- where no number occurs twice, none is both in the front and in the rest
 pub once_apart : (front rest : List ℕ) (i : ℕ) → Once (front ++ rest) → Memᴰ i front → Memᴰ i rest → ⊥
-once_apart [] rest i once m n = Memᴰ.not_nil m
+once_apart [] rest i once m n = Memᴰ.not-nil m
 once_apart (j ∷ front) rest i once (Memᴰ.head e) n = once.0 (Memᴰ.append_right front (Memᴰ.cast (sym e) n))
 once_apart (j ∷ front) rest i once (Memᴰ.tail m) n = once_apart front rest i once.1 m n
 

@@ -117,7 +117,7 @@ module _ (cs : List Component) where
   -- a part that gets its turn was marked from the beginning
   placing_marked : (ks : List ℕ) (marks : List Bool) → Placing cs marks ks → (j : ℕ) → Memᴰ j ks →
       get_or marks j false ≡ true
-  placing_marked [] marks p j m = absurd (Memᴰ.not_nil m)
+  placing_marked [] marks p j m = absurd (Memᴰ.not-nil m)
   placing_marked (k ∷ ks) marks p j (Memᴰ.head e) = rw e p.0.unplaced
   placing_marked (k ∷ ks) marks p j (Memᴰ.tail m) =
       marked_before marks k j (placing_marked ks (set marks k false) p.1 j m)
@@ -132,7 +132,7 @@ module _ (cs : List Component) where
 
   -- each part that gets its turn is there
   placing_below : (ks : List ℕ) (marks : List Bool) → Placing cs marks ks → (j : ℕ) → Memᴰ j ks → j < length cs
-  placing_below [] marks p j m = absurd (Memᴰ.not_nil m)
+  placing_below [] marks p j m = absurd (Memᴰ.not-nil m)
   placing_below (k ∷ ks) marks p j (Memᴰ.head e) = rw e p.0.below
   placing_below (k ∷ ks) marks p j (Memᴰ.tail m) = placing_below ks (set marks k false) p.1 j m
 

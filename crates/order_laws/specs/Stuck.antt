@@ -78,7 +78,7 @@ walk_chain : (cs : List Component) (j k i : ℕ) (ks : List ℕ) → DirectWire 
     Memᴰ i (k ∷ ks) →
     (js : List ℕ) × Chained cs j js i
 walk_chain cs j k i ks wire walk (Memᴰ.head e) = ([], rw e wire)
-walk_chain cs j k i [] wire walk (Memᴰ.tail m) = absurd (Memᴰ.not_nil m)
+walk_chain cs j k i [] wire walk (Memᴰ.tail m) = absurd (Memᴰ.not-nil m)
 walk_chain cs j k i (l ∷ ks) wire walk (Memᴰ.tail m) =
     let (js, chain) = walk_chain cs k l i ks walk.0 walk.1 m in
     (k ∷ js, (wire, chain))
@@ -141,7 +141,7 @@ module _ (cs : List Component) where
       let short : length (part_order cs) < length cs = leb-false (length cs) (length (part_order cs)) h in
       let some_left : 0 < left unplaced = omega (arith, unplaced_left) in
       let (k, m) = one_left unplaced some_left in
-      walk_loop cs unplaced (unplaced_source short) (left unplaced) k [] (Memᴰ.not_nil, tt)
+      walk_loop cs unplaced (unplaced_source short) (left unplaced) k [] (Memᴰ.not-nil, tt)
       (λ j n. rw (Memᴰ.eq_of_singleton n) m) tt (omega arith)
 
   -- a chain begins before its end, wherever that is in the order

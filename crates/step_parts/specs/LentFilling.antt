@@ -200,7 +200,7 @@ clean_more ts a b c i k out so_far number put =
 
 -- what holds of all elements of a list holds of its members
 of_member : (P : ℕ → Type 0) (k : ℕ) (l : List ℕ) → All P l → Memᴰ k l → P k
-of_member P k [] all among = absurd (Memᴰ.not_nil among)
+of_member P k [] all among = absurd (Memᴰ.not-nil among)
 of_member P k (x ∷ l) all among = cases (Memᴰ.cases_cons among) (of_member P k l all.1)
   where
     cases : (k ≡ x) ⊎ Memᴰ k l → (Memᴰ k l → P k) → P k
