@@ -7,11 +7,9 @@ use mathlib.Core.Path.{◌≡◌}
 use mathlib.Core.Bool.{true, false}
 use mathlib.Core.Logic.{◌⊎◌, inl, inr}
 use lib.Dec.{leb}
-use borrow.Author.Rules.{rules}
 use borrow.Author.Tests.{le-leb, leb-false, leb-true, lt-leb}
 use Rattle.laws.specs.Bools.{either}
-use Rattle.part_rules.proofs.ratio.period_fits.Statement.{statement}
-use Rattle.part_rules.proofs.ratio.period_fits.Tie as tie
+use Rattle.part_rules.proofs.ratio.period_fits.Goals as goal
 
 -- a quotient bounds what the product bounds
 quotient_test : (p r last : ℕ) → 0 < p → leb r (last / p) ≡ leb (p * r) last
@@ -23,16 +21,10 @@ quotient_test p r last above = by_product (either (leb (r * p) last))
     by_product (inr e) = rw (mul_comm p r, e)
         (lt-leb r (last / p) ((div-lt_iff_lt-mul above).1 (leb-false (r * p) last e)))
 
-returns : tie.Need-returns
-returns c = rw (c.if1.true, zero-mul)
+pub returns-then-p-eq0 : goal.returns-then-p-eq0
+returns-then-p-eq0 c = rw (c.if-p-eq0.true, zero-mul)
 
-div-result : tie.Need-nonzero-div-result
-div-result c = search rules
-
-returns-2 : tie.Need-returns-2
-returns-2 c =
-    let args = c.before.before.args in
+pub returns : goal.returns
+returns c =
+    let args = c.args in
     quotient_test args.p args.ratio _ (omega arith)
-
-pub period_fits_spec : {M : Type 1} → statement M
-period_fits_spec = tie.close (tie.spec returns div-result returns-2)

@@ -12,10 +12,8 @@ use lib.Dec.{T}
 use mir.Syntax.{w64}
 use mir.Val.{Fits, SFits, of_z, to_z}
 use mir.ValLaws.{to_z-of_z}
-use borrow.Author.Rules.{rules}
 use Rattle.laws.specs.Signed.{negative, not_negative}
-use Rattle.write_bytes.proofs.number.absolute.Statement.{statement}
-use Rattle.write_bytes.proofs.number.absolute.Tie as tie
+use Rattle.write_bytes.proofs.number.absolute.Goals as goal
 
 -- one above −(n + 1) fits, and is n negated
 above_fits : (n : ℕ) → SFits w64 (negsuc n) → SFits w64 (negsuc n +ℤ pos 1)
@@ -51,43 +49,29 @@ of_other v fits left =
     let same = rw (not_negative v left) at fits in
     rw (not_negative v left) (tt, omega (arith, same.sfits))
 
-add-result : tie.Need-overflow-add-result
-add-result c =
-    let start = c.before in
-    rw (to_z-of_z w64 start.args.v start.ranges.v)
-    (next_fits start.args.v start.ranges.v c.if1.true)
+pub overflow_add-result : goal.overflow_add-result
+overflow_add-result c =
+    rw (to_z-of_z w64 c.args.v c.ranges.v)
+    (next_fits c.args.v c.ranges.v c.if-v-lt0.true)
 
-sub-result : tie.Need-overflow-sub-result
-sub-result c =
-    let start = c.before in
-    rw (flipped start.args.v start.ranges.v c.if1.true) (record { sfits = start.ranges.v.sfits })
+pub overflow_sub-result : goal.overflow_sub-result
+overflow_sub-result c =
+    rw (flipped c.args.v c.ranges.v c.if-v-lt0.true) (record { sfits = c.ranges.v.sfits })
 
-cast-result : tie.Need-overflow-cast-result
-cast-result c =
-    let start = c.before in
-    rw (computed start.args.v start.ranges.v c.if1.true) (tt, omega arith)
+pub overflow_cast-result : goal.overflow_cast-result
+overflow_cast-result c =
+    rw (computed c.args.v c.ranges.v c.if-v-lt0.true) (tt, omega arith)
 
-add-result-2 : tie.Need-overflow-add-result-2
-add-result-2 c =
-    let start = c.before in
-    rw (computed start.args.v start.ranges.v c.if1.true) (omega arith)
+pub overflow_add-result-then-v-lt0 : goal.overflow_add-result-then-v-lt0
+overflow_add-result-then-v-lt0 c =
+    rw (computed c.args.v c.ranges.v c.if-v-lt0.true) (omega arith)
 
-returns : tie.Need-returns
-returns c =
-    let start = c.before in
-    rw (computed start.args.v start.ranges.v c.if1.true)
-    (one_less start.args.v start.ranges.v c.if1.true)
+pub returns-then-v-lt0 : goal.returns-then-v-lt0
+returns-then-v-lt0 c =
+    rw (computed c.args.v c.ranges.v c.if-v-lt0.true)
+    (one_less c.args.v c.ranges.v c.if-v-lt0.true)
 
-cast-result-2 : tie.Need-overflow-cast-result-2
-cast-result-2 c =
-    let start = c.before in
-    let back = to_z-of_z w64 start.args.v start.ranges.v in
-    rw back (of_other start.args.v start.ranges.v (rw back at c.if1.false))
-
-returns-2 : tie.Need-returns-2
-returns-2 c = search rules
-
-pub absolute_spec : {M : Type 1} → statement M
-absolute_spec =
-    tie.close
-    (tie.spec add-result sub-result cast-result add-result-2 returns cast-result-2 returns-2)
+pub overflow_cast-result-2 : goal.overflow_cast-result-2
+overflow_cast-result-2 c =
+    let back = to_z-of_z w64 c.args.v c.ranges.v in
+    rw back (of_other c.args.v c.ranges.v (rw back at c.if-v-lt0.false))

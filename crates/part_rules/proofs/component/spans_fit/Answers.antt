@@ -14,8 +14,7 @@ use Rattle.laws.specs.Bools.{either}
 use Rattle.machine.specs.Load.{is_drive}
 use Rattle.machine.specs.Model.{trimmed_component}
 use Rattle.machine.specs.Sound.{spans_fit}
-use Rattle.part_rules.proofs.component.spans_fit.Statement.{statement}
-use Rattle.part_rules.proofs.component.spans_fit.Tie as tie
+use Rattle.part_rules.proofs.component.spans_fit.Goals as goal
 
 -- a count above the room is not that of a list within it
 above_room : (count room n : ℕ) (rise : Bool) → room < count → false ≡ (eqb count n && leb n room && rise)
@@ -30,34 +29,23 @@ room_within : (drive : Bool) → cond drive 8 0 ≤ 8
 room_within true = omega arith
 room_within false = omega arith
 
-span-room-requires : tie.Need-span-room-requires
-span-room-requires c κs = search rules
-
-returns : tie.Need-returns
+pub returns-then-c-span_room : goal.returns-then-c-span_room
 unfolding spans_fit trimmed_component
-returns c = rw (← c.before.before.span_room.ensures) (above_room _ _ _ _ c.if1.true)
+returns-then-c-span_room c = rw (← c.span_room.ensures) (above_room _ _ _ _ c.if-c-span_room.true)
 
-spans-rise-requires : tie.Need-spans-rise-requires
-spans-rise-requires c κs = search rules
-
-returns-2 : tie.Need-returns-2
+pub returns : goal.returns
 unfolding spans_fit trimmed_component
-returns-2 c =
-    let asked = c.before.before.before.before in
-    let room = asked.span_room in
-    let start = asked.before in
-    let part = start.args.c in
+returns c =
+    let room = c.span_room in
+    let part = c.args.c in
     let count = part.span_count in
-    let eight = simp length-map at start.well_formed.0 in
-    let places : count ≤ length part.spans =
-    omega (arith, eight, room_within (is_drive part.kind), room.ensures, c.before.before.if1.false) in
+    let eight = simp length-map at c.well_formed.0 in
+    let places : count ≤ length part.spans-1 =
+    omega (arith, eight, room_within (is_drive part.kind), room.ensures, c.if-c-span_room.false) in
     simp (
-      length-take-le count part.spans places,
+      length-take-le count part.spans-1 places,
       eq-eqb count count refl,
       sym room.ensures,
-      le-leb _ _ c.before.before.if1.false,
+      le-leb _ _ c.if-c-span_room.false,
       c.spans_rise.ensures,
     )
-
-pub spans_fit_spec : {M : Type 1} → statement M
-spans_fit_spec = tie.close (tie.spec span-room-requires returns spans-rise-requires returns-2)
