@@ -6,9 +6,8 @@ use mathlib.Core.Path.{◌≡◌, refl, sym}
 use mathlib.Core.Bool.{Bool, true, false, cond, ◌&&◌}
 use mathlib.Core.Logic.{◌⊎◌, inl, inr}
 use lib.Dec.{eqb, leb}
-use lib.ListN.{length, length-map}
+use lib.ListN.{length}
 use lib.Seq.{length-take-le}
-use borrow.Author.Rules.{rules}
 use borrow.Author.Tests.{eqb-true, eq-eqb, le-leb, lt-leb}
 use Rattle.laws.specs.Bools.{either}
 use Rattle.machine.specs.Load.{is_drive}
@@ -39,11 +38,11 @@ returns c =
     let room = c.span_room in
     let part = c.args.c in
     let count = part.span_count in
-    let eight = simp length-map at c.well_formed.0 in
-    let places : count ≤ length part.spans-1 =
+    let eight : length part.spans ≡ 8 = omega arith in
+    let places : count ≤ length part.spans =
     omega (arith, eight, room_within (is_drive part.kind), room.ensures, c.if-c-span_room.false) in
     simp (
-      length-take-le count part.spans-1 places,
+      length-take-le count part.spans places,
       eq-eqb count count refl,
       sym room.ensures,
       le-leb _ _ c.if-c-span_room.false,

@@ -1,8 +1,8 @@
 -- `is_signal` goes by the definition's two cases. A value comes as its bits, of which `to_z-of_z` gives the number.
+use native.Mathlib.Omega.{arith}
 use mathlib.Core.Path.{ap}
 use mir.Syntax.{w64}
 use mir.ValLaws.{to_z-of_z}
-use borrow.Author.Rules.{rules}
 use Rattle.machine.specs.Signal.{is_signal, is_value}
 use Rattle.part_rules.proofs.range.is_signal.Goals as goal
 
@@ -15,4 +15,4 @@ unfolding is_signal
 returns-in-Value c =
     let v = c.in-Value.v in
     rw (c.in-Value.is, c.is_value.ensures)
-    (ap is_value (to_z-of_z w64 v (record { sfits = c.known_told-1-own.given.0.1 })))
+    (ap is_value (to_z-of_z w64 v (record { sfits = omega arith })))
