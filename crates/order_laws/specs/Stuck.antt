@@ -74,13 +74,13 @@ Walked cs k [] = Unit {0}
 Walked cs k (j ∷ js) = DirectWire cs k j × Walked cs j js
 
 -- a wire into where the walk is goes on as a chain to each part that the walk came by
-walk_chain : (cs : List Component) (j k i : ℕ) (ks : List ℕ) → DirectWire cs j k → Walked cs k ks →
+walk_chain : (cs : List Component) (i j k : ℕ) (ks : List ℕ) → DirectWire cs j k → Walked cs k ks →
     Memᴰ i (k ∷ ks) →
     (js : List ℕ) × Chained cs j js i
-walk_chain cs j k i ks wire walk (Memᴰ.head e) = ([], rw e wire)
-walk_chain cs j k i [] wire walk (Memᴰ.tail m) = absurd (Memᴰ.not-nil m)
-walk_chain cs j k i (l ∷ ks) wire walk (Memᴰ.tail m) =
-    let (js, chain) = walk_chain cs k l i ks walk.0 walk.1 m in
+walk_chain cs i j k ks wire walk (Memᴰ.head e) = ([], rw e wire)
+walk_chain cs i j k [] wire walk (Memᴰ.tail m) = absurd (Memᴰ.not-nil m)
+walk_chain cs i j k (l ∷ ks) wire walk (Memᴰ.tail m) =
+    let (js, chain) = walk_chain cs i k l ks walk.0 walk.1 m in
     (k ∷ js, (wire, chain))
 
 module _
@@ -98,7 +98,7 @@ module _
       absurd (omega arith)
   walk_loop (suc n) k ks once marked walk h =
       let (i, wire, m) = back k (marked k (Memᴰ.head refl)) in
-      ⊎_elim (λ again. let (js, chain) = walk_chain cs i k i ks wire walk again in (i, js, chain))
+      ⊎_elim (λ again. let (js, chain) = walk_chain cs i i k ks wire walk again in (i, js, chain))
       (λ new.
       walk_loop n i (k ∷ ks) (new, once) (λ j o. ⊎_elim (λ e. rw e m) (marked j) (Memᴰ.cases_cons o)) (wire, walk)
       (omega arith))
