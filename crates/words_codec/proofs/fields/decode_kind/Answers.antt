@@ -1,10 +1,10 @@
 -- `decode_kind` is `kind_of`: each arm by its number, and the last by what is left, 0 and the numbers from 13 on.
+use borrow.Author.Rules.{rules}
 use Prim.Native.Nat.{ℕ, zero, suc}
 use mathlib.Core.Path.{◌≡◌, refl}
 use Rattle.machine.specs.declared.part.Kind.TheVariants.{Constant}
 use Rattle.machine.specs.Kind.{kind_of}
-use Rattle.words_codec.proofs.fields.decode_kind.Statement.{statement}
-use Rattle.words_codec.proofs.fields.decode_kind.Tie as tie
+use Rattle.words_codec.proofs.fields.decode_kind.Goals as goal
 
 -- what is left is the constant
 left_over :
@@ -29,63 +29,56 @@ left_over (suc (suc (suc (suc (suc (suc (suc (suc (suc (suc (suc (suc zero))))))
     absurd (l refl)
 left_over (suc (suc (suc (suc (suc (suc (suc (suc (suc (suc (suc (suc (suc n))))))))))))) a b c d e f g h i j k l = refl
 
-returns : tie.Need-returns
+pub returns-in-1 : goal.returns-in-1
 unfolding kind_of
-returns c = simp c.match.keys1
+returns-in-1 c = simp c.in-1.is
 
-returns-2 : tie.Need-returns-2
+pub returns-in-2 : goal.returns-in-2
 unfolding kind_of
-returns-2 c = simp c.match.keys2
+returns-in-2 c = simp c.in-2.is
 
-returns-3 : tie.Need-returns-3
+pub returns-in-3 : goal.returns-in-3
 unfolding kind_of
-returns-3 c = simp c.match.keys3
+returns-in-3 c = simp c.in-3.is
 
-returns-4 : tie.Need-returns-4
+pub returns-in-4 : goal.returns-in-4
 unfolding kind_of
-returns-4 c = simp c.match.keys4
+returns-in-4 c = simp c.in-4.is
 
-returns-5 : tie.Need-returns-5
+pub returns-in-5 : goal.returns-in-5
 unfolding kind_of
-returns-5 c = simp c.match.keys5
+returns-in-5 c = simp c.in-5.is
 
-returns-6 : tie.Need-returns-6
+pub returns-in-6 : goal.returns-in-6
 unfolding kind_of
-returns-6 c = simp c.match.keys6
+returns-in-6 c = simp c.in-6.is
 
-returns-7 : tie.Need-returns-7
+pub returns-in-7 : goal.returns-in-7
 unfolding kind_of
-returns-7 c = simp c.match.keys7
+returns-in-7 c = simp c.in-7.is
 
-returns-8 : tie.Need-returns-8
+pub returns-in-8 : goal.returns-in-8
 unfolding kind_of
-returns-8 c = simp c.match.keys8
+returns-in-8 c = simp c.in-8.is
 
-returns-9 : tie.Need-returns-9
+pub returns-in-9 : goal.returns-in-9
 unfolding kind_of
-returns-9 c = simp c.match.keys9
+returns-in-9 c = simp c.in-9.is
 
-returns-10 : tie.Need-returns-10
+pub returns-in-10 : goal.returns-in-10
 unfolding kind_of
-returns-10 c = simp c.match.keys10
+returns-in-10 c = simp c.in-10.is
 
-returns-11 : tie.Need-returns-11
+pub returns-in-11 : goal.returns-in-11
 unfolding kind_of
-returns-11 c = simp c.match.keys11
+returns-in-11 c = simp c.in-11.is
 
-returns-12 : tie.Need-returns-12
+pub returns-in-12 : goal.returns-in-12
 unfolding kind_of
-returns-12 c = simp c.match.keys12
+returns-in-12 c = simp c.in-12.is
 
-returns-13 : tie.Need-returns-13
-returns-13 c =
-    let r = c.match.rest in
-    left_over c.before.args.w r.0.0.0.0.0.0.0.0.0.0.0.1 r.0.0.0.0.0.0.0.0.0.0.1
-    r.0.0.0.0.0.0.0.0.0.1 r.0.0.0.0.0.0.0.0.1 r.0.0.0.0.0.0.0.1
-    r.0.0.0.0.0.0.1 r.0.0.0.0.0.1 r.0.0.0.0.1 r.0.0.0.1 r.0.0.1 r.0.1 r.1
-
-pub decode_kind_spec : {M : Type 1} → statement M
-decode_kind_spec =
-    tie.close
-    (tie.spec returns returns-2 returns-3 returns-4 returns-5 returns-6 returns-7 returns-8 returns-9 returns-10
-    returns-11 returns-12 returns-13)
+pub returns-in_default : goal.returns-in_default
+returns-in_default c =
+    left_over c.args.w
+    (search rules) (search rules) (search rules) (search rules) (search rules) (search rules)
+    (search rules) (search rules) (search rules) (search rules) (search rules) (search rules)
