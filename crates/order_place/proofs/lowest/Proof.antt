@@ -27,98 +27,98 @@ candidate w left fits =
     let rest = mark_cleared 32 w (count_trailing_zeros 32 w) first.marked in
     record { first = first; rest = rest; shifted = one_mark 32 (count_trailing_zeros 32 w) rest.below }
 
-abbrev invariant-loop : tie.invariant-loop
-invariant-loop marks direct candidates₀ candidates =
+abbrev invariant-loop-candidates : tie.invariant-loop-candidates
+invariant-loop-candidates marks direct candidates₀ candidates =
     (candidates < 2 ^ 32) ×
     (lowest_among (marks_of 32 candidates) (marks_of 32 marks) 0 direct ≡
     lowest_among (marks_of 32 marks) (marks_of 32 marks) 0 direct)
 
-abbrev decreases-loop : tie.decreases-loop
-decreases-loop marks direct candidates₀ candidates = candidates
+abbrev decreases-loop-candidates : tie.decreases-loop-candidates
+decreases-loop-candidates marks direct candidates₀ candidates = candidates
 
 -- the first candidate of a turn
-read_first : (c : tie.In-loop invariant-loop decreases-loop) →
-    Candidate c.before.loop.candidates (count_trailing_zeros 32 c.before.loop.candidates)
-read_first c = candidate c.before.loop.candidates c.loop-test.true c.before.loop.invariant.0
+read_first : (c : tie.In-loop-candidates invariant-loop-candidates decreases-loop-candidates) →
+    Candidate c.before.loop-candidates.candidates (count_trailing_zeros 32 c.before.loop-candidates.candidates)
+read_first c = candidate c.before.loop-candidates.candidates c.loop-candidates-test.true c.before.loop-candidates.invariant.0
 
-loop-holds : tie.Need-loop-init invariant-loop decreases-loop
-loop-holds c = (c.ranges.marks.fits, refl)
+loop-candidates-init : tie.Need-loop-candidates-init invariant-loop-candidates decreases-loop-candidates
+loop-candidates-init c = (c.ranges.marks.fits, refl)
 
-cast-part : tie.Need-overflow-cast-part invariant-loop decreases-loop
-cast-part c = omega (arith, (read_first c).rest.below)
+overflow_cast-part : tie.Need-overflow_cast-part invariant-loop-candidates decreases-loop-candidates
+overflow_cast-part c = omega (arith, (read_first c).rest.below)
 
-mul-part : tie.Need-overflow-mul-part invariant-loop decreases-loop
-mul-part c = omega (arith, (read_first c).rest.below)
+offset_bounds-direct-k : tie.Need-offset_bounds-direct-k invariant-loop-candidates decreases-loop-candidates
+offset_bounds-direct-k c = omega (arith, (read_first c).rest.below)
 
-array-copy-out-part : tie.Need-array-copy-out-part invariant-loop decreases-loop
-array-copy-out-part c = (read_first c).rest.below
+bounds-direct-k : tie.Need-bounds-direct-k invariant-loop-candidates decreases-loop-candidates
+bounds-direct-k c = (read_first c).rest.below
 
-ready-requires : tie.Need-ready-requires invariant-loop decreases-loop
+ready-requires : tie.Need-ready-requires invariant-loop-candidates decreases-loop-candidates
 ready-requires c κs = tt
 
-returns : tie.Need-returns invariant-loop decreases-loop
-returns c =
+returns-then-ready : tie.Need-returns-then-ready invariant-loop-candidates decreases-loop-candidates
+returns-then-ready c =
     let turn = c.before.before.before in
     let start = turn.before.before in
-    let direct = start.args.t1 in
-    let w = turn.before.loop.candidates in
+    let direct = start.args.direct in
+    let w = turn.before.loop-candidates.candidates in
     let full : length direct ≡ most_parts = start.well_formed.0.1.0.1 in
     let it = read_first turn in
     let below : count_trailing_zeros 32 w < length direct = omega (arith, it.rest.below) in
     rw (
-      ← turn.before.loop.invariant.1,
+      ← turn.before.loop-candidates.invariant.1,
       found (marks_of 32 w) (marks_of 32 start.args.marks) 0 (count_trailing_zeros 32 w)
           (count_trailing_zeros 32 w) direct no_sources
-          (zero-add (count_trailing_zeros 32 w)) below it.first (sym c.before.ready.ensures ∙ c.if1.true),
+          (zero-add (count_trailing_zeros 32 w)) below it.first (sym c.before.ready.ensures ∙ c.if-ready.true),
     )
 
-shl-candidates : tie.Need-overflow-shl-candidates invariant-loop decreases-loop
-shl-candidates c = (read_first c.before.before.before).rest.below
+overflow_shl-candidates : tie.Need-overflow_shl-candidates invariant-loop-candidates decreases-loop-candidates
+overflow_shl-candidates c = (read_first c.before.before.before).rest.below
 
-sub-candidates : tie.Need-overflow-sub-candidates invariant-loop decreases-loop
-sub-candidates c = let it = read_first c.before.before.before in rw it.shifted it.rest.fits
+overflow_sub-candidates : tie.Need-overflow_sub-candidates invariant-loop-candidates decreases-loop-candidates
+overflow_sub-candidates c = let it = read_first c.before.before.before in rw it.shifted it.rest.fits
 
-loop-less : tie.Need-loop-smaller invariant-loop decreases-loop
-loop-less c =
+loop-candidates-smaller : tie.Need-loop-candidates-smaller invariant-loop-candidates decreases-loop-candidates
+loop-candidates-smaller c =
     let it = read_first c.before.before.before in
     rw it.shifted it.rest.less
 
-loop-again : tie.Need-loop-preserved invariant-loop decreases-loop
-loop-again c =
+loop-candidates-preserved : tie.Need-loop-candidates-preserved invariant-loop-candidates decreases-loop-candidates
+loop-candidates-preserved c =
     let turn = c.before.before.before in
     let start = turn.before.before in
-    let w = turn.before.loop.candidates in
+    let w = turn.before.loop-candidates.candidates in
     let it = read_first turn in
     rw it.shifted (
-      omega (arith, turn.before.loop.invariant.0),
+      omega (arith, turn.before.loop-candidates.invariant.0),
       rw it.rest.marks
-          (passed (marks_of 32 w) (marks_of 32 start.args.marks) 0 (count_trailing_zeros 32 w) start.args.t1 no_sources
+          (passed (marks_of 32 w) (marks_of 32 start.args.marks) 0 (count_trailing_zeros 32 w) start.args.direct no_sources
           (λ i at. let here : i ≡ count_trailing_zeros 32 w = omega arith in
-          rw here (sym c.before.ready.ensures ∙ c.if1.false)) ∙
-          turn.before.loop.invariant.1),
+          rw here (sym c.before.ready.ensures ∙ c.if-ready.false)) ∙
+          turn.before.loop-candidates.invariant.1),
     )
 
-returns-2 : tie.Need-returns-2 invariant-loop decreases-loop
-returns-2 c =
+returns : tie.Need-returns invariant-loop-candidates decreases-loop-candidates
+returns c =
     let start = c.before.before in
     let nothing =
-    none_left (marks_of 32 0) (marks_of 32 start.args.marks) 0 start.args.t1 (λ j p. no_marks 32 j) in
-    rw (← c.before.loop.invariant.1, c.loop-test.false, nothing)
+    none_left (marks_of 32 0) (marks_of 32 start.args.marks) 0 start.args.direct (λ j p. no_marks 32 j) in
+    rw (← c.before.loop-candidates.invariant.1, c.loop-candidates-test.false, nothing)
 
 pub lowest_spec : {M : Type 1} → statement M
 lowest_spec =
     tie.close
     (tie.spec
-    invariant-loop
-    decreases-loop
-    loop-holds
-    cast-part
-    mul-part
-    array-copy-out-part
+    invariant-loop-candidates
+    decreases-loop-candidates
+    loop-candidates-init
+    overflow_cast-part
+    offset_bounds-direct-k
+    bounds-direct-k
     ready-requires
-    returns
-    shl-candidates
-    sub-candidates
-    loop-less
-    loop-again
-    returns-2)
+    returns-then-ready
+    overflow_shl-candidates
+    overflow_sub-candidates
+    loop-candidates-smaller
+    loop-candidates-preserved
+    returns)
