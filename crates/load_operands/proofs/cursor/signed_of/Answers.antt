@@ -6,12 +6,10 @@ use lib.IntN.{pos, negsuc, ◌-ℤ◌}
 use mir.Syntax.{w64}
 use mir.Val.{to_z}
 use mir.ValLaws.{to_z_pos, to_z-of_z}
-use borrow.Author.Rules.{rules}
 use borrow.Author.Tests.{lt-ltb, le-ltb}
 use Rattle.machine.specs.Load.{signed}
 use Rattle.laws.specs.Signed.{larger_taken}
-use Rattle.load_operands.proofs.cursor.signed_of.Statement.{statement}
-use Rattle.load_operands.proofs.cursor.signed_of.Tie as tie
+use Rattle.load_operands.proofs.cursor.signed_of.Goals as goal
 
 -- a number of four bytes is the same as an i64
 same : (v : ℕ) → v < 4294967296 → to_z w64 v ≡ pos v
@@ -21,33 +19,24 @@ same v low = to_z_pos w64 v (omega arith)
 less : (v : ℕ) → v < 4294967296 → to_z w64 v -ℤ pos 4294967296 ≡ negsuc (4294967296 - suc v)
 less v low = rw (same v low) (larger_taken v 4294967296 low)
 
-cast-result : tie.Need-overflow-cast-result
-cast-result c = search rules
+pub returns-then-v-lt2147483648 : goal.returns-then-v-lt2147483648
+unfolding signed
+returns-then-v-lt2147483648 c =
+    let low : c.args.v < 4294967296 = omega arith in
+    rw (same c.args.v low, lt-ltb _ _ c.if-v-lt2147483648.true)
 
-returns : tie.Need-returns
+pub overflow_sub-result : goal.overflow_sub-result
+overflow_sub-result c =
+    let low : c.args.v < 4294967296 = omega arith in
+    rw (less c.args.v low) (record { sfits = omega arith })
+
+pub returns : goal.returns
 unfolding signed
 returns c =
-    let low : c.before.args.v < 4294967296 = omega arith in
-    rw (same c.before.args.v low, lt-ltb _ _ c.if1.true)
-
-cast-result-2 : tie.Need-overflow-cast-result-2
-cast-result-2 c = search rules
-
-sub-result : tie.Need-overflow-sub-result
-sub-result c =
-    let low : c.before.args.v < 4294967296 = omega arith in
-    rw (less c.before.args.v low) (record { sfits = omega arith })
-
-returns-2 : tie.Need-returns-2
-unfolding signed
-returns-2 c =
-    let v = c.before.args.v in
+    let v = c.args.v in
     let low : v < 4294967296 = omega arith in
     rw (
       less v low,
-      le-ltb _ _ c.if1.false,
+      le-ltb _ _ c.if-v-lt2147483648.false,
       to_z-of_z w64 (negsuc (4294967296 - suc v)) (record { sfits = omega arith }),
     )
-
-pub signed_of_spec : {M : Type 1} → statement M
-signed_of_spec = tie.close (tie.spec cast-result returns cast-result-2 sub-result returns-2)

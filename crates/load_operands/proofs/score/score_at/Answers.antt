@@ -1,0 +1,90 @@
+-- `score_at` gives the definition's answer: past the stream's end no byte is read; else the byte picks the definition's
+-- case, and the operand after it is read or cut. A law for each of the definition's four answers inside the stream, by
+-- the byte b that was read, then the goals.
+use Rattle.std.proofs.Common.{ℕ, ◌+◌, ◌≤◌, ◌<◌, ◌≡◌, false, List, length, arith}
+use borrow.Author.Tests.{lt-ltb, le-ltb, le-leb, lt-leb, ne_eqb}
+use Rattle.machine.specs.declared.model.Score.TheVariants.{Wanted, Refused}
+use Rattle.machine.specs.Load.{known_command, command_width, byte_at, word_at}
+use Rattle.machine.specs.Score.{score_command, score_at}
+use Rattle.load_operands.specs.declared.cursor.Cursor.{Cursor}
+use Rattle.load_operands.specs.Operands.{Behind, ReadAt, byte_cases, cut_number, cut_scores, read_behind}
+use Rattle.load_operands.specs.Operands.{word_cases}
+use Rattle.load_operands.proofs.score.score_at.Goals as goal
+use Rattle.load_operands.proofs.score.score_at.Goals.{In-Got}
+
+-- where the byte b is read at a position, the stream goes on there
+module _ (bs : List ℕ) (at b : ℕ) (behind : Cursor) (read : Behind bs at 1 behind × (b ≡ byte_at bs at)) where
+  inside : at < length bs
+  inside = omega (arith, read.0.whole)
+
+  -- a byte that is no command
+  unknown : known_command b ≡ false → Refused 2 at ≡ score_at bs at
+  unfolding score_at score_command
+  unknown h = rw (lt-ltb at (length bs) inside, ← read.1, h)
+
+  -- a command that is not a wanted step
+  out_of_place : 1 ≤ b → b < 6 → Refused 3 at ≡ score_at bs at
+  unfolding score_at score_command known_command
+  out_of_place low high =
+      let below : b ≤ 6 = omega arith in
+      let other : b ≡ 6 → ⊥ = λ e. omega arith in
+      rw (lt-ltb at (length bs) inside, ← read.1, le-leb 1 b low, le-leb b 6 below, ne_eqb b 6 other)
+
+  -- a wanted step that the stream's end cuts, which has the number of what is cut, and one that is whole
+  cut : b ≡ 6 → length bs < at + 5 → Refused cut_number at ≡ score_at bs at
+  unfolding score_at command_width
+  cut six short = rw (lt-ltb at (length bs) inside, ← read.1, six, cut_scores bs at short)
+
+  whole : (v : ℕ) (next : Cursor) → b ≡ 6 → ReadAt word_at bs at 1 4 v next → Wanted v next.at ≡ score_at bs at
+  unfolding score_at score_command known_command command_width
+  whole v next six word =
+      rw (
+        lt-ltb at (length bs) inside,
+        ← read.1,
+        six,
+        le-leb (at + 5) (length bs) word.0.whole,
+        word.1,
+        word.0.next,
+      )
+
+-- what `byte` promises, seen from where the byte is found
+byte_read : (c : In-Got) →
+    Behind c.args.s.now c.args.at 1 c.in-Got.c × (c.in-Got.b ≡ byte_at c.args.s.now c.args.at)
+byte_read c = byte_cases c.in-Got.ensures
+
+pub returns-in_default : goal.returns-in_default
+unfolding score_at
+returns-in_default c =
+    let none = byte_cases c.in_default.ensures in
+    let past : length c.args.s.now ≤ c.args.at = omega arith in
+    rw (le-ltb _ _ past)
+
+pub returns-in_default-u32_at : goal.returns-in_default-u32_at
+returns-in_default-u32_at c =
+    let read = byte_read (goal.at.returns-in_default-u32_at c).In-Got in
+    let behind = read.0 in
+    let short = word_cases c.in_default-u32_at.ensures in
+    cut _ _ _ _ read c.in-6.is (omega arith)
+
+pub returns-in-Got-u32_at : goal.returns-in-Got-u32_at
+returns-in-Got-u32_at c =
+    let read = byte_read (goal.at.returns-in-Got-u32_at c).In-Got in
+    whole _ _ _ _ read _ _ c.in-6.is
+    (read_behind word_at _ _ 1 4 _ _ _ read.0 (word_cases c.in-Got-u32_at.ensures))
+
+pub returns-in-1-to-5 : goal.returns-in-1-to-5
+returns-in-1-to-5 c =
+    out_of_place _ _ _ _ (byte_read (goal.at.returns-in-1-to-5 c).In-Got) (omega arith) (omega arith)
+
+pub returns-in_default-b : goal.returns-in_default-b
+unfolding known_command
+returns-in_default-b c =
+    let below : c.in-Got.b < 1 = omega arith in
+    unknown _ _ _ _ (byte_read (goal.at.returns-in_default-b c).In-Got) (simp (lt-leb 1 _ below))
+
+pub returns-in_default-b-2 : goal.returns-in_default-b-2
+unfolding known_command
+returns-in_default-b-2 c =
+    let low : 1 ≤ c.in-Got.b = omega arith in
+    let above : 6 < c.in-Got.b = omega arith in
+    unknown _ _ _ _ (byte_read (goal.at.returns-in_default-b-2 c).In-Got) (simp (le-leb 1 _ low, lt-leb _ _ above))
