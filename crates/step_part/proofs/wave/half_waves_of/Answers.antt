@@ -6,14 +6,12 @@ use native.Mathlib.Omega.{arith}
 use mathlib.Core.Path.{◌≡◌, refl, sym, ◌∙◌}
 use mathlib.Core.Bool.{Bool, true, false, cond}
 use lib.Dec.{eqb, ltb}
-use borrow.Author.Rules.{rules}
 use borrow.Author.Tests.{eqb-true, ltb-true}
 use Rattle.machine.specs.Time.{tick}
 use Rattle.machine.specs.Kind.{at_multiple, half_waves, positive_multiple}
 use Rattle.machine.specs.declared.time.Point.{Point}
 use Rattle.laws.specs.Bools.{and_left, and_right}
-use Rattle.step_part.proofs.wave.half_waves_of.Statement.{statement}
-use Rattle.step_part.proofs.wave.half_waves_of.Tie as tie
+use Rattle.step_part.proofs.wave.half_waves_of.Goals as goal
 
 -- 0 is picked by either answer
 none_passed : (b : Bool) → ◌≡◌ {A = ℕ} 0 (cond b 0 0)
@@ -33,46 +31,21 @@ one_passed_at : (P : ℕ) (now : Point) → at_multiple P now ≡ true → 1 ≤
 unfolding at_multiple
 one_passed_at P now h = one_passed P (tick now) (tick now / P) refl (and_right (eqb now.n 0) _ h)
 
-returns : tie.Need-returns
+pub returns-then-period-eq0 : goal.returns-then-period-eq0
 unfolding half_waves
-returns c = rw (c.if1.true, div-zero) (none_passed (at_multiple 0 c.before.before.args.now))
+returns-then-period-eq0 c = rw (c.if-period-eq0.true, div-zero) (none_passed (at_multiple 0 c.args.now))
 
-at-multiple-of-requires : tie.Need-at-multiple-of-requires
-at-multiple-of-requires c κs = search rules
+pub overflow_sub-result : goal.overflow_sub-result
+overflow_sub-result c =
+    let args = c.args in
+    one_passed_at args.period.0 args.now (sym c.at_multiple_of.ensures ∙ c.if-at_multiple_of.true)
 
-div-result : tie.Need-nonzero-div-result
-div-result c = search rules
-
-sub-result : tie.Need-overflow-sub-result
-sub-result c =
-    let asked = c.before.before in
-    let start = asked.before.before.before.before in
-    let args = start.args in
-    one_passed_at args.period.0 args.now (sym asked.before.at_multiple_of.ensures ∙ asked.if2.true)
-
-returns-2 : tie.Need-returns-2
+pub returns-then-at_multiple_of : goal.returns-then-at_multiple_of
 unfolding half_waves
-returns-2 c =
-    let test = c.before.before in
-    simp (sym test.before.at_multiple_of.ensures ∙ test.if2.true)
+returns-then-at_multiple_of c =
+    simp (sym c.at_multiple_of.ensures ∙ c.if-at_multiple_of.true)
 
-div-result-2 : tie.Need-nonzero-div-result-2
-div-result-2 c = search rules
-
-returns-3 : tie.Need-returns-3
+pub returns : goal.returns
 unfolding half_waves
-returns-3 c =
-    let test = c.before.before in
-    simp (sym test.before.at_multiple_of.ensures ∙ test.if2.false)
-
-pub half_waves_of_spec : {M : Type 1} → statement M
-half_waves_of_spec =
-    tie.close
-    (tie.spec
-    returns
-    at-multiple-of-requires
-    div-result
-    sub-result
-    returns-2
-    div-result-2
-    returns-3)
+returns c =
+    simp (sym c.at_multiple_of.ensures ∙ c.if-at_multiple_of.false)
