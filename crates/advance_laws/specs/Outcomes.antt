@@ -1,9 +1,8 @@
 -- What a call of advance comes to: barred, its number and counts of 0; not barred, what the search finds. Either way
--- the outcome has what demand 3 says of each call. The idea: the search from w is fair, and a barred call has no
--- ceiling above 0. Assumes nothing.
+-- the outcome has what demand 3 says of each call (`proofs/Outcomes.antt`). The idea: the search from w is fair, and a
+-- barred call has no ceiling above 0. Assumes nothing.
 use Rattle.std.specs.Prelude.{ℕ, ◌+◌, ◌*◌, ◌≤◌, ◌≡◌, refl, true, ◌&&◌, length, eqb, leb}
 use Rattle.std.proofs.Common.{arith, leb-true, eq-eqb, ne_eqb}
-use Rattle.std.proofs.Math.Decide.{ℕ_discrete}
 use Rattle.machine.specs.declared.model.Model.{Model}
 use Rattle.machine.specs.Time.{last_tick, tick}
 use Rattle.machine.specs.Sound.{sound}
@@ -11,8 +10,7 @@ use Rattle.machine.specs.Advance.{turn, searched, longest_wanted, barred, barred
 use Rattle.machine.specs.declared.model.Outcome.{Outcome}
 use Rattle.machine.specs.WholeList.{AllAccept, counts_of, most_rounds, most_revisions}
 use Rattle.laws.specs.Bools.{and_left, and_right, cond_true, cond_false, cond_cases}
-use Rattle.advance_laws.specs.Found.{Found, found}
-use Rattle.advance_laws.specs.SearchTurns.{RoundOwes, turn_fair}
+use Rattle.advance_laws.specs.Found.{Found}
 
 -- what holds of a call that nothing bars
 pub record NotBarred (m : Model) (w : ℕ) : Type 0 where
@@ -59,7 +57,7 @@ pub record OutcomeFacts (m : Model) (o : Outcome) : Type 0 where
   pub refused : (o.number ≡ 0 → ⊥) → (j : ℕ) → j ≤ o.ceiling → AllAccept m j → j ≡ 0
 
 -- it holds of what the search finds ..
-found_facts : (m : Model) (w : ℕ) (o : Outcome) → Found (turn m) (AllAccept m) (9 * length m.parts) w o →
+pub found_facts : (m : Model) (w : ℕ) (o : Outcome) → Found (turn m) (AllAccept m) (9 * length m.parts) w o →
     OutcomeFacts m o
 found_facts m w o has =
     record {
@@ -72,7 +70,7 @@ found_facts m w o has =
     }
 
 -- .. and of a barred call
-barred_facts : (m : Model) (k : ℕ) → (k ≡ 0 → ⊥) → OutcomeFacts m (barred_outcome k)
+pub barred_facts : (m : Model) (k : ℕ) → (k ≡ 0 → ⊥) → OutcomeFacts m (barred_outcome k)
 barred_facts m k other =
     record {
       rounds = omega arith;
@@ -82,21 +80,6 @@ barred_facts m k other =
       longest = λ z j p accepted. p;
       refused = λ z j p accepted. omega arith;
     }
-
--- what the search finds for a call that is not barred
-pub outcome_found : {m : Model} {potential : ℕ → ℕ} → RoundOwes m potential → (w : ℕ) → barred m w ≡ 0 →
-    Found (turn m) (AllAccept m) (9 * length m.parts) w (outcome m w)
-unfolding searched
-outcome_found {m} owes w e = rw (outcome_searched m w e) (found (turn_fair owes) w (not_barred m w e).at_most)
-
--- the outcome of every call has what demand 3 says, if a round owes what it should wherever a call is not barred
-pub outcome_facts : (m : Model) (potential : ℕ → ℕ) (w : ℕ) → (barred m w ≡ 0 → RoundOwes m potential) →
-    OutcomeFacts m (outcome m w)
-outcome_facts m potential w owes = facts (ℕ_discrete (barred m w) 0)
-  where
-    facts : Dec (barred m w ≡ 0) → OutcomeFacts m (outcome m w)
-    facts (yes e) = found_facts m w (outcome m w) (outcome_found (owes e) w e)
-    facts (no other) = rw (outcome_barred m w other) (barred_facts m (barred m w) other)
 
 -- the counts of an answer are its outcome
 pub advance_counts : (m : Model) (w : ℕ) → counts_of (advance m w) ≡ outcome m w

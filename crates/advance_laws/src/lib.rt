@@ -2,4 +2,3 @@
 // follows for a call of advance. It has no functions; `specs/` holds the laws, which the proofs of the
 // crates above cite.
 #![tactic(auto)]
-

@@ -19,7 +19,8 @@ use Rattle.laws.specs.Bools.{cond_cases}
 use Rattle.sound_laws.specs.SoundParts.{sound_time, sound_output}
 use Rattle.sound_laws.specs.Stepped.{step_sound}
 use Rattle.advance_laws.specs.SearchTurns.{turn_told}
-use Rattle.advance_laws.specs.Outcomes.{not_barred, outcome_barred, outcome_found}
+use Rattle.advance_laws.specs.Outcomes.{not_barred, outcome_barred}
+use Rattle.advance_laws.proofs.Outcomes.{outcome_found}
 use Rattle.advance_lists.specs.RoundsOwed.{round_owes, every_outcome}
 
 -- the bounds of an answer to a model of so many parts: its number and counts, and its model's point and outputs

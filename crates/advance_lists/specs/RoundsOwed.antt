@@ -10,11 +10,13 @@ use Rattle.machine.specs.Sound.{sound}
 use Rattle.machine.specs.Advance.{outcome}
 use Rattle.machine.specs.Calls.{Advanced}
 use Rattle.machine.specs.WholeList.{counts_of, OfCall}
-use Rattle.ask_laws.specs.Rounds.{potential, round_within, round_accepted, round_most, round_drops, potential_bound}
+use Rattle.ask_laws.specs.Rounds.{potential, round_within, round_accepted, round_most, round_drops}
+use Rattle.ask_laws.proofs.Rounds.{potential_bound}
 use Rattle.ask_laws.specs.Rounds.{potential_mono}
 use Rattle.ask_laws.specs.FitParts.{sound_fit, sound_few, sound_detectors}
 use Rattle.advance_laws.specs.SearchTurns.{RoundOwes}
-use Rattle.advance_laws.specs.Outcomes.{not_barred, OutcomeFacts, outcome_facts, advance_counts}
+use Rattle.advance_laws.specs.Outcomes.{not_barred, OutcomeFacts, advance_counts}
+use Rattle.advance_laws.proofs.Outcomes.{outcome_facts}
 
 -- what a round of a sound model owes
 pub round_owes : (m : Model) → sound m ≡ true → RoundOwes m (potential m)

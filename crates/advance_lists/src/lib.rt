@@ -2,4 +2,3 @@
 // a model that was loaded, or is sound, and refuted of two imitations. It has no functions; `specs/`
 // holds the laws.
 #![tactic(auto)]
-

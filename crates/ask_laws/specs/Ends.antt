@@ -32,21 +32,13 @@ unfoldable pub ends : Part → Point → Signal → List ℕ
 ends p now x = cond (due p now x) (0 ∷ []) (ends_as (class_of p) p (tick now))
 
 -- they are at most 9, those of a drive: 0 and 8 spans
-ends_as_few : (c : Class) (p : Part) (t : ℕ) → length p.component.spans ≤ 8 → length (ends_as c p t) ≤ 9
+pub ends_as_few : (c : Class) (p : Part) (t : ℕ) → length p.component.spans ≤ 8 → length (ends_as c p t) ≤ 9
 unfolding ends_as
 ends_as_few waiting p t few = omega arith
 ends_as_few delaying p t few = omega arith
 ends_as_few detecting p t few = omega arith
 ends_as_few driving p t few = simp length-map (omega arith)
 ends_as_few free p t few = omega arith
-
--- a part with at most 8 spans has at most 9 ends
-pub ends_few : (p : Part) (now : Point) (x : Signal) → length p.component.spans ≤ 8 → length (ends p now x) ≤ 9
-unfolding ends
-ends_few p now x few =
-    cond_cases (λ (l : List ℕ). length l ≤ 9) (due p now x) (0 ∷ []) (ends_as (class_of p) p (tick now))
-    (λ e. omega arith)
-    (λ e. ends_as_few (class_of p) p (tick now) few)
 
 -- the longest step of at most h is h or an end, for a part that is not due
 drops_as : (c : Class) (p : Part) (t h : ℕ) → (longest_as c p t h ≡ h) ⊎ Memᴰ (longest_as c p t h) (ends_as c p t)

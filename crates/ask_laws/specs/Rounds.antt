@@ -2,9 +2,9 @@
 -- most h that all parts accept is at most what it gives; and where it lowers h, fewer of the parts' plateau ends lie
 -- below, of which there are at most 9 a part: 0 and 8 spans. The idea: what a round gives is h, or the longest step of
 -- some part, and that is h or an end. Assumes nothing.
-use Prim.Native.Nat.{ℕ, zero, suc, ◌*◌, ◌≤◌, ◌<◌, min}
+use Prim.Native.Nat.{ℕ, zero, suc, ◌≤◌, ◌<◌, min}
 use native.Mathlib.Omega.{arith}
-use Rattle.std.proofs.Common.{le_trans, ◌∙◌}
+use Rattle.std.proofs.Common.{◌∙◌}
 use Rattle.std.specs.Prelude.{◌≡◌, ◌⊎◌, length}
 use Rattle.std.proofs.Math.Path.{refl}
 use Rattle.std.proofs.Math.Logic.{inl, inr, ⊎_elim, ⊎_map}
@@ -13,15 +13,14 @@ use mathlib.Core.List.{List, [], ◌∷◌, ◌++◌, flat_map, Memᴰ}
 use Rattle.machine.specs.declared.part.Part.{Part}
 use Rattle.machine.specs.declared.model.Model.{Model}
 use Rattle.machine.specs.Time.{tick}
-use Rattle.machine.specs.Model.{blank_part, part_at, reading0}
+use Rattle.machine.specs.Model.{part_at, reading0}
 use Rattle.machine.specs.Accept.{longest}
 use Rattle.machine.specs.Advance.{least, round}
 use Rattle.machine.specs.WholeList.{AllAccept}
-use Rattle.laws.specs.ListLaws.{flatMap_few}
 use Rattle.laws.specs.Numbers.{min_one}
-use Rattle.laws.specs.Below.{below, below_few, below_mono, below_drops}
+use Rattle.laws.specs.Below.{below, below_mono, below_drops}
 use Rattle.ask_laws.specs.Longest.{Fit, longest_within, longest_accepted, longest_most}
-use Rattle.ask_laws.specs.Ends.{ends, ends_few, longest_drops}
+use Rattle.ask_laws.specs.Ends.{ends, longest_drops}
 
 -- every part of a model is in good order
 abbrev pub AllFit : Model → Type 0
@@ -36,7 +35,7 @@ abbrev pub longest_in : Model → ℕ → Part → ℕ
 longest_in m h p = longest p m.point (reading0 m.parts p) h
 
 -- the part's ends there
-abbrev ends_in : Model → Part → List ℕ
+abbrev pub ends_in : Model → Part → List ℕ
 ends_in m p = ends p m.point (reading0 m.parts p)
 
 module _ (m : Model) (h : ℕ) where
@@ -116,16 +115,6 @@ round_most m fit h j few accepted =
     (λ i within.
     let p = part_at m.parts i in
     longest_most p m.point (reading0 m.parts p) h (fit i within) j few (accepted i within))
-
--- there are at most 9 ends a part
-pub potential_bound : (m : Model) → AllFew m → (h : ℕ) → potential m h ≤ 9 * length m.parts
-unfolding potential
-potential_bound m few h =
-    le_trans (below_few h (flat_map (ends_in m) m.parts))
-    (flatMap_few (ends_in m) m.parts blank_part 9
-    (λ i within.
-    let p = part_at m.parts i in
-    ends_few p m.point (reading0 m.parts p) (few i within)))
 
 -- no fewer lie below a larger h
 pub potential_mono : (m : Model) (j h : ℕ) → j ≤ h → potential m j ≤ potential m h
