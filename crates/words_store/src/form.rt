@@ -65,8 +65,8 @@ fn limit(run: Run, j: usize) -> u64
 
 // Whether the first `count` words from `k` on are within the limits of a run.
 fn within(words: &[u64], k: usize, run: Run, count: usize) -> bool
-    requires count_in_bounds { k + count ≤ length words.now }
-    requires count_in_bounds_2 { count ≤ length (run_limits run) }
+    requires words_there { k + count ≤ length words.now }
+    requires limits_there { count ≤ length (run_limits run) }
     ensures { result ≡ words_within words.now k (take count (run_limits run)) }
 {
     let mut j: usize = 0;
@@ -107,8 +107,8 @@ fn component_spelled(table: &[u64], i: usize) -> bool
 
 // Whether both records of part `i` are.
 fn part_spelled(table: &[u64], state: &[u64], i: usize) -> bool
-    requires i_in_bounds { table_words (i + 1) ≤ length table.now }
-    requires i_in_bounds_2 { state_words (i + 1) ≤ length state.now }
+    requires table_there { table_words (i + 1) ≤ length table.now }
+    requires state_there { state_words (i + 1) ≤ length state.now }
     ensures { result ≡ part_spelled table.now state.now i }
 {
     if !component_spelled(table, i) {
@@ -119,9 +119,9 @@ fn part_spelled(table: &[u64], state: &[u64], i: usize) -> bool
 
 // Whether those of the first `count` parts are.
 fn parts_spelled(table: &[u64], state: &[u64], count: usize) -> bool
-    requires count_le_most_parts { count ≤ most_parts }
-    requires count_in_bounds { table_words count ≤ length table.now }
-    requires count_in_bounds_2 { state_words count ≤ length state.now }
+    requires few_parts { count ≤ most_parts }
+    requires table_there { table_words count ≤ length table.now }
+    requires state_there { state_words count ≤ length state.now }
     ensures { result ≡ parts_spelled table.now state.now count }
 {
     let mut i: usize = 0;

@@ -191,8 +191,8 @@ pub fn output_at(state: &[u64], i: usize) -> Signal
 
 // The part `i`.
 pub fn part_at(table: &[u64], state: &[u64], i: usize) -> Part
-    requires i_in_bounds { table_words (i + 1) ≤ length table.now }
-    requires i_in_bounds_2 { state_words (i + 1) ≤ length state.now }
+    requires table_there { table_words (i + 1) ≤ length table.now }
+    requires state_there { state_words (i + 1) ≤ length state.now }
     ensures { result ≡ stored_part table.now state.now i }
 {
     let component = component_at(table, i);

@@ -41,8 +41,8 @@ fn encode_presence(s: Signal) -> u64
 
 // The word of a signal's value, 0 where it is absent: with the code it is read back as the signal.
 fn encode_value(s: Signal) -> u64
-    ensures result_value { decode_signal (encode_presence s) result ≡ s }
-    ensures value { (encode_presence s ≡ 1 → ⊥) → result ≡ 0 }
+    ensures read_back { decode_signal (encode_presence s) result ≡ s }
+    ensures zero_if_absent { (encode_presence s ≡ 1 → ⊥) → result ≡ 0 }
 {
     match s {
         Signal::Absent => NO_VALUE,
@@ -94,8 +94,8 @@ pub fn put_point(state: &mut [u64], to: Point)
 
 // All words of a state of that many parts, copied into another's.
 pub fn copy_state(old: &[u64], parts: usize, new: &mut [u64])
-    requires parts_in_bounds { state_words parts ≤ length old.now }
-    requires parts_in_bounds_2 { state_words parts ≤ length new.old }
+    requires old_there { state_words parts ≤ length old.now }
+    requires new_there { state_words parts ≤ length new.old }
     ensures { Copied (state_words parts) old.now new.old new.new }
 {
     let count = state_words(parts);
@@ -108,8 +108,8 @@ pub fn copy_state(old: &[u64], parts: usize, new: &mut [u64])
 
 // The state of a table copied, as a call leaves it that is refused.
 pub fn kept_in(table: &[u64], old: &[u64], new: &mut [u64])
-    requires words_there { WordsThere table.now old.now }
-    requires words_there_2 { WordsThere table.now new.old }
+    requires old_there { WordsThere table.now old.now }
+    requires new_there { WordsThere table.now new.old }
     ensures { let words = state_words (part_count table.now) in
         Copied words old.now new.old new.new }
 {

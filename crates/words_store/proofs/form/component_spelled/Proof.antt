@@ -2,7 +2,6 @@
 use Prim.Native.Nat.{ℕ}
 use mathlib.Core.Path.{◌≡◌, sym, ap, ◌∙◌}
 use lib.ListN.{take}
-use borrow.Author.Tests.{not-true, not-false}
 use Rattle.words_store.specs.Layout.{in_table, span_count_field, spans_field}
 use Rattle.words_store.specs.ModelIn.{slot}
 use Rattle.words_store.specs.declared.form.Run.TheVariants.{Spans}
@@ -13,92 +12,92 @@ use Rattle.words_store.proofs.form.component_spelled.Statement.{statement}
 use Rattle.words_store.proofs.form.component_spelled.Tie as tie
 
 -- the test of the operands, before that of the spans
-abbrev tested : tie.After-within2 → tie.Else1
+abbrev tested : tie.After-within-2 → tie.Else-not-within
 tested spans =
     let count = spans.before.before in
     count.before
 
 -- the spans in use were asked
-spans_asked : (spans : tie.After-within2) →
+spans_asked : (spans : tie.After-within-2) →
     let args = (tested spans).before.before.before.args in
-    spans.within2.result ≡ spans_spelled args.table.now args.i
+    spans.within-2.result ≡ spans_spelled args.table.now args.i
 spans_asked spans =
     let used = spans.before in
     let word = used.before in
     let args = (tested spans).before.before.before.args in
     let ts = args.table.now in
     let place = in_table args.i spans_field in
-    spans.within2.ensures ∙
+    spans.within-2.ensures ∙
     ap (λ (n : ℕ). words_within ts place (take n (run_limits Spans)))
-    (used.spans_used.ensures ∙ ap spans_used word.table_field.ensures) ∙
+    (used.spans_used-used.ensures ∙ ap spans_used word.table_field.ensures) ∙
     ap (words_within ts place) (spans_first (slot ts (in_table args.i span_count_field)))
 
-mul-k : tie.Need-overflow-mul-k
-mul-k c = search rules
+overflow_mul-k : tie.Need-overflow_mul-k
+overflow_mul-k c = search rules
 
-add-within : tie.Need-overflow-add-within
-add-within c = search rules
+overflow_add-k : tie.Need-overflow_add-k
+overflow_add-k c = search rules
 
 within-requires : tie.Need-within-requires
 within-requires c κs = search rules
 
-returns : tie.Need-returns
+returns-then-not-within : tie.Need-returns-then-not-within
 unfolding component_spelled
-returns c = rw (sym c.before.within.ensures ∙ not-true _ c.if1.true)
+returns-then-not-within c = rw (sym c.before.within.ensures ∙ c.if-not-within.true)
 
-table-field-requires : tie.Need-table-field-requires
-table-field-requires c κs = search rules
+table_field-requires : tie.Need-table_field-requires
+table_field-requires c κs = search rules
 
-spans-used-requires : tie.Need-spans-used-requires
-spans-used-requires c κs = search rules
+spans_used-used-requires : tie.Need-spans_used-used-requires
+spans_used-used-requires c κs = search rules
 
-add-within-2 : tie.Need-overflow-add-within-2
-add-within-2 c = search rules
+overflow_add-k-2 : tie.Need-overflow_add-k-2
+overflow_add-k-2 c = search rules
 
 within-requires-2 : tie.Need-within-requires-2
 within-requires-2 c κs = search rules
 
-returns-2 : tie.Need-returns-2
+returns-then-not-within-2 : tie.Need-returns-then-not-within-2
 unfolding component_spelled
-returns-2 c =
+returns-then-not-within-2 c =
     let spans = c.before in
     let first = tested spans in
     rw (
-      sym first.before.within.ensures ∙ not-false _ first.if1.left,
-      sym (spans_asked spans) ∙ not-true _ c.if2.true,
+      sym first.before.within.ensures ∙ first.if-not-within.false,
+      sym (spans_asked spans) ∙ c.if-not-within-2.true,
     )
 
-add-within-3 : tie.Need-overflow-add-within-3
-add-within-3 c = search rules
+overflow_add-k-3 : tie.Need-overflow_add-k-3
+overflow_add-k-3 c = search rules
 
 within-requires-3 : tie.Need-within-requires-3
 within-requires-3 c κs = search rules
 
-returns-3 : tie.Need-returns-3
+returns : tie.Need-returns
 unfolding component_spelled
-returns-3 c =
+returns c =
     let second = c.before in
     let spans = second.before in
     let first = tested spans in
     rw (
-      sym first.before.within.ensures ∙ not-false _ first.if1.left,
-      sym (spans_asked spans) ∙ not-false _ second.if2.false,
+      sym first.before.within.ensures ∙ first.if-not-within.false,
+      sym (spans_asked spans) ∙ second.if-not-within-2.false,
     )
-    c.within3.ensures
+    c.within-3.ensures
 
 pub component_spelled_spec : {M : Type 1} → statement M
 component_spelled_spec =
     tie.close
     (tie.spec
-    mul-k
-    add-within
+    overflow_mul-k
+    overflow_add-k
     within-requires
-    returns
-    table-field-requires
-    spans-used-requires
-    add-within-2
+    returns-then-not-within
+    table_field-requires
+    spans_used-used-requires
+    overflow_add-k-2
     within-requires-2
-    returns-2
-    add-within-3
+    returns-then-not-within-2
+    overflow_add-k-3
     within-requires-3
-    returns-3)
+    returns)
