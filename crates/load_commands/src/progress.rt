@@ -51,7 +51,7 @@ fn component_of(o: PartOperands) -> Component
 // The progress with one part more.
 pub(crate) fn with_part(progress: Progress, o: PartOperands) -> Progress
     requires { progress.count < most_parts }
-    ensures by_index { (rows : List (List ℕ)) →
+    ensures meant { (rows : List (List ℕ)) →
         reading_of result rows ≡ with_part (reading_of progress rows) (component_of o) }
     ensures few { result.count ≤ most_parts }
 {
@@ -71,7 +71,7 @@ pub(crate) fn with_part(progress: Progress, o: PartOperands) -> Progress
 
 // The progress after a Begin with this magnitude.
 pub(crate) fn with_begin(progress: Progress, e: u8) -> Progress
-    ensures by_index { (rows : List (List ℕ)) → reading_of result rows ≡ begun_with e }
+    ensures meant { (rows : List (List ℕ)) → reading_of result rows ≡ begun_with e }
     ensures few { result.count ≤ most_parts }
 {
     let parts = progress.parts;
@@ -122,7 +122,7 @@ fn wired_component(c: Component, port: u8, source: u8) -> Component
 // The progress with a port of the part `receiver` wired to a source.
 pub(crate) fn with_wire(progress: Progress, receiver: usize, port: u8, source: u8) -> Progress
     requires { (receiver < progress.count) × (progress.count ≤ most_parts) }
-    ensures by_index { (rows : List (List ℕ)) →
+    ensures meant { (rows : List (List ℕ)) →
         reading_of result rows ≡ wired_reading (reading_of progress rows) receiver port source }
     ensures few { result.count ≤ most_parts }
 {

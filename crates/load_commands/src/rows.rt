@@ -35,7 +35,7 @@ pub fn last_span(row: [u32; SPANS], n: usize) -> u32
 pub(crate) fn with_span_counted(progress: Progress, k: usize) -> Progress
     requires { (k < progress.count) × (progress.count ≤ most_parts) ×
         ((component_at progress.parts k).span_count < 8) }
-    ensures by_index { (rows : List (List ℕ)) (v : ℕ) → k < length rows →
+    ensures meant { (rows : List (List ℕ)) (v : ℕ) → k < length rows →
         (component_at progress.parts k).span_count < length (get_or rows k []) →
         reading_of result (row_with rows k (component_at progress.parts k).span_count v) ≡
         spanned_reading (reading_of progress rows) k v }

@@ -45,7 +45,7 @@ fn refused_step(number: u64, at: usize, progress: Progress) -> CommandResult
 // A Begin with this magnitude, from a position up to the position `next`.
 fn begin_step(progress: Progress, e: u8, at: usize, next: usize) -> CommandResult
     requires { progress.count ≤ most_parts }
-    ensures by_index { (rows : List (List ℕ)) →
+    ensures meant { (rows : List (List ℕ)) →
         step_of rows at result ≡ unless_refused (begin_refusal e) at next (begun_with e) }
     ensures left { StepLeft at progress result }
 {
@@ -64,7 +64,7 @@ fn begin_step(progress: Progress, e: u8, at: usize, next: usize) -> CommandResul
 // The Begin at a position.
 pub fn begin(s: &[u8], at: usize, progress: Progress) -> CommandResult
     requires { (at < length s.now) × (progress.count ≤ most_parts) }
-    ensures by_index { (rows : List (List ℕ)) →
+    ensures meant { (rows : List (List ℕ)) →
         step_of rows at result ≡ uncut s.now at 2 (begin_command s.now at) }
     ensures left { StepLeft at progress result }
 {
@@ -77,7 +77,7 @@ pub fn begin(s: &[u8], at: usize, progress: Progress) -> CommandResult
 // A Part with these operands, from a position up to the position `next`.
 fn part_step(progress: Progress, o: PartOperands, at: usize, next: usize) -> CommandResult
     requires { progress.count ≤ most_parts }
-    ensures by_index { (rows : List (List ℕ)) → step_of rows at result ≡
+    ensures meant { (rows : List (List ℕ)) → step_of rows at result ≡
         unless_refused (part_number progress.count o) at next
         (with_part (reading_of progress rows) (component_of o)) }
     ensures left { StepLeft at progress result }
@@ -97,7 +97,7 @@ fn part_step(progress: Progress, o: PartOperands, at: usize, next: usize) -> Com
 // The Part at a position.
 pub fn part(s: &[u8], at: usize, progress: Progress) -> CommandResult
     requires { (at < length s.now) × (progress.count ≤ most_parts) }
-    ensures by_index { (rows : List (List ℕ)) → step_of rows at result ≡
+    ensures meant { (rows : List (List ℕ)) → step_of rows at result ≡
         uncut s.now at 15 (part_command s.now at (reading_of progress rows)) }
     ensures left { StepLeft at progress result }
 {
@@ -110,7 +110,7 @@ pub fn part(s: &[u8], at: usize, progress: Progress) -> CommandResult
 // A Wire with these operands, from a position up to the position `next`.
 fn wire_step(progress: Progress, o: WireOperands, at: usize, next: usize) -> CommandResult
     requires { progress.count ≤ most_parts }
-    ensures by_index { (rows : List (List ℕ)) → step_of rows at result ≡
+    ensures meant { (rows : List (List ℕ)) → step_of rows at result ≡
         unless_refused (wire_refusal (reading_of progress rows).table.parts o.source o.receiver o.port)
         at next
         (wired_reading (reading_of progress rows) o.receiver o.port o.source) }
@@ -131,7 +131,7 @@ fn wire_step(progress: Progress, o: WireOperands, at: usize, next: usize) -> Com
 // The Wire at a position.
 pub fn wire(s: &[u8], at: usize, progress: Progress) -> CommandResult
     requires { (at < length s.now) × (progress.count ≤ most_parts) }
-    ensures by_index { (rows : List (List ℕ)) → step_of rows at result ≡
+    ensures meant { (rows : List (List ℕ)) → step_of rows at result ≡
         uncut s.now at 4 (wire_command s.now at (reading_of progress rows)) }
     ensures left { StepLeft at progress result }
 {
@@ -151,7 +151,7 @@ pub struct SpanResult {
 // A Span with the value v, from a position up to the position `next`, the last part's last span being given.
 fn span_step(progress: Progress, last: u32, v: u32, at: usize, next: usize) -> CommandResult
     requires { (0 < progress.count) × (progress.count ≤ most_parts) }
-    ensures by_index { (rows : List (List ℕ)) → RowThere progress rows →
+    ensures meant { (rows : List (List ℕ)) → RowThere progress rows →
         step_of (row_with rows (last_place progress) (span_count progress) v) at result ≡
         unless_refused (span_number (span_count progress) last v) at next
         (spanned_reading (reading_of progress rows) (last_place progress) v) }
@@ -174,7 +174,7 @@ fn span_step(progress: Progress, last: u32, v: u32, at: usize, next: usize) -> C
 // The Span at a position, the last part's last span being given.
 pub fn span(s: &[u8], at: usize, progress: Progress, last: u32) -> SpanResult
     requires { (at < length s.now) × (0 < progress.count) × (progress.count ≤ most_parts) }
-    ensures by_index { (rows : List (List ℕ)) → RowThere progress rows →
+    ensures meant { (rows : List (List ℕ)) → RowThere progress rows →
         step_of (row_with rows (last_place progress) (span_count progress) result.span) at result.step ≡
         uncut s.now at 5 (span_stepped s.now at progress last rows) }
     ensures left { SpanLeft at progress result }

@@ -6,9 +6,7 @@ use mathlib.Core.List.{List}
 use lib.ListN.{length, get_or, take}
 use lib.Seq.{length-take-le, get_or-take}
 use Rattle.load_commands.specs.Spanned.{last_of}
-use borrow.Author.Rules.{rules}
-use Rattle.load_commands.proofs.rows.last_span.Statement.{statement}
-use Rattle.load_commands.proofs.rows.last_span.Tie as tie
+use Rattle.load_commands.proofs.rows.last_span.Goals as goal
 
 -- where there is none it is 0
 none_left : (row : List ℕ) (n : ℕ) → n ≡ 0 → 0 ≡ last_of (take n row)
@@ -22,23 +20,11 @@ last_as row n some few =
     let below : n - 1 < n = omega arith in
     rw (length-take-le n row few, get_or-take n row (n - 1) 0 below)
 
-returns : tie.Need-returns
-returns c = record { is = none_left c.before.args.t1 c.before.args.n c.if1.true; eight = omega arith }
+pub returns-then-n-eq0 : goal.returns-then-n-eq0
+returns-then-n-eq0 c = record { is = none_left c.args.row c.args.n c.if-n-eq0.true; eight = omega arith }
 
-sub-result : tie.Need-overflow-sub-result
-sub-result c = search rules
-
-mul-result : tie.Need-overflow-mul-result
-mul-result c = search rules
-
-array-read-result : tie.Need-array-read-result
-array-read-result c = search rules
-
-returns-2 : tie.Need-returns-2
-returns-2 c = record {
-  is = last_as c.before.args.t1 c.before.args.n (omega arith) (omega arith);
+pub returns : goal.returns
+returns c = record {
+  is = last_as c.args.row c.args.n (omega arith) (omega arith);
   eight = omega arith;
 }
-
-pub last_span_spec : {M : Type 1} → statement M
-last_span_spec = tie.close (tie.spec returns sub-result mul-result array-read-result returns-2)

@@ -6,7 +6,7 @@ use native.Mathlib.Omega.{arith}
 use mathlib.Core.Path.{◌≡◌, refl}
 use mathlib.Core.Bool.{Bool, true}
 use mathlib.Core.List.{List}
-use lib.ListN.{length, set, length-map}
+use lib.ListN.{length, set}
 use lib.Seq.{take-suc-set}
 use Rattle.machine.specs.declared.part.Component.{Component}
 use Rattle.machine.specs.Load.{is_drive, with_part}
@@ -15,9 +15,7 @@ use Rattle.load_commands.specs.declared.progress.Progress.{Progress}
 use Rattle.load_commands.specs.ComponentMade.{component_of, made_component}
 use Rattle.load_commands.specs.Progress.{with_row, reading_of}
 use Rattle.load_commands.specs.SpanRows.{joined_added}
-use borrow.Author.Rules.{rules}
-use Rattle.load_commands.proofs.progress.with_part.Statement.{statement}
-use Rattle.load_commands.proofs.progress.with_part.Tie as tie
+use Rattle.load_commands.proofs.progress.with_part.Goals as goal
 
 -- the component made counts no spans, whatever its row
 unreached : (o : PartOperands) (row : List ℕ) → with_row (made_component o) row ≡ component_of o
@@ -53,37 +51,11 @@ added progress o made drive same kind room rows =
       same_kind,
     )
 
-component-of-requires : tie.Need-component-of-requires
-component-of-requires c κs = search rules
-
-mul-parts : tie.Need-overflow-mul-parts
-mul-parts c = search rules
-
-array-set-from-parts : tie.Need-array-set-from-parts
-array-set-from-parts c = search rules
-
-is-drive-requires : tie.Need-is-drive-requires
-is-drive-requires c κs = search rules
-
-add-t7 : tie.Need-overflow-add-t7
-add-t7 c = search rules
-
-returns : tie.Need-returns
+pub returns : goal.returns
 returns c =
-    let start = c.before.before.before in
-    let progress = start.args.progress in
-    let room : progress.count < length progress.parts = omega (arith, simp length-map at start.well_formed.0) in (
-      added progress start.args.o _ _ c.before.before.component_of.ensures c.is_drive.ensures room,
-      omega arith,
-    )
-
-pub with_part_spec : {M : Type 1} → statement M
-with_part_spec =
-    tie.close
-    (tie.spec
-    component-of-requires
-    mul-parts
-    array-set-from-parts
-    is-drive-requires
-    add-t7
-    returns)
+    let progress = c.args.progress in
+    let room : progress.count < length progress.parts = omega arith in
+    record {
+      meant = added progress c.args.o _ _ c.component_of-made.ensures c.is_drive.ensures room;
+      few = omega arith;
+    }

@@ -4,19 +4,16 @@ use Prim.Native.Nat.{ℕ, ◌<◌, ◌≤◌}
 use native.Mathlib.Omega.{arith}
 use mathlib.Core.Path.{◌≡◌, ◌∙◌, sym}
 use mathlib.Core.List.{List}
-use lib.ListN.{length, length-map}
+use lib.ListN.{length}
 use borrow.Author.Tests.{lt-ltb, le-ltb}
 use Rattle.machine.specs.declared.part.Component.{Component}
 use Rattle.machine.specs.Table.{component_at}
 use Rattle.machine.specs.Load.{source_of, wire_refusal}
-use Rattle.machine.specs.Model.{most_parts}
 use Rattle.load_commands.specs.declared.progress.Progress.{Progress}
 use Rattle.load_commands.specs.Progress.{with_row, reading_of}
 use Rattle.load_operands.specs.Refusals.{port_number}
 use Rattle.load_commands.specs.SpanRows.{length_reading, reading_at}
-use borrow.Author.Rules.{rules}
-use Rattle.load_commands.proofs.progress.wire_refusal.Statement.{statement}
-use Rattle.load_commands.proofs.progress.wire_refusal.Tie as tie
+use Rattle.load_commands.proofs.progress.wire_refusal.Goals as goal
 
 -- the source is no part that was read
 source_unknown : (cs : List Component) (n source receiver port : ℕ) → length cs ≡ n → n ≤ source →
@@ -50,41 +47,23 @@ port_left progress source receiver port rows few there here =
     (length_reading progress rows few) there here ∙
     rw (reading_at progress rows receiver here few)
 
--- there are places for as many parts as the progress counts
-few : (c : tie.Start) → c.args.t1.count ≤ length c.args.t1.parts
-few c = let many : length c.args.t1.parts ≡ most_parts = omega (arith, simp length-map at c.well_formed.0) in
-    omega arith
+pub returns-then-source-count : goal.returns-then-source-count
+returns-then-source-count c =
+    let progress = c.args.progress in
+    let few : progress.count ≤ length progress.parts = omega arith in
+    λ rows. sym (source_unknown _ progress.count _ _ _ (length_reading progress rows few) c.if-source-count.true)
 
-returns : tie.Need-returns
+pub returns-then-place-count : goal.returns-then-place-count
+returns-then-place-count c =
+    let progress = c.args.progress in
+    let few : progress.count ≤ length progress.parts = omega arith in
+    λ rows. sym (receiver_unknown _ progress.count _ _ _ (length_reading progress rows few) c.if-source-count.false
+    c.if-place-count.true)
+
+pub returns : goal.returns
 returns c =
-    let start = c.before in
-    let progress = start.args.t1 in
-    λ rows. sym (source_unknown _ progress.count _ _ _ (length_reading progress rows (few start)) c.if1.true)
-
-returns-2 : tie.Need-returns-2
-returns-2 c =
-    let start = c.before.before in
-    let progress = start.args.t1 in
-    λ rows. sym (receiver_unknown _ progress.count _ _ _ (length_reading progress rows (few start))
-    c.before.if1.false c.if2.true)
-
-mul-c : tie.Need-overflow-mul-c
-mul-c c = search rules
-
-element-copy-out-c : tie.Need-element-copy-out-c
-element-copy-out-c c = search rules
-
-port-refusal-requires : tie.Need-port-refusal-requires
-port-refusal-requires c κs = search rules
-
-returns-3 : tie.Need-returns-3
-returns-3 c =
-    let at_if = c.before.before.before in
-    let start = c.before.before.before.before in
+    let progress = c.args.progress in
+    let few : progress.count ≤ length progress.parts = omega arith in
     λ rows.
     c.port_refusal.ensures ∙
-    sym (port_left start.args.t1 _ _ _ rows (few start) at_if.if1.false c.before.before.if2.false)
-
-pub wire_refusal_spec : {M : Type 1} → statement M
-wire_refusal_spec =
-    tie.close (tie.spec returns returns-2 mul-c element-copy-out-c port-refusal-requires returns-3)
+    sym (port_left progress _ _ _ rows few c.if-source-count.false c.if-place-count.false)

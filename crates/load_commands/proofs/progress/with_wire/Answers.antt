@@ -4,7 +4,7 @@ use native.Mathlib.Omega.{arith}
 use mathlib.Core.Path.{◌≡◌, refl}
 use mathlib.Core.Bool.{true, false}
 use mathlib.Core.List.{List}
-use lib.ListN.{length, set, length-map}
+use lib.ListN.{length, set}
 use lib.Seq.{take-set-lt}
 use Rattle.machine.specs.declared.part.Component.{Component}
 use Rattle.machine.specs.Table.{component_at}
@@ -14,9 +14,7 @@ use Rattle.load_commands.specs.declared.progress.Progress.{Progress}
 use Rattle.load_commands.specs.Progress.{with_row, reading_of}
 use Rattle.load_commands.specs.SpanRows.{joined_set, reading_at}
 use Rattle.load_commands.specs.Wired.{wired_reading}
-use borrow.Author.Rules.{rules}
-use Rattle.load_commands.proofs.progress.with_wire.Statement.{statement}
-use Rattle.load_commands.proofs.progress.with_wire.Tie as tie
+use Rattle.load_commands.proofs.progress.with_wire.Goals as goal
 
 -- a row is joined to a wired component as to the component
 row_wire : (c : Component) (row : List ℕ) (port source : ℕ) →
@@ -47,40 +45,13 @@ wired_as progress k port source made same here few rows =
       row_wire,
     )
 
-mul-c : tie.Need-overflow-mul-c
-mul-c c = search rules
-
-element-copy-out-c : tie.Need-element-copy-out-c
-element-copy-out-c c = search rules
-
-wired-component-requires : tie.Need-wired-component-requires
-wired-component-requires c κs = search rules
-
-mul-parts : tie.Need-overflow-mul-parts
-mul-parts c = search rules
-
-array-set-from-parts : tie.Need-array-set-from-parts
-array-set-from-parts c = search rules
-
-returns : tie.Need-returns
+pub returns : goal.returns
 returns c =
-    let start = c.before.before.before in
-    let progress = start.args.t1 in
-    let many : length progress.parts ≡ most_parts = omega (arith, simp length-map at start.well_formed.0) in
-    let few : progress.count ≤ length progress.parts = omega arith in (
-      wired_as progress start.args.receiver start.args.port start.args.source _
-          c.before.wired_component.ensures
-          start.requires.0 few,
-      omega arith,
-    )
-
-pub with_wire_spec : {M : Type 1} → statement M
-with_wire_spec =
-    tie.close
-    (tie.spec
-    mul-c
-    element-copy-out-c
-    wired-component-requires
-    mul-parts
-    array-set-from-parts
-    returns)
+    let progress = c.args.progress in
+    let many : length progress.parts ≡ most_parts = omega arith in
+    let few : progress.count ≤ length progress.parts = omega arith in
+    record {
+      meant = wired_as progress c.args.receiver c.args.port c.args.source _ c.wired_component-wired.ensures
+          c.requires.0 few;
+      few = omega arith;
+    }

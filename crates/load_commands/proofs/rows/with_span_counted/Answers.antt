@@ -6,7 +6,7 @@ use native.Mathlib.Omega.{arith}
 use mathlib.Core.Path.{◌≡◌}
 use mathlib.Core.Bool.{true}
 use mathlib.Core.List.{List, []}
-use lib.ListN.{length, get_or, take, set, length-map}
+use lib.ListN.{length, get_or, take, set}
 use lib.Seq.{take-set-lt, take-suc-set}
 use Rattle.machine.specs.declared.part.Component.{Component}
 use Rattle.machine.specs.Table.{component_at}
@@ -16,9 +16,7 @@ use Rattle.load_commands.specs.declared.progress.Progress.{Progress}
 use Rattle.load_commands.specs.Progress.{with_row, reading_of}
 use Rattle.load_commands.specs.SpanRows.{joined_set_row, reading_at}
 use Rattle.load_commands.specs.Spanned.{row_with, spanned_reading}
-use borrow.Author.Rules.{rules}
-use Rattle.load_commands.proofs.rows.with_span_counted.Statement.{statement}
-use Rattle.load_commands.proofs.rows.with_span_counted.Tie as tie
+use Rattle.load_commands.proofs.rows.with_span_counted.Goals as goal
 
 -- a component with one span more counted
 abbrev counted : Component → Component
@@ -65,31 +63,9 @@ spanned_as progress k here few rows v there room =
       row_span part (get_or rows k []) v room,
     )
 
-mul-c : tie.Need-overflow-mul-c
-mul-c c = search rules
-
-element-copy-out-c : tie.Need-element-copy-out-c
-element-copy-out-c c = search rules
-
-add-c : tie.Need-overflow-add-c
-add-c c = search rules
-
-mul-parts : tie.Need-overflow-mul-parts
-mul-parts c = search rules
-
-array-set-from-parts : tie.Need-array-set-from-parts
-array-set-from-parts c = search rules
-
-returns : tie.Need-returns
+pub returns : goal.returns
 returns c =
-    let start = c.before.before.before in
-    let progress = start.args.t1 in
-    let many : length progress.parts ≡ most_parts = omega (arith, simp length-map at start.well_formed.0) in
-    let few : progress.count ≤ length progress.parts = omega arith in (
-      spanned_as progress start.args.k start.requires.0 few,
-      omega arith,
-    )
-
-pub with_span_counted_spec : {M : Type 1} → statement M
-with_span_counted_spec =
-    tie.close (tie.spec mul-c element-copy-out-c add-c mul-parts array-set-from-parts returns)
+    let progress = c.args.progress in
+    let many : length progress.parts ≡ most_parts = omega arith in
+    let few : progress.count ≤ length progress.parts = omega arith in
+    record { meant = spanned_as progress c.args.k c.requires.0 few; few = omega arith }

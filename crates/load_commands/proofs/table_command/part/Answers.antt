@@ -3,7 +3,7 @@ use Prim.Native.Nat.{ℕ, ◌+◌, ◌≤◌}
 use native.Mathlib.Omega.{arith}
 use mathlib.Core.Path.{◌≡◌, ◌∙◌, ap, refl}
 use mathlib.Core.List.{List}
-use lib.ListN.{length, length-map, length-take}
+use lib.ListN.{length, length-take}
 use borrow.Author.Tests.{le-leb}
 use Rattle.machine.specs.Load.{byte_at, part_read, part_refusal, part_command, unless_refused, with_part}
 use Rattle.machine.specs.Model.{most_parts}
@@ -16,9 +16,7 @@ use Rattle.load_operands.specs.Refusals.{operands_judged, part_number}
 use Rattle.load_commands.specs.SpanRows.{length_joined}
 use Rattle.load_commands.specs.CommandSteps.{cut_as, refused_left, uncut}
 use Rattle.load_operands.specs.Tests.{at_least_min}
-use borrow.Author.Rules.{rules}
-use Rattle.load_commands.proofs.table_command.part.Statement.{statement}
-use Rattle.load_commands.proofs.table_command.part.Tie as tie
+use Rattle.load_commands.proofs.table_command.part.Goals as goal
 
 -- the operands read make the definition's component
 read_as : (bs : List ℕ) (at : ℕ) (o : PartOperands) → o ≡ part_operands_at bs (at + 1) →
@@ -57,57 +55,23 @@ part_as bs at progress o next rows many whole operands there =
       read_as bs at o operands,
     )
 
-add-t7 : tie.Need-overflow-add-t7
-add-t7 c = search rules
+pub returns-in_default : goal.returns-in_default
+returns-in_default c =
+    let short = part_cases c.in_default.ensures in
+    let refused = c.refused_step in
+    record {
+      meant = λ rows. cut_as refused.result _ _ _ refused.ensures c.args.s.now 15 rows _ refl (omega arith);
+      left = refused_left refused.result _ _ _ refused.ensures c.requires.1;
+    }
 
-part-operands-requires : tie.Need-part-operands-requires
-part-operands-requires c κs = search rules
-
-enum-known-o : tie.Need-enum-known-o
-enum-known-o c = search rules
-
-enum_told : tie.Need-enum-told
-enum_told c = search rules
-
-refused-step-requires : tie.Need-refused-step-requires
-refused-step-requires c κs = search rules
-
-returns : tie.Need-returns
+pub returns : goal.returns
 returns c =
-    let told = c.before in
-    let short = rw told.enum_told.given.1 at (part_cases told.before.before.part_operands.ensures) in
-    let start = told.before.before.before.before in
-    let refused = c.refused_step in (
-      λ rows. cut_as refused.result _ _ _ refused.ensures start.args.s.now 15 rows _ refl (omega arith),
-      refused_left refused.result _ _ _ refused.ensures start.requires.1,
-    )
-
-part-step-requires : tie.Need-part-step-requires
-part-step-requires c κs = search rules
-
-returns-2 : tie.Need-returns-2
-returns-2 c =
-    let found = c.before.before in
-    let start = found.before.before.before.before in
-    let args = start.args in
-    let got = rw found.o.given.1 at (part_cases found.before.before.part_operands.ensures) in
-    let many : length args.progress.parts ≡ most_parts =
-    omega (arith, simp length-map at start.well_formed.1.1.0) in (
-      λ rows.
-          c.part_step.ensures.0 rows ∙
-          part_as args.s.now args.at args.progress _ _ rows many (omega arith) got.1 (omega arith),
-      c.part_step.ensures.1,
-    )
-
-pub part_spec : {M : Type 1} → statement M
-part_spec =
-    tie.close
-    (tie.spec
-    add-t7
-    part-operands-requires
-    enum-known-o
-    enum_told
-    refused-step-requires
-    returns
-    part-step-requires
-    returns-2)
+    let args = c.args in
+    let got = part_cases c.in-Got.ensures in
+    let many : length args.progress.parts ≡ most_parts = omega arith in
+    record {
+      meant = λ rows.
+          c.part_step.ensures.meant rows ∙
+          part_as args.s.now args.at args.progress _ _ rows many (omega arith) got.1 (omega arith);
+      left = c.part_step.ensures.left;
+    }
