@@ -141,7 +141,7 @@ fn rate_of(mass: bool, speed: i64, x: Signal) -> Signal
 pub fn moved_part(p: Part, t: Ticks, h: Ticks, x: Signal) -> Part
     requires part_fits { PartFits p }
     requires step_fits { StepFits t.0 h.0 p }
-    requires p_bound { gain_of t.0 h.0 p ≤ 1_000_000_000 }
+    requires gain_bound { gain_of t.0 h.0 p ≤ 1_000_000_000 }
     requires x_value { is_signal x ≡ true }
     ensures { result ≡ moved t.0 h.0 x p }
 {

@@ -73,7 +73,7 @@ speed_of p x d mass speed e = rw (mass, speed) at e
 pub number_after-speed-requires-clause-d_bound : goal.number_after-speed-requires-clause-d_bound
 number_after-speed-requires-clause-d_bound c =
     let args = c.args in
-    rw (gain_to args.t.0 args.h.0 _ c.local.result args.p c.local.ensures c.gain_of-d.ensures) c.requires.p_bound
+    rw (gain_to args.t.0 args.h.0 _ c.local.result args.p c.local.ensures c.gain_of-d.ensures) c.requires.gain_bound
 
 pub number_after-held-requires-clause-x_value : goal.number_after-held-requires-clause-x_value
 number_after-held-requires-clause-x_value c =
@@ -90,7 +90,7 @@ number_after-held-requires-clause-x_value c =
 pub number_after-held-requires-clause-d_bound : goal.number_after-held-requires-clause-d_bound
 number_after-held-requires-clause-d_bound c =
     let args = c.args in
-    rw (gain_to args.t.0 args.h.0 _ c.local.result args.p c.local.ensures c.gain_of-d.ensures) c.requires.p_bound
+    rw (gain_to args.t.0 args.h.0 _ c.local.result args.p c.local.ensures c.gain_of-d.ensures) c.requires.gain_bound
 
 pub returns : goal.returns
 returns c =

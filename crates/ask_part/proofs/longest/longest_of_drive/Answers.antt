@@ -10,7 +10,6 @@ use mathlib.Core.Bool.{true, false, cond}
 use mathlib.Core.List.{List}
 use lib.Dec.{eqb}
 use lib.ListN.{take}
-use borrow.Author.Rules.{rules}
 use borrow.Author.Tests.{eqb-false}
 use Rattle.machine.specs.declared.part.Part.{Part}
 use Rattle.machine.specs.Lists.{member}
@@ -22,8 +21,7 @@ use Rattle.laws.specs.Bools.{or_false_left}
 use Rattle.ask_laws.specs.Spans.{largest_below_is}
 use Rattle.step_part.specs.Gain.{gain_to}
 use Rattle.step_part.specs.PartRanges.{StepFits}
-use Rattle.ask_part.proofs.longest.longest_of_drive.Statement.{statement}
-use Rattle.ask_part.proofs.longest.longest_of_drive.Tie as tie
+use Rattle.ask_part.proofs.longest.longest_of_drive.Goals as goal
 
 -- the places in use of a part's spans
 abbrev spans_of : Part → List ℕ
@@ -69,80 +67,35 @@ one_more_fits spans d r v over fits e =
     let next : v + 1 ≤ d = omega arith in
     le_trans (mul-le-mul_right r next) fits
 
--- the start, seen from the gain, and the gain as the definition has it
-abbrev start_of : tie.After-gain-of → tie.Start
-start_of gain = gain.before.before.before.before
+pub gain_of-d-requires : goal.gain_of-d-requires
+gain_of-d-requires c = rw c.local.ensures c.requires.step.local
 
-gains : (gain : tie.After-gain-of) → let args = (start_of gain).args in
-    gain.gain_of.result.0 ≡ gain_of args.t.0 args.h.0 args.p
-gains gain =
-    let args = (start_of gain).args in
-    gain_to args.t.0 args.h.0 _ gain.before.local.result args.p gain.before.local.ensures
-    gain.gain_of.ensures
+pub returns-then-allowed : goal.returns-then-allowed
+returns-then-allowed c =
+    let args = c.args in
+    let d = c.gain_of-d.result.0 in
+    let gains = gain_to args.t.0 args.h.0 d c.local.result args.p c.local.ensures c.gain_of-d.ensures in
+    by_gain args.p args.t.0 args.h.0 d _ gains
+    (allowed_by args.p args.t.0 args.h.0 d (sym c.allowed.ensures ∙ c.if-allowed.true))
 
-add-t9 : tie.Need-overflow-add-t9
-add-t9 c = omega (arith, c.before.before.requires.step.time)
+pub last_adding-requires : goal.last_adding-requires
+last_adding-requires c =
+    let args = c.args in
+    let d = c.gain_of-d.result.0 in
+    let gains = gain_to args.t.0 args.h.0 d c.local.result args.p c.local.ensures c.gain_of-d.ensures in
+    let fits = gain_fits args.t.0 args.h.0 d args.p c.requires.step gains in
+    let over = sym c.allowed.ensures ∙ c.if-allowed.false in
+    record {
+      ratio_nonzero = c.requires.ratio;
+      ratio_bound = one_more_fits (spans_of args.p) d args.p.ratio _ over fits c.largest_below-v.ensures;
+    }
 
-local-requires : tie.Need-local-requires
-local-requires c κs = search rules
-
-gain-of-requires : tie.Need-gain-of-requires
-gain-of-requires c κs =
-    let start = c.before.before.before in
-    rw c.local.ensures start.requires.step.local
-
-allowed-requires : tie.Need-allowed-requires
-allowed-requires c κs = (start_of c.before.before).requires.places
-
-returns : tie.Need-returns
+pub returns : goal.returns
 returns c =
-    let gain = c.before.before.before.before in
-    let args = (start_of gain).args in
-    let d = gain.gain_of.result.0 in
-    by_gain args.p args.t.0 args.h.0 d _ (gains gain)
-    (allowed_by args.p args.t.0 args.h.0 d (sym c.before.allowed.ensures ∙ c.if1.true))
-
-largest-below-requires : tie.Need-largest-below-requires
-largest-below-requires c κs =
-    let gain = c.before.before.before.before in
-    (start_of gain).requires.places
-
--- d is not allowed
-over : (c : tie.Else1) → let gain = c.before.before.before.before in
-    allowed (spans_of (start_of gain).args.p) gain.gain_of.result.0 ≡ false
-over c = sym c.before.allowed.ensures ∙ c.if1.false
-
-last-adding-requires : tie.Need-last-adding-requires
-last-adding-requires c κs =
-    let gain = c.before.before.before.before.before in
-    let start = start_of gain in
-    let args = start.args in
-    let d = gain.gain_of.result.0 in
-    let fits = gain_fits args.t.0 args.h.0 d args.p start.pre.step (gains gain) in (
-      start.pre.ratio,
-      one_more_fits (spans_of args.p) d args.p.ratio _ (over c.before) fits
-          c.largest_below.ensures,
-    )
-
-returns-2 : tie.Need-returns-2
-returns-2 c =
-    let gain = c.before.before.before.before.before.before in
-    let args = (start_of gain).args in
-    let d = gain.gain_of.result.0 in
-    by_gain args.p args.t.0 args.h.0 d _ (gains gain)
-    (plateau_by args.p args.t.0 args.h.0 d c.before.largest_below.result _ (over c.before.before)
-    c.before.largest_below.ensures
+    let args = c.args in
+    let d = c.gain_of-d.result.0 in
+    let gains = gain_to args.t.0 args.h.0 d c.local.result args.p c.local.ensures c.gain_of-d.ensures in
+    let over = sym c.allowed.ensures ∙ c.if-allowed.false in
+    by_gain args.p args.t.0 args.h.0 d _ gains
+    (plateau_by args.p args.t.0 args.h.0 d c.largest_below-v.result _ over c.largest_below-v.ensures
     c.last_adding.ensures)
-
-pub longest_of_drive_spec : {M : Type 1} → statement M
-longest_of_drive_spec =
-    tie.close
-    (tie.spec
-    add-t9
-    local-requires
-    gain-of-requires
-    allowed-requires
-    returns
-    largest-below-requires
-    last-adding-requires
-    returns-2)
