@@ -17,7 +17,7 @@ use Rattle.machine.specs.declared.model.Outcome.{Outcome}
 use Rattle.machine.specs.Calls.{Advanced, Call, Chain}
 use Rattle.machine.specs.WholeList.{WholeList}
 use Rattle.laws.specs.Bools.{either, cond_true, cond_false}
-use Rattle.advance_lists.specs.Demand3.{whole_list}
+use Rattle.advance_lists.proofs.Demand3.{whole_list}
 use Rattle.words_store.specs.ModelIn.{part_count, state_words, model_in}
 use Rattle.words_store.specs.Form.{spelled}
 use Rattle.words_store.specs.StoreFrame.{held_unused}

@@ -11,7 +11,7 @@ use Rattle.machine.specs.Model.{trimmed_loaded}
 use Rattle.machine.specs.Load.{load}
 use Rattle.machine.specs.Calls.{Advanced, Call, Chain}
 use Rattle.machine.specs.WholeList.{WholeList}
-use Rattle.advance_lists.specs.Demand3.{whole_list}
+use Rattle.advance_lists.proofs.Demand3.{whole_list}
 
 -- the call that is given the model m and the wanted step w, and answered r
 abbrev pub call : Model → ℕ → Answer → Call

@@ -4,23 +4,21 @@
 -- model that is sound again. Assumes nothing.
 use Rattle.std.specs.Prelude.{ℕ, ◌≡◌, refl, true, false, ◌⊎◌, List, [], ◌∷◌, eqb}
 use Rattle.std.proofs.Common.{ap, sym, subst, ◌∙◌, inl, inr, eqb-true, eq-eqb}
-use mathlib.Core.List.Memᴰ
 use Rattle.std.proofs.lemmas.Bool.{eqb-false}
 use Rattle.machine.specs.declared.time.Point.{Point}
 use Rattle.machine.specs.declared.model.Model.{Model}
 use Rattle.machine.specs.declared.model.Answer.{Answer}
 use Rattle.machine.specs.Lists.{All}
-use Rattle.machine.specs.Time.{tick, led_to}
+use Rattle.machine.specs.Time.{led_to}
 use Rattle.machine.specs.Model.{trimmed, trimmed_answer}
 use Rattle.machine.specs.Step.{step_made, steps_made}
 use Rattle.machine.specs.Sound.{sound}
 use Rattle.machine.specs.Advance.{outcome, answer_with, advance}
-use Rattle.machine.specs.Calls.{Advanced, Call, Chain, last_model, committed, points_led_to, visited}
-use Rattle.machine.specs.WholeList.{OfCall, WholeList}
+use Rattle.machine.specs.Calls.{Advanced, Call, Chain, last_model, committed, points_led_to}
+use Rattle.machine.specs.WholeList.{OfCall}
 use Rattle.laws.specs.Bools.{either}
-use Rattle.sound_laws.specs.SoundParts.{sound_local}
 use Rattle.advance_lists.specs.Points.{points_after}
-use Rattle.advance_lists.specs.StepsAlone.{AllAccepted, steps_tick, steps_reached, steps_passed}
+use Rattle.advance_lists.specs.StepsAlone.{AllAccepted}
 use Rattle.advance_lists.specs.RoundsOwed.{of_call}
 use Rattle.advance_lists.specs.Bounds.{call_sound}
 
@@ -41,14 +39,14 @@ unfolding trimmed step_made
 committed_leads m z h e = ap (λ (x : Model). x.point) e
 
 -- what the calls of a chain come to, from a model m
-record Retraced (m : Model) (cs : List Call) : Type 0 where
+pub record Retraced (m : Model) (cs : List Call) : Type 0 where
   -- the committed steps, made alone, lead to the last model
-  model : trimmed (last_model m cs) ≡ steps_made (trimmed m) (committed cs)
+  pub model : trimmed (last_model m cs) ≡ steps_made (trimmed m) (committed cs)
   -- and through the points of the list
-  points : points_led_to cs ≡ points_after m.point (committed cs)
+  pub points : points_led_to cs ≡ points_after m.point (committed cs)
   -- all parts accept each, where it is made
-  accepted : AllAccepted (trimmed m) (committed cs)
-  calls : All OfCall cs
+  pub accepted : AllAccepted (trimmed m) (committed cs)
+  pub calls : All OfCall cs
 
 -- a call before others that are retraced, committed or refused
 one_more : (c : Call) (cs : List Call) → Advanced c.given c.wanted c.answer → Retraced c.answer.model cs →
@@ -80,7 +78,7 @@ one_more c cs a rest (inr e) =
     }
 
 -- every chain is retraced
-retraced : (m : Model) (cs : List Call) → Chain m cs → Retraced m cs
+pub retraced : (m : Model) (cs : List Call) → Chain m cs → Retraced m cs
 unfolding committed last_model points_led_to steps_made points_after
 retraced m [] ch = record { model = refl; points = refl; accepted = tt; calls = tt }
 retraced m (c ∷ cs) ch =
@@ -94,21 +92,3 @@ unfolding last_model
 chain_sound m [] s ch = s
 chain_sound m (c ∷ cs) s ch =
     chain_sound c.answer.model cs (call_sound c.given c.wanted c.answer ch.1 (rw ch.0 s)) ch.2
-
--- document 01's third demand
-pub whole_list_from : (m : Model) (cs : List Call) → sound (trimmed m) ≡ true → Chain m cs → WholeList m cs
-unfolding trimmed visited
-whole_list_from m cs s ch =
-    let list = retraced m cs ch in
-    let hs = committed cs in
-    let end : (last_model m cs).point ≡ (steps_made (trimmed m) hs).point = ap (λ (z : Model). z.point) list.model in
-    record {
-      same = list.model;
-      ticks = ap tick end ∙ steps_tick (trimmed m) hs;
-      locals = sound_local (trimmed (last_model m cs)) (chain_sound m cs s ch);
-      reached = λ i k p e before past. rw list.points (Memᴰ.tail
-          (steps_reached (trimmed m) hs i k p e list.accepted before (rw end at past)));
-      passed = λ i k p e before past. rw list.points (Memᴰ.tail
-          (steps_passed (trimmed m) hs i k p e list.accepted before (rw end at past)));
-      calls = list.calls;
-    }

@@ -3,19 +3,16 @@
 -- at the start point. That the calls of `advance` form such chains is in `advance_call`'s specs/EveryList.antt, above
 -- the crate that has the call. Assumes nothing.
 use Rattle.std.specs.Prelude.{ℕ, ◌≡◌, true, List}
-use Rattle.std.proofs.Common.{arith, ap, sym, subst, ◌∙◌}
+use Rattle.std.proofs.Common.{ap, sym, subst, ◌∙◌}
 use Rattle.machine.specs.declared.model.Model.{Model}
 use Rattle.machine.specs.declared.model.Loaded.{Loaded}
-use Rattle.machine.specs.Time.{tick, start}
+use Rattle.machine.specs.Time.{start}
 use Rattle.machine.specs.Model.{part_at, trimmed, trimmed_loaded}
 use Rattle.machine.specs.Fresh.{fresh}
 use Rattle.machine.specs.Load.{load}
 use Rattle.machine.specs.Sound.{sound}
-use Rattle.machine.specs.Calls.{Call, Chain, last_model, committed}
-use Rattle.machine.specs.WholeList.{sum, WholeList}
 use Rattle.sound_laws.specs.Accepted.{load_fits}
 use Rattle.sound_laws.specs.FreshSound.{fresh_start, fresh_local, fresh_sound}
-use Rattle.advance_lists.specs.Claims.{whole_list_from}
 
 -- what a model is that was just loaded: sound, at the start point, with local counts 0
 pub record JustLoaded (m : Model) : Type 0 where
@@ -34,16 +31,3 @@ just_loaded bs r loads accepted =
       at_start = ap (λ (m : Model). m.point) same ∙ fresh_start t;
       locals = λ i. subst (λ (m : Model). (part_at m.parts i).state.local.0 ≡ 0) (sym same) (fresh_local t i);
     }
-
--- document 01's third demand
-pub whole_list :
-    (bs : List ℕ) (r : Loaded) (cs : List Call) → trimmed_loaded r ≡ load bs → r.number ≡ 0 → Chain r.model cs →
-    WholeList r.model cs
-whole_list bs r cs loads accepted = whole_list_from r.model cs (just_loaded bs r loads accepted).is_sound
-
--- "tick = their sum"
-pub tick_is_sum :
-    (bs : List ℕ) (r : Loaded) (cs : List Call) → trimmed_loaded r ≡ load bs → r.number ≡ 0 → Chain r.model cs →
-    tick (last_model r.model cs).point ≡ sum (committed cs)
-tick_is_sum bs r cs loads accepted chain =
-    omega (arith, (whole_list bs r cs loads accepted chain).ticks, ap tick (just_loaded bs r loads accepted).at_start)

@@ -1,19 +1,15 @@
 -- Request 3: "Previews put anywhere into a list of advances alter none of its results", of every list of calls that
 -- keep what they promise, so that document 01's third demand holds of the advances in it. The idea: a preview hands on
 -- the model that it was given, so that what is after it begins where it began. Assumes nothing.
-use Rattle.std.specs.Prelude.{ℕ, ◌≡◌, refl, List, [], ◌∷◌}
+use Rattle.std.specs.Prelude.{◌≡◌, refl, List, [], ◌∷◌}
 use Rattle.std.proofs.Common.{ap, ap₂, sym, subst, ◌∙◌}
 use Rattle.machine.specs.declared.model.Model.{Model}
-use Rattle.machine.specs.declared.model.Loaded.{Loaded}
 use Rattle.machine.specs.declared.model.Answer.{Answer}
-use Rattle.machine.specs.Model.{trimmed, trimmed_answer, trimmed_loaded}
-use Rattle.machine.specs.Load.{load}
+use Rattle.machine.specs.Model.{trimmed, trimmed_answer}
 use Rattle.machine.specs.Advance.{advance}
 use Rattle.machine.specs.Calls.{Advanced, Call, Chain, last_model}
 use Rattle.machine.specs.Previews.{PreviewCall, AnyCall, Advancing, Previewing, MixedChain, advances, handed_on}
 use Rattle.machine.specs.Previews.{Unaltered, wanted_steps, results, machine_answers}
-use Rattle.machine.specs.WholeList.{WholeList}
-use Rattle.advance_lists.specs.Demand3.{whole_list}
 
 -- a preview before a list that is unaltered
 one_preview : (m : Model) (p : PreviewCall) (cs : List AnyCall) → p.given ≡ m → p.returned.given ≡ m →
@@ -38,14 +34,6 @@ previews_alter_nothing m (Advancing c ∷ cs) mixed =
 previews_alter_nothing m (Previewing p ∷ cs) mixed =
     one_preview m p cs mixed.0 (mixed.1.unchanged ∙
     mixed.0) mixed.1.answer (previews_alter_nothing p.returned.given cs mixed.2)
-
--- so document 01's third demand holds of the advances in every such list from a stream that loads
-pub previewed_list :
-    (bs : List ℕ) (r : Loaded) (cs : List AnyCall) → trimmed_loaded r ≡ load bs → r.number ≡ 0 →
-    MixedChain r.model cs →
-    WholeList r.model (advances cs)
-previewed_list bs r cs loads accepted mixed =
-    whole_list bs r (advances cs) loads accepted (previews_alter_nothing r.model cs mixed).chain
 
 -- the results of a chain are the machine's answers to its wanted steps
 chain_results : (m : Model) (cs : List Call) → Chain m cs → results cs ≡ machine_answers (trimmed m) (wanted_steps cs)

@@ -1,15 +1,14 @@
 -- Steps made alone: the point where `steps_made` leaves the model; and that steps which all parts accept, where each is
 -- made, lead through every pulse's points. By induction on the list of steps. Assumes nothing.
 use Rattle.std.specs.Prelude.{ℕ, ◌+◌, ◌*◌, ◌≤◌, ◌<◌, ◌≡◌, refl, length}
-use Rattle.std.proofs.Common.{arith, ap, ◌∙◌, inl}
+use Rattle.std.proofs.Common.{arith, ap, ◌∙◌}
 use mathlib.Core.List.{List, [], ◌∷◌, Memᴰ}
 use Rattle.machine.specs.declared.time.Point.{Point}
-use Rattle.machine.specs.declared.time.Comparison.TheVariants.{Earlier}
 use Rattle.machine.specs.declared.signal.Signal.{Signal}
 use Rattle.machine.specs.declared.part.Kind.TheVariants.{Pulse}
 use Rattle.machine.specs.declared.part.Part.{Part}
 use Rattle.machine.specs.declared.model.Model.{Model}
-use Rattle.machine.specs.Time.{point, tick, led_to, compared}
+use Rattle.machine.specs.Time.{point, tick, led_to}
 use Rattle.machine.specs.Kind.{period}
 use Rattle.machine.specs.Model.{part_at, reading0}
 use Rattle.machine.specs.Step.{step_made, steps_made}
@@ -17,7 +16,6 @@ use Rattle.machine.specs.Accept.{due_as, due, AcceptsAs, Accepts}
 use Rattle.machine.specs.WholeList.{AllAccept, sum}
 use Rattle.advance_laws.specs.Frame.{made_length, made_component, made_ratio}
 use Rattle.advance_lists.specs.Points.{point_after, points_after, after_tick, WaitsAt, Waits, reached_point}
-use Rattle.advance_lists.specs.Points.{passed_point}
 
 -- all parts accept each of the steps, where it is made
 abbrev pub AllAccepted : Model → List ℕ → Type 0
@@ -30,7 +28,7 @@ unfolding step_made
 made_point m h = refl
 
 -- the point where steps made leave it
-steps_point : (m : Model) (hs : List ℕ) → (steps_made m hs).point ≡ point_after m.point hs
+pub steps_point : (m : Model) (hs : List ℕ) → (steps_made m hs).point ≡ point_after m.point hs
 unfolding steps_made step_made point_after
 steps_point m [] = refl
 steps_point m (h ∷ hs) = steps_point (step_made m h) hs
@@ -46,7 +44,7 @@ unfolding Accepts due due_as AcceptsAs
 pulse_waits p now x h e a = rw e at a
 
 -- steps that all parts accept wait for every pulse
-pulses_wait : (m : Model) (hs : List ℕ) (i : ℕ) → i < length m.parts →
+pub pulses_wait : (m : Model) (hs : List ℕ) (i : ℕ) → i < length m.parts →
     (part_at m.parts i).component.kind ≡ Pulse →
     AllAccepted m hs → Waits (period (part_at m.parts i)) m.point hs
 pulses_wait m [] i p e a = tt
@@ -59,8 +57,7 @@ pulses_wait m (h ∷ hs) i p e a =
       rw (component, ratio, made_point m h) at rest,
     )
 
--- so of a pulse with period P they lead through (k × P, 0) once they reach that tick, and through (k × P, 1) once they
--- pass that point
+-- so of a pulse with period P they lead through (k × P, 0) once they reach that tick
 pub steps_reached : (m : Model) (hs : List ℕ) (i k : ℕ) → i < length m.parts →
     (part_at m.parts i).component.kind ≡ Pulse →
     AllAccepted m hs → tick m.point < k * period (part_at m.parts i) →
@@ -68,13 +65,4 @@ pub steps_reached : (m : Model) (hs : List ℕ) (i k : ℕ) → i < length m.par
     Memᴰ (point (k * period (part_at m.parts i)) 0) (points_after m.point hs)
 steps_reached m hs i k p e a before past =
     reached_point (period (part_at m.parts i)) k m.point hs (pulses_wait m hs i p e a) before
-    (rw (steps_point m hs) at past)
-
-pub steps_passed : (m : Model) (hs : List ℕ) (i k : ℕ) → i < length m.parts →
-    (part_at m.parts i).component.kind ≡ Pulse →
-    AllAccepted m hs → tick m.point < k * period (part_at m.parts i) →
-    compared (point (k * period (part_at m.parts i)) 0) (steps_made m hs).point ≡ Earlier →
-    Memᴰ (point (k * period (part_at m.parts i)) 1) (points_after m.point hs)
-steps_passed m hs i k p e a before past =
-    passed_point (period (part_at m.parts i)) k m.point hs (pulses_wait m hs i p e a) (inl before) (omega arith)
     (rw (steps_point m hs) at past)
