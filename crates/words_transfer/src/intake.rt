@@ -45,7 +45,7 @@ fn put_operands(
 // The word of a span's place: the span where one is there, else 0.
 fn span_word(v: u32, used: bool) -> u64
     ensures value { result ≡ cond used v 0 }
-    ensures upper_bound { result < 4294967296 }
+    ensures fits { result < 4294967296 }
 {
     if !used {
         return NO_SPAN;
@@ -103,9 +103,9 @@ fn put_header(table: &mut [u64], magnitude: u8, count: usize)
 
 // The model, put into words that have room for it, as the caller's proof knows. The words after the model's are kept.
 pub fn put_fitting(m: Model, table: &mut [u64], state: &mut [u64])
-    requires count_bound { m.count ≤ 32 }
-    requires count_in_bounds { table_words m.count ≤ length table.old }
-    requires count_in_bounds_2 { state_words m.count ≤ length state.old }
+    requires few_parts { m.count ≤ 32 }
+    requires table_there { table_words m.count ≤ length table.old }
+    requires state_there { state_words m.count ≤ length state.old }
     ensures model_put { ModelPut m table.new state.new }
     ensures kept_behind { KeptBehind m.count table.old table.new state.old
         state.new }

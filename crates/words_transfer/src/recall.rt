@@ -20,8 +20,8 @@ fn in_state(mut p: Part, s: State) -> Part
 
 // The model at the point of a state's words, each of its parts in the state that is there.
 pub fn recalled(m: Model, state: &[u64]) -> Model
-    requires count_bound { m.count ≤ 32 }
-    requires count_in_bounds { state_words m.count ≤ length state.now }
+    requires few_parts { m.count ≤ 32 }
+    requires state_there { state_words m.count ≤ length state.now }
     ensures { Recalled m state.now result }
 {
     let now = point_of(state);
