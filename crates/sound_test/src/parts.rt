@@ -61,8 +61,8 @@ fn part_fits(p: Part, parts: usize, magnitude: u8, t: Ticks) -> bool
 // Whether every part may be one of the model's at tick `t`, by the master's magnitude.
 pub(crate) fn parts_fit_in(table: &[u64], state: &[u64], magnitude: u8, t: Ticks) -> bool
     requires words_there { WordsThere table.now state.now }
-    requires table_bound { part_count table.now ≤ most_parts }
-    requires magnitude_le_last_magnitude { magnitude ≤ last_magnitude }
+    requires few_parts { part_count table.now ≤ most_parts }
+    requires magnitude_known { magnitude ≤ last_magnitude }
     ensures { result ≡ every (part_fits (part_count table.now) magnitude t.0)
         (trimmed (model_in table.now state.now)).parts }
 {

@@ -23,8 +23,8 @@ pub struct Survey {
 // The survey of a table: the largest of the default magnitude and the preferences of the parts, their direct sources,
 // and the part order that is given.
 pub(crate) fn surveyed_in(table: &[u64]) -> Survey
-    requires table_bound { part_count table.now ≤ most_parts }
-    requires table_in_bounds { table_words (part_count table.now) ≤ length table.now }
+    requires few_parts { part_count table.now ≤ most_parts }
+    requires table_there { table_words (part_count table.now) ≤ length table.now }
     ensures { LentSurveyed table.now result }
 {
     let none = Direct {

@@ -12,113 +12,113 @@ use Rattle.sound_test.specs.LentWhole.{Surveying, surveying_start, surveying_mor
 use Rattle.sound_test.proofs.survey.surveyed_in.Statement.{statement}
 use Rattle.sound_test.proofs.survey.surveyed_in.Tie as tie
 
-abbrev invariant-loop : tie.invariant-loop
-invariant-loop table count magnitude₀ direct₀ order₀ i₀ magnitude direct order i = Surveying table i magnitude direct order
+abbrev invariant-loop-i : tie.invariant-loop-i
+invariant-loop-i table count magnitude₀ direct₀ order₀ i₀ magnitude direct order i = Surveying table i magnitude direct order
 
-abbrev decreases-loop : tie.decreases-loop
-decreases-loop table count magnitude₀ direct₀ order₀ i₀ magnitude direct order i = count - i
+abbrev decreases-loop-i : tie.decreases-loop-i
+decreases-loop-i table count magnitude₀ direct₀ order₀ i₀ magnitude direct order i = count - i
 
 -- a turn's place is one of the table's parts
-here : (test : tie.In-loop invariant-loop decreases-loop) →
+here : (test : tie.In-loop-i invariant-loop-i decreases-loop-i) →
     let counted = test.before.before.before in
-    test.before.loop.i < part_count counted.before.before.args.table.now
+    test.before.loop-i.i < part_count counted.before.before.args.table.now
 here test =
     let counted = test.before.before.before in
-    omega (arith, test.loop-test.true, counted.parts_of.ensures)
+    omega (arith, test.loop-i-test.true, counted.parts_of-count.ensures)
 
-place : (test : tie.In-loop invariant-loop decreases-loop) → test.before.loop.i < most_parts
+place : (test : tie.In-loop-i invariant-loop-i decreases-loop-i) → test.before.loop-i.i < most_parts
 place test =
     let start = test.before.before.before.before.before in
     omega (arith, here test, start.requires.0)
 
 -- the turn, seen from the calls
-abbrev test_of : tie.After-direct-sources invariant-loop decreases-loop → tie.In-loop invariant-loop decreases-loop
+abbrev test_of : tie.After-direct_sources invariant-loop-i decreases-loop-i → tie.In-loop-i invariant-loop-i decreases-loop-i
 test_of c = c.before.before.before
 
-parts-of-requires : tie.Need-parts-of-requires invariant-loop decreases-loop
-parts-of-requires c κs = omega (arith, c.before.requires.1)
+parts_of-count-requires : tie.Need-parts_of-count-requires invariant-loop-i decreases-loop-i
+parts_of-count-requires c κs = omega (arith, c.before.requires.1)
 
-magnitude-of-requires : tie.Need-magnitude-of-requires invariant-loop decreases-loop
-magnitude-of-requires c κs = omega (arith, c.before.before.requires.1)
+magnitude_of-magnitude-requires : tie.Need-magnitude_of-magnitude-requires invariant-loop-i decreases-loop-i
+magnitude_of-magnitude-requires c κs = omega (arith, c.before.before.requires.1)
 
-loop-holds : tie.Need-loop-init invariant-loop decreases-loop
-loop-holds c = surveying_start _ _ _ _ c.magnitude_of.ensures refl refl
+loop-i-init : tie.Need-loop-i-init invariant-loop-i decreases-loop-i
+loop-i-init c = surveying_start _ _ _ _ c.magnitude_of-magnitude.ensures refl refl
 
-component-at-requires : tie.Need-component-at-requires invariant-loop decreases-loop
-component-at-requires c κs =
+component_at-c-requires : tie.Need-component_at-c-requires invariant-loop-i decreases-loop-i
+component_at-c-requires c κs =
     let start = c.before.before.before.before.before in
     omega (arith, here c, start.requires.1)
 
-larger-of-requires : tie.Need-larger-of-requires invariant-loop decreases-loop
-larger-of-requires c κs = tt
+larger_of-magnitude-requires : tie.Need-larger_of-magnitude-requires invariant-loop-i decreases-loop-i
+larger_of-magnitude-requires c κs = tt
 
-direct-sources-requires : tie.Need-direct-sources-requires invariant-loop decreases-loop
-direct-sources-requires c κs = tt
+direct_sources-requires : tie.Need-direct_sources-requires invariant-loop-i decreases-loop-i
+direct_sources-requires c κs = tt
 
-mul-direct : tie.Need-overflow-mul-direct invariant-loop decreases-loop
-mul-direct c = omega (arith, place (test_of c))
+offset_bounds-direct-i : tie.Need-offset_bounds-direct-i invariant-loop-i decreases-loop-i
+offset_bounds-direct-i c = omega (arith, place (test_of c))
 
-array-set-from-direct : tie.Need-array-set-from-direct invariant-loop decreases-loop
-array-set-from-direct c = place (test_of c)
+bounds-direct-i : tie.Need-bounds-direct-i invariant-loop-i decreases-loop-i
+bounds-direct-i c = place (test_of c)
 
-ordered-part-requires : tie.Need-ordered-part-requires invariant-loop decreases-loop
-ordered-part-requires c κs =
+ordered_part-requires : tie.Need-ordered_part-requires invariant-loop-i decreases-loop-i
+ordered_part-requires c κs =
     let start = (test_of c).before.before.before.before.before in
-    omega (arith, here (test_of c), start.pre.1)
+    omega (arith, here (test_of c), start.requires.1)
 
-cast-order : tie.Need-overflow-cast-order invariant-loop decreases-loop
+overflow_cast-order : tie.Need-overflow_cast-order invariant-loop-i decreases-loop-i
 unfolding ordered_part
-cast-order c = omega (arith, c.ordered_part.ensures)
+overflow_cast-order c = omega (arith, c.ordered_part.ensures)
 
-mul-order : tie.Need-overflow-mul-order invariant-loop decreases-loop
-mul-order c = omega (arith, place (test_of c.before))
+offset_bounds-order-i : tie.Need-offset_bounds-order-i invariant-loop-i decreases-loop-i
+offset_bounds-order-i c = omega (arith, place (test_of c.before))
 
-array-write-order : tie.Need-array-write-order invariant-loop decreases-loop
-array-write-order c = place (test_of c.before)
+bounds-order-i : tie.Need-bounds-order-i invariant-loop-i decreases-loop-i
+bounds-order-i c = place (test_of c.before)
 
-add-i : tie.Need-overflow-add-i invariant-loop decreases-loop
-add-i c = omega (arith, place (test_of c.before))
+overflow_add-i : tie.Need-overflow_add-i invariant-loop-i decreases-loop-i
+overflow_add-i c = omega (arith, place (test_of c.before))
 
-loop-less : tie.Need-loop-smaller invariant-loop decreases-loop
-loop-less c = omega (arith, (test_of c.before).loop-test.taken)
+loop-i-smaller : tie.Need-loop-i-smaller invariant-loop-i decreases-loop-i
+loop-i-smaller c = omega (arith, (test_of c.before).loop-i-test.true)
 
-loop-again : tie.Need-loop-preserved invariant-loop decreases-loop
-loop-again c =
+loop-i-preserved : tie.Need-loop-i-preserved invariant-loop-i decreases-loop-i
+loop-i-preserved c =
     let test = test_of c.before in
-    let loop = test.before.loop in
+    let loop = test.before.loop-i in
     let start = test.before.before.before.before.before in
-    let component = c.before.before.before.component_at.ensures in
-    surveying_more _ loop.i loop.magnitude _ loop.direct loop.order _ _ loop.inv (here test)
-    start.pre.0
-    (c.before.before.larger_of.ensures ∙ ap (λ (p : Component). larger loop.magnitude p.preference) component)
+    let component = c.before.before.before.component_at-c.ensures in
+    surveying_more _ loop.i loop.magnitude _ loop.direct loop.order _ _ loop.invariant (here test)
+    start.requires.0
+    (c.before.before.larger_of-magnitude.ensures ∙ ap (λ (p : Component). larger loop.magnitude p.preference) component)
     (c.before.direct_sources.ensures ∙ ap direct_of component) c.ordered_part.ensures
 
-returns : tie.Need-returns invariant-loop decreases-loop
+returns : tie.Need-returns invariant-loop-i decreases-loop-i
 returns c =
     let counted = c.before.before.before in
-    let past : part_count counted.before.before.args.table.now ≤ c.before.loop.i =
-    omega (arith, c.loop-test.false, counted.parts_of.ensures) in
-    surveying_end _ c.before.loop.i _ c.before.loop.invariant past
+    let past : part_count counted.before.before.args.table.now ≤ c.before.loop-i.i =
+    omega (arith, c.loop-i-test.false, counted.parts_of-count.ensures) in
+    surveying_end _ c.before.loop-i.i _ c.before.loop-i.invariant past
 
 pub surveyed_in_spec : {M : Type 1} → statement M
 surveyed_in_spec =
     tie.close
     (tie.spec
-    invariant-loop
-    decreases-loop
-    parts-of-requires
-    magnitude-of-requires
-    loop-holds
-    component-at-requires
-    larger-of-requires
-    direct-sources-requires
-    mul-direct
-    array-set-from-direct
-    ordered-part-requires
-    cast-order
-    mul-order
-    array-write-order
-    add-i
-    loop-less
-    loop-again
+    invariant-loop-i
+    decreases-loop-i
+    parts_of-count-requires
+    magnitude_of-magnitude-requires
+    loop-i-init
+    component_at-c-requires
+    larger_of-magnitude-requires
+    direct_sources-requires
+    offset_bounds-direct-i
+    bounds-direct-i
+    ordered_part-requires
+    overflow_cast-order
+    offset_bounds-order-i
+    bounds-order-i
+    overflow_add-i
+    loop-i-smaller
+    loop-i-preserved
     returns)
