@@ -31,7 +31,7 @@ fn blank_component() -> Component
 
 // Where reading begins: nothing was read. Free are a progress's unused places.
 fn nothing_read() -> Progress
-    ensures by_index { (rows : List (List ℕ)) → reading_of result rows ≡ nothing_read }
+    ensures meant { (rows : List (List ℕ)) → reading_of result rows ≡ nothing_read }
     ensures few { result.count ≤ most_parts }
 {
     let none = blank_component();
@@ -113,7 +113,7 @@ fn ended_read(at: usize, progress: Progress, rows: [[u32; SPANS]; PARTS]) -> Tab
 // The table at the start of a stream, read up to its End or to a refusal. Free are the bytes of unused places alone,
 // where End was reached.
 pub fn read_table(s: &[u8]) -> TableRead
-    ensures s_value { load s.now ≡ concluded result }
+    ensures loads { load s.now ≡ concluded result }
     ensures stopped { Stopped s.now result }
 {
     let mut at: usize = 0;

@@ -21,7 +21,7 @@ use refusals::CUT;
 // The Span at a position, after the progress and its rows.
 fn span_beside(s: &[u8], at: usize, progress: Progress, rows: [[u32; SPANS]; PARTS]) -> SpanResult
     requires { (at < length s.now) × (progress.count ≤ most_parts) × Spannable progress }
-    ensures step_value { step_of (row_with rows (last_place progress) (span_count progress) result.span) at result.step ≡
+    ensures meant { step_of (row_with rows (last_place progress) (span_count progress) result.span) at result.step ≡
         uncut s.now at 5 (span_command s.now at (reading_of progress rows)) }
     ensures left { SpanLeft at progress result }
 {
@@ -42,7 +42,7 @@ fn command(
 ) -> SpanResult
     requires { (at < length s.now) × (progress.count ≤ most_parts) × (0 < b) × (b < 5) ×
         (b ≡ 3 → Spannable progress) }
-    ensures step_value { step_of (rows_behind b progress rows result.span) at result.step ≡
+    ensures meant { step_of (rows_behind b progress rows result.span) at result.step ≡
         sized_command s.now at (reading_of progress rows) b }
     ensures left { CommandLeft at progress b result }
 {

@@ -10,9 +10,7 @@ use Rattle.load_commands.specs.Progress.{reading_of}
 use Rattle.load_commands.specs.Spanned.{last_place, row_with, span_count}
 use Rattle.load_commands.specs.CommandSteps.{span_refused_left, step_of, uncut}
 use Rattle.load_table.specs.Turning.{rows_behind, sized_command}
-use borrow.Author.Rules.{rules}
-use Rattle.load_table.proofs.turn.command.Statement.{statement}
-use Rattle.load_table.proofs.turn.command.Tie as tie
+use Rattle.load_table.proofs.turn.command.Goals as goal
 
 module _ (bs : List ℕ) (at : ℕ) (progress : Progress) (rows : List (List ℕ)) (b v : ℕ) (step : CommandResult) where
   -- the step is the definition's by the command's byte
@@ -38,53 +36,43 @@ module _ (bs : List ℕ) (at : ℕ) (progress : Progress) (rows : List (List ℕ
   unfolding rows_behind sized_command command_width whole_command uncut
   wire_as e h = rw e h
 
-span-beside-requires : tie.Need-span-beside-requires
-span-beside-requires c κs = (omega arith, omega arith, c.before.before.requires.4 c.if1.true)
+pub span_beside-requires : goal.span_beside-requires
+span_beside-requires c = (omega arith, omega arith, c.requires.4 c.if-b-eq-SPAN_BYTE.true)
 
-returns : tie.Need-returns
-returns c = (
-  span_as _ _ _ _ _ _ _ c.before.if1.true c.span_beside.ensures.0,
-  record { left = c.span_beside.ensures.1; span = λ other. absurd (other c.before.if1.true) },
-)
+pub returns-then-b-eq-SPAN_BYTE : goal.returns-then-b-eq-SPAN_BYTE
+returns-then-b-eq-SPAN_BYTE c =
+    record {
+      meant = span_as _ _ _ _ _ _ _ c.if-b-eq-SPAN_BYTE.true c.span_beside.ensures.meant;
+      left = record { left = c.span_beside.ensures.left; span = λ other. absurd (other c.if-b-eq-SPAN_BYTE.true) };
+    }
 
-begin-requires : tie.Need-begin-requires
-begin-requires c κs = search rules
+pub returns-then-b-eq-BEGIN_BYTE : goal.returns-then-b-eq-BEGIN_BYTE
+returns-then-b-eq-BEGIN_BYTE c =
+    record {
+      meant = begin_as _ _ _ _ _ _ _ c.if-b-eq-BEGIN_BYTE.true (c.begin-step.ensures.meant _);
+      left = record {
+        left = span_refused_left c.begin-step.result _ _ c.begin-step.ensures.left;
+        span = λ other. refl;
+      };
+    }
 
-returns-2 : tie.Need-returns-2
-returns-2 c = (
-  begin_as _ _ _ _ _ _ _ c.before.if2.true (c.begin.ensures.0 _),
-  record { left = span_refused_left c.begin.result _ _ c.begin.ensures.1; span = λ other. refl },
-)
+pub returns-then-b-eq-PART_BYTE : goal.returns-then-b-eq-PART_BYTE
+returns-then-b-eq-PART_BYTE c =
+    record {
+      meant = part_as _ _ _ _ _ _ _ c.if-b-eq-PART_BYTE.true (c.part-step.ensures.meant _);
+      left = record {
+        left = span_refused_left c.part-step.result _ _ c.part-step.ensures.left;
+        span = λ other. refl;
+      };
+    }
 
-part-requires : tie.Need-part-requires
-part-requires c κs = search rules
-
-returns-3 : tie.Need-returns-3
-returns-3 c = (
-  part_as _ _ _ _ _ _ _ c.before.if3.true (c.part.ensures.0 _),
-  record { left = span_refused_left c.part.result _ _ c.part.ensures.1; span = λ other. refl },
-)
-
-wire-requires : tie.Need-wire-requires
-wire-requires c κs = search rules
-
-returns-4 : tie.Need-returns-4
-returns-4 c =
-    let start = c.before.before.before.before.before in
-    let last : start.args.b ≡ 4 = omega arith in (
-      wire_as _ _ _ _ _ _ _ last (c.wire.ensures.0 _),
-      record { left = span_refused_left c.wire.result _ _ c.wire.ensures.1; span = λ other. refl },
-    )
-
-pub command_spec : {M : Type 1} → statement M
-command_spec =
-    tie.close
-    (tie.spec
-    span-beside-requires
-    returns
-    begin-requires
-    returns-2
-    part-requires
-    returns-3
-    wire-requires
-    returns-4)
+pub returns : goal.returns
+returns c =
+    let last : c.args.b ≡ 4 = omega arith in
+    record {
+      meant = wire_as _ _ _ _ _ _ _ last (c.wire-step.ensures.meant _);
+      left = record {
+        left = span_refused_left c.wire-step.result _ _ c.wire-step.ensures.left;
+        span = λ other. refl;
+      };
+    }

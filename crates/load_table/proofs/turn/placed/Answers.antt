@@ -13,8 +13,7 @@ use Rattle.load_table.specs.EndReached.{end_judged}
 use Rattle.load_table.specs.Judged.{turn_ended}
 use Rattle.load_table.specs.Turned.{turn_of}
 use Rattle.load_table.specs.Turning.{rows_behind, sized_command}
-use Rattle.load_table.proofs.turn.placed.Statement.{statement}
-use Rattle.load_table.proofs.turn.placed.Tie as tie
+use Rattle.load_table.proofs.turn.placed.Goals as goal
 
 -- the turn of a command that is refused, and of one that reading goes on after
 refused_as : (bs : List ℕ) (at : ℕ) (progress then : Progress) (rows : List (List ℕ)) (b v w : ℕ)
@@ -40,52 +39,44 @@ onward_as : (bs : List ℕ) (at : ℕ) (progress : Progress) (rows : List (List 
 unfolding step_of turn_of
 onward_as bs at progress rows b v step h none other = sym h ∙ rw (eq-eqb step.number 0 none, ne_eqb b 5 other)
 
-returns : tie.Need-returns
-returns c =
-    let start = c.before.before in
-    let args = start.args in
+pub returns-then-b-eq-END_BYTE : goal.returns-then-b-eq-END_BYTE
+returns-then-b-eq-END_BYTE c =
+    let args = c.args in
     record {
       is =
-          end_judged _ _ _ _ start.requires.0 c.if1.true ∙
-          sym (turn_ended args.at args.progress args.rows _ refl c.if1.true);
+          end_judged _ _ _ _ c.requires.0 c.if-b-eq-END_BYTE.true ∙
+          sym (turn_ended args.at args.progress args.rows _ refl c.if-b-eq-END_BYTE.true);
       byte = refl;
-      few = start.requires.1;
+      few = c.requires.1;
       refused = λ some. absurd (some refl);
       end = λ five. refl;
       span = λ other. refl;
     }
 
-command-requires : tie.Need-command-requires
-command-requires c κs =
-    let start = c.before.before in
-    (start.requires.0, start.requires.1, start.requires.2, omega arith, start.requires.4)
+pub command-found-requires : goal.command-found-requires
+command-found-requires c =
+    (c.requires.0, c.requires.1, c.requires.2, omega arith, c.requires.4)
 
-returns-2 : tie.Need-returns-2
-returns-2 c =
-    let read = c.before.before.before in
-    let start = read.before.before.before in
+pub returns-then-step-ne0 : goal.returns-then-step-ne0
+returns-then-step-ne0 c =
     record {
-      is = refused_as _ _ _ _ _ _ _ _ _ read.command.ensures.0 c.if2.true;
+      is = refused_as _ _ _ _ _ _ _ _ _ c.command-found.ensures.meant c.if-step-ne0.true;
       byte = refl;
-      few = start.requires.1;
+      few = c.requires.1;
       refused = λ some. refl;
-      end = λ five. absurd (read.before.if1.false five);
+      end = λ five. absurd (c.if-b-eq-END_BYTE.false five);
       span = λ other. refl;
     }
 
-returns-3 : tie.Need-returns-3
-returns-3 c =
-    let read = c.before.before.before.before in
-    let found = read.command in
-    let other = read.before.if1.false in
+pub returns : goal.returns
+returns c =
+    let found = c.command-found in
+    let other = c.if-b-eq-END_BYTE.false in
     record {
-      is = onward_as _ _ _ _ _ _ _ found.ensures.0 c.before.if2.false other;
+      is = onward_as _ _ _ _ _ _ _ found.ensures.meant c.if-step-ne0.false other;
       byte = refl;
-      few = found.ensures.1.left.few;
+      few = found.ensures.left.left.few;
       refused = λ some. absurd (some refl);
       end = λ five. absurd (other five);
-      span = found.ensures.1.span;
+      span = found.ensures.left.span;
     }
-
-pub placed_spec : {M : Type 1} → statement M
-placed_spec = tie.close (tie.spec returns command-requires returns-2 returns-3)

@@ -1,0 +1,2 @@
+-- Lemmas of proofs.
+pub mod Rowed
