@@ -2,4 +2,3 @@
 // and the tables that fit are those that loading accepts. It has no functions; `specs/` holds the laws,
 // which the proofs of the crates above cite.
 #![tactic(auto)]
-
