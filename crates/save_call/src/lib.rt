@@ -20,8 +20,8 @@ mod writer;
 
 // The bytes of a table that fits, where the buffer has room for them: their length is worked out before any is put.
 fn save_table(table: &[u64], out: &mut [u8]) -> Written
-    requires table_in_bounds { table_words (part_count table.now) ≤ length table.now }
-    requires table_value { table_fits (lent_table table.now) ≡ true }
+    requires table_there { table_words (part_count table.now) ≤ length table.now }
+    requires fits { table_fits (lent_table table.now) ≡ true }
     ensures { WrittenAs 0 (table_bytes (lent_table table.now)) out.old
         out.new result }
 {

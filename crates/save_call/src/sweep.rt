@@ -35,11 +35,11 @@ fn wire_length(s: Source) -> usize
 
 // The lengths of a table that fits.
 pub(crate) fn lengths_of(table: &[u64]) -> Lengths
-    requires table_in_bounds { table_words (part_count table.now) ≤ length table.now }
-    requires table_value { table_fits (lent_table table.now) ≡ true }
-    ensures parts_value { result.parts ≡ length (parts_bytes (lent_table table.now).parts) }
-    ensures wires_value { result.wires ≡ length (wires_bytes 0 (lent_table table.now).parts) }
-    ensures parts_bound { (result.parts ≤ 1760) × (result.wires ≤ 256) }
+    requires table_there { table_words (part_count table.now) ≤ length table.now }
+    requires fits { table_fits (lent_table table.now) ≡ true }
+    ensures parts_length { result.parts ≡ length (parts_bytes (lent_table table.now).parts) }
+    ensures wires_length { result.wires ≡ length (wires_bytes 0 (lent_table table.now).parts) }
+    ensures few_bytes { (result.parts ≤ 1760) × (result.wires ≤ 256) }
 {
     let count = parts_of(table);
     let mut parts: usize = 0;
@@ -59,10 +59,10 @@ pub(crate) fn lengths_of(table: &[u64]) -> Lengths
 // The bytes of a table that fits, into a buffer that has room for them, its wires from position `wires` on. One sweep
 // puts each part where the one before it ends, and its wires where those before them do.
 pub(crate) fn put_table(table: &[u64], wires: usize, out: &mut [u8]) -> usize
-    requires table_in_bounds { table_words (part_count table.now) ≤ length table.now }
-    requires table_value { table_fits (lent_table table.now) ≡ true }
-    requires wires_value { wires ≡ length (parts_bytes (lent_table table.now).parts) + 2 }
-    requires table_in_bounds_2 { length (table_bytes (lent_table table.now)) ≤ length out.old }
+    requires table_there { table_words (part_count table.now) ≤ length table.now }
+    requires fits { table_fits (lent_table table.now) ≡ true }
+    requires wires_start { wires ≡ length (parts_bytes (lent_table table.now).parts) + 2 }
+    requires room { length (table_bytes (lent_table table.now)) ≤ length out.old }
     ensures { Put (length (table_bytes (lent_table table.now)))
         (table_bytes (lent_table table.now)) 0 out.old out.new result }
 {

@@ -49,8 +49,8 @@ fn put_kind(out: &mut [u8], at: usize, kind: Kind, preference: u8) -> usize
 
 // Its operands, of which a and b are values: the lowest four bytes of a value's word are its signed operand.
 fn put_operands(out: &mut [u8], at: usize, a: i64, b: i64, p: u32) -> usize
-    requires at_in_bounds { at + 12 ≤ length out.old }
-    requires a_value { (is_value a ≡ true) × (is_value b ≡ true) }
+    requires room { at + 12 ≤ length out.old }
+    requires values { (is_value a ≡ true) × (is_value b ≡ true) }
     ensures { Put 12 (operand_bytes (signed_operand a) ++ (operand_bytes (signed_operand b) ++ operand_bytes p))
         at out.old out.new result }
 {
@@ -70,8 +70,8 @@ fn put_span(out: &mut [u8], at: usize, v: u32) -> usize
 
 // The first `count` spans of a row.
 fn put_spans(out: &mut [u8], at: usize, spans: [u32; SPANS], count: usize) -> usize
-    requires count_bound { count ≤ 8 }
-    requires count_in_bounds { at + 5 * count ≤ length out.old }
+    requires few_spans { count ≤ 8 }
+    requires room { at + 5 * count ≤ length out.old }
     ensures { Put (5 * count) (spans_bytes (take count spans)) at out.old out.new result }
 {
     let mut next = at;
@@ -85,9 +85,9 @@ fn put_spans(out: &mut [u8], at: usize, spans: [u32; SPANS], count: usize) -> us
 
 // A Part with its spans after it.
 pub(crate) fn put_component(out: &mut [u8], at: usize, c: Component) -> usize
-    requires span_count_bound { c.span_count ≤ 8 }
-    requires span_count_in_bounds { at + 15 + 5 * c.span_count ≤ length out.old }
-    requires p_value { operands_fit c.kind c.a c.b c.p ≡ true }
+    requires few_spans { c.span_count ≤ 8 }
+    requires room { at + 15 + 5 * c.span_count ≤ length out.old }
+    requires fits { operands_fit c.kind c.a c.b c.p ≡ true }
     ensures { Put (15 + 5 * c.span_count) (part_text (trimmed_component c)) at out.old
         out.new result }
 {
@@ -111,9 +111,9 @@ fn put_wire(out: &mut [u8], at: usize, source: u8, receiver: u8, port: u8) -> us
 
 // The Wire into a port of the part `receiver`, none where nothing is wired to it.
 fn put_port(out: &mut [u8], at: usize, receiver: usize, port: u8, s: Source) -> usize
-    requires receiver_bound { receiver < 256 }
+    requires receiver_in_byte { receiver < 256 }
     requires source_in_byte { SourceInByte s }
-    requires s_in_bounds { at + length (port_bytes receiver port s) ≤ length out.old }
+    requires room { at + length (port_bytes receiver port s) ≤ length out.old }
     ensures { Put 4 (port_bytes receiver port s) at out.old out.new result }
 {
     match s {
@@ -124,10 +124,10 @@ fn put_port(out: &mut [u8], at: usize, receiver: usize, port: u8, s: Source) -> 
 
 // The Wires into the part `receiver`, by port.
 pub(crate) fn put_wires(out: &mut [u8], at: usize, receiver: usize, c: Component) -> usize
-    requires receiver_bound { receiver < 256 }
-    requires source_in_byte { SourceInByte c.port0 }
-    requires source_in_byte_2 { SourceInByte c.port1 }
-    requires c_in_bounds { at + length (wires_text receiver c) ≤ length out.old }
+    requires receiver_in_byte { receiver < 256 }
+    requires port0_in_byte { SourceInByte c.port0 }
+    requires port1_in_byte { SourceInByte c.port1 }
+    requires room { at + length (wires_text receiver c) ≤ length out.old }
     ensures { Put 8 (wires_text receiver c) at out.old out.new result }
 {
     let port0 = c.port0;

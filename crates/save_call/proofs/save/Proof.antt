@@ -2,10 +2,9 @@
 -- model.
 use Prim.Native.Nat.{ℕ}
 use native.Mathlib.Omega.{arith}
-use mathlib.Core.Path.{◌≡◌, refl, sym, ◌∙◌}
+use mathlib.Core.Path.{◌≡◌, sym, ◌∙◌}
 use mathlib.Core.Bool.{true, ◌&&◌}
 use mathlib.Core.List.{List}
-use borrow.Author.Tests.{not-true, not-false}
 use Rattle.machine.specs.declared.model.Written.{Written}
 use Rattle.machine.specs.Model.{trimmed}
 use Rattle.machine.specs.Sound.{sound}
@@ -36,23 +35,23 @@ unfolding saved_bytes
 accepted ts ss before after w is written = rw (is, lent_table_is ts ss) written
 
 -- what the test showed where it holds
-sounds : (c : tie.Else1) →
+sounds : (c : tie.Else-not-is_sound_in) →
     let start = c.before.before.before.before.before in
     let table = start.args.table.now in
     let state = start.args.state.now in
     (spelled table state && sound (trimmed (model_in table state))) ≡ true
-sounds c = sym c.before.is_sound_in.ensures ∙ not-false c.before.is_sound_in.result c.if1.false
+sounds c = sym c.before.is_sound_in.ensures ∙ c.if-not-is_sound_in.false
 
-is-sound-in-requires : tie.Need-is-sound-in-requires
-is-sound-in-requires c κs = search rules
+is_sound_in-requires : tie.Need-is_sound_in-requires
+is_sound_in-requires c κs = search rules
 
-returns : tie.Need-returns
-returns c =
+returns-then-not-is_sound_in : tie.Need-returns-then-not-is_sound_in
+returns-then-not-is_sound_in c =
     let asked = c.before.is_sound_in in
-    refused _ _ _ (unsound_refused _ _ (sym asked.ensures ∙ not-true asked.result c.if1.true))
+    refused _ _ _ (unsound_refused _ _ (sym asked.ensures ∙ c.if-not-is_sound_in.true))
 
-save-table-requires : tie.Need-save-table-requires
-save-table-requires c κs =
+save_table-requires : tie.Need-save_table-requires
+save_table-requires c κs =
     let test = c.before in
     let start = test.before.before.before.before.before in
     let args = start.args in
@@ -64,11 +63,11 @@ save-table-requires c κs =
       rw (lent_table_is ts ss) at (sound_facts (trimmed (model_in ts ss)) is_sound).table,
     )
 
-same_length : tie.Need-same-length
-same_length c = search rules
+shape_of-out : tie.Need-shape_of-out
+shape_of-out c = search rules
 
-returns-2 : tie.Need-returns-2
-returns-2 c =
+returns : tie.Need-returns
+returns c =
     let saved = c.before.before in
     let test = saved.before.before in
     let start = test.before.before.before.before.before in
@@ -81,4 +80,10 @@ returns-2 c =
 
 pub save_spec : {M : Type 1} → statement M
 save_spec =
-    tie.close (tie.spec is-sound-in-requires returns save-table-requires same_length returns-2)
+    tie.close
+    (tie.spec
+    is_sound_in-requires
+    returns-then-not-is_sound_in
+    save_table-requires
+    shape_of-out
+    returns)

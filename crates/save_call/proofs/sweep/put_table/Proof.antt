@@ -20,40 +20,40 @@ use Rattle.save_call.proofs.TableSweep.{Sweep, swept_none, swept_part, swept_wir
 use Rattle.save_call.proofs.sweep.put_table.Statement.{statement}
 use Rattle.save_call.proofs.sweep.put_table.Tie as tie
 
-abbrev invariant-loop : tie.invariant-loop
-invariant-loop words wires out₀ count at₀ next₀ i₀ out at next i =
+abbrev invariant-loop-i : tie.invariant-loop-i
+invariant-loop-i words wires out₀ count at₀ next₀ i₀ out at next i =
     (i ≤ count) × (length out ≡ length out₀) ×
     Sweep 2 wires (parts_bytes (tabulate (lent_component words) i))
     (wires_bytes 0 (tabulate (lent_component words) i)) out₀ out at next
 
-abbrev decreases-loop : tie.decreases-loop
-decreases-loop words wires out₀ count at₀ next₀ i₀ out at next i = count - i
+abbrev decreases-loop-i : tie.decreases-loop-i
+decreases-loop-i words wires out₀ count at₀ next₀ i₀ out at next i = count - i
 
 -- from the loop back to Begin, and from there to the start
-abbrev begin_of : tie.At-loop invariant-loop decreases-loop → tie.After-put-begin invariant-loop decreases-loop
+abbrev begin_of : tie.At-loop-i invariant-loop-i decreases-loop-i → tie.After-put_begin-at invariant-loop-i decreases-loop-i
 begin_of loop = loop.before.before.before
 
-abbrev start_of : tie.After-put-begin invariant-loop decreases-loop → tie.Start invariant-loop decreases-loop
+abbrev start_of : tie.After-put_begin-at invariant-loop-i decreases-loop-i → tie.Start invariant-loop-i decreases-loop-i
 start_of begin = begin.before.before.before.before.before.before
 
 -- the table's words, and what those of the part at hand grant
-abbrev words_of : tie.At-loop invariant-loop decreases-loop → List ℕ
+abbrev words_of : tie.At-loop-i invariant-loop-i decreases-loop-i → List ℕ
 words_of loop = (start_of (begin_of loop)).args.table.now
 
-here : (c : tie.At-loop invariant-loop decreases-loop) → c.loop.i < part_count (words_of c) → SavablePart (words_of c) c.loop.i
-here c low = part_fits_at _ (start_of (begin_of c)).pre.1.0 _ low
+here : (c : tie.At-loop-i invariant-loop-i decreases-loop-i) → c.loop-i.i < part_count (words_of c) → SavablePart (words_of c) c.loop-i.i
+here c low = part_fits_at _ (start_of (begin_of c)).requires.1.0 _ low
 
 -- the count of parts was read
-counted : (c : tie.At-loop invariant-loop decreases-loop) →
+counted : (c : tie.At-loop-i invariant-loop-i decreases-loop-i) →
     let start = (begin_of c).before.before.before in
-    start.parts_of.result ≡ part_count (words_of c)
+    start.parts_of-count.result ≡ part_count (words_of c)
 counted c =
     let start = (begin_of c).before.before.before in
-    start.parts_of.ensures
+    start.parts_of-count.ensures
 
 -- the buffer has room for the whole table
-room : (c : tie.At-loop invariant-loop decreases-loop) → length (table_bytes (lent_table (words_of c))) ≤ length c.loop.out
-room c = omega (arith, (start_of (begin_of c)).pre.1.1.1, c.loop.invariant.1, (begin_of c).put_begin.auto.0)
+room : (c : tie.At-loop-i invariant-loop-i decreases-loop-i) → length (table_bytes (lent_table (words_of c))) ≤ length c.loop-i.out
+room c = omega (arith, (start_of (begin_of c)).requires.1.1.1, c.loop-i.invariant.1, (begin_of c).put_begin-at.auto.out)
 
 -- one part more, as it was read and put, and its wires
 part_swept : (ts : List ℕ) {i wires p q r s m n : ℕ} {k : Component} {a b c d : List ℕ} → i < part_count ts →
@@ -92,45 +92,45 @@ table_put ts {m = m} {l = l} {a = a} all magnitude begins first sweep end =
     let swept = swept_wires (rw all at sweep) end in
     swept_all begin swept (omega (arith, swept.ends, begins))
 
-parts-of-requires : tie.Need-parts-of-requires invariant-loop decreases-loop
-parts-of-requires c κs = omega arith
+parts_of-count-requires : tie.Need-parts_of-count-requires invariant-loop-i decreases-loop-i
+parts_of-count-requires c κs = omega arith
 
-magnitude-of-requires : tie.Need-magnitude-of-requires invariant-loop decreases-loop
-magnitude-of-requires c κs = omega arith
+magnitude_of-requires : tie.Need-magnitude_of-requires invariant-loop-i decreases-loop-i
+magnitude_of-requires c κs = omega arith
 
-put-begin-requires : tie.Need-put-begin-requires invariant-loop decreases-loop
-put-begin-requires c κs =
+put_begin-at-requires : tie.Need-put_begin-at-requires invariant-loop-i decreases-loop-i
+put_begin-at-requires c κs =
     let start = c.before.before.before.before.before in
     omega (arith, table_length (lent_table start.args.table.now))
 
-loop-holds : tie.Need-loop-init invariant-loop decreases-loop
+loop-i-init : tie.Need-loop-i-init invariant-loop-i decreases-loop-i
 unfolding parts_bytes wires_bytes tabulate
-loop-holds c =
+loop-i-init c =
     let begin = c.before.before in
     let start = start_of begin in
     let t = lent_table start.args.table.now in
-    let two : begin.put_begin.result ≡ 2 = begin.put_begin.ensures.position in
+    let two : begin.put_begin-at.result ≡ 2 = begin.put_begin-at.ensures.position in
     (omega arith, refl, rw two (swept_none 2 start.args.wires _ (omega arith) (omega (arith, table_length t))))
 
-component-at-requires : tie.Need-component-at-requires invariant-loop decreases-loop
-component-at-requires c κs = omega arith
+component_at-c-requires : tie.Need-component_at-c-requires invariant-loop-i decreases-loop-i
+component_at-c-requires c κs = omega arith
 
-put-component-requires : tie.Need-put-component-requires invariant-loop decreases-loop
-put-component-requires c κs =
+put_component-at-requires : tie.Need-put_component-at-requires invariant-loop-i decreases-loop-i
+put_component-at-requires c κs =
     let read = c.before in
     let loop = read.before.before in
     let begin = begin_of loop in
     let fit = here loop (omega arith) in
-    let is = read.component_at.ensures in
+    let is = read.component_at-c.ensures in
     let spans = ap (λ (k : Component). k.span_count) is in (
       omega (arith, spans, fit.spans),
       (
         omega (
           arith,
           spans,
-          parts_counted (words_of loop) loop.loop.i fit,
-          parts_within (words_of loop) loop.loop.i (omega arith),
-          loop.loop.invariant.2.ends,
+          parts_counted (words_of loop) loop.loop-i.i fit,
+          parts_within (words_of loop) loop.loop-i.i (omega arith),
+          loop.loop-i.invariant.2.ends,
           table_length (lent_table (words_of loop)),
           room loop,
         ),
@@ -138,25 +138,25 @@ put-component-requires c κs =
       ),
     )
 
-put-wires-requires : tie.Need-put-wires-requires invariant-loop decreases-loop
+put_wires-next-requires : tie.Need-put_wires-next-requires invariant-loop-i decreases-loop-i
 unfolding lent_component trimmed_component wires_text
-put-wires-requires c κs =
+put_wires-next-requires c κs =
     let at_put_component = c.before.before.before in
     let read = c.before.before.before.before.before in
     let loop = read.before.before in
-    let i = loop.loop.i in
+    let i = loop.loop-i.i in
     let fit = here loop (omega arith) in
-    let is = read.component_at.ensures in
-    let few = some_parts (words_of loop) (start_of (begin_of loop)).pre.1.0 in
-    let text : length (wires_text i read.component_at.result) ≡
+    let is = read.component_at-c.ensures in
+    let few = some_parts (words_of loop) (start_of (begin_of loop)).requires.1.0 in
+    let text : length (wires_text i read.component_at-c.result) ≡
     length (wires_text i (lent_component (words_of loop) i)) = rw is refl in
     let more = ap length (wires_bytes_more (lent_component (words_of loop)) i) in
     let both = length-append (wires_bytes 0 (tabulate (lent_component (words_of loop)) i))
     (wires_text i (lent_component (words_of loop) i)) in
     let most = wires_within (words_of loop) i (omega arith) in
-    let next = loop.loop.invariant.2.next in
-    let begins = (start_of (begin_of loop)).pre.1.1.0 in
-    let kept = at_put_component.put_component.auto.0 in (
+    let next = loop.loop-i.invariant.2.next in
+    let begins = (start_of (begin_of loop)).requires.1.1.0 in
+    let kept = at_put_component.put_component-at.auto.out in (
       omega (arith, few.1),
       (
         rw is fit.port0,
@@ -178,71 +178,71 @@ put-wires-requires c κs =
       ),
     )
 
-add-i : tie.Need-overflow-add-i invariant-loop decreases-loop
-add-i c = omega arith
+overflow_add-i : tie.Need-overflow_add-i invariant-loop-i decreases-loop-i
+overflow_add-i c = omega arith
 
-loop-less : tie.Need-loop-smaller invariant-loop decreases-loop
-loop-less c = omega arith
+loop-i-smaller : tie.Need-loop-i-smaller invariant-loop-i decreases-loop-i
+loop-i-smaller c = omega arith
 
-loop-again : tie.Need-loop-preserved invariant-loop decreases-loop
-loop-again c =
+loop-i-preserved : tie.Need-loop-i-preserved invariant-loop-i decreases-loop-i
+loop-i-preserved c =
     let wires = c.before.before in
     let part = wires.before.before.before.before in
     let read = part.before.before in
     let loop = read.before.before in
-    let begins = (start_of (begin_of loop)).pre.1.1.0 in (
+    let begins = (start_of (begin_of loop)).requires.1.1.0 in (
       omega arith,
-      omega (arith, loop.loop.invariant.1, part.put_component.auto.0, wires.put_wires.auto.0),
-      part_swept (words_of loop) (omega (arith, counted loop, read.before.loop-test.true))
-          read.component_at.ensures begins loop.loop.invariant.2 part.put_component.ensures
-          wires.put_wires.ensures,
+      omega (arith, loop.loop-i.invariant.1, part.put_component-at.auto.out, wires.put_wires-next.auto.out),
+      part_swept (words_of loop) (omega (arith, counted loop, read.before.loop-i-test.true))
+          read.component_at-c.ensures begins loop.loop-i.invariant.2 part.put_component-at.ensures
+          wires.put_wires-next.ensures,
     )
 
-put-byte-requires : tie.Need-put-byte-requires invariant-loop decreases-loop
+put_byte-requires : tie.Need-put_byte-requires invariant-loop-i decreases-loop-i
 unfolding lent_table
-put-byte-requires c κs =
+put_byte-requires c κs =
     let loop = c.before.before in
-    let all : loop.loop.i ≡ part_count (words_of loop) = omega (arith, counted loop) in
+    let all : loop.loop-i.i ≡ part_count (words_of loop) = omega (arith, counted loop) in
     let wires = ap (λ (i : ℕ). length (wires_bytes 0 (tabulate (lent_component (words_of loop)) i))) all in
     omega (
       arith,
       wires,
-      loop.loop.invariant.2.next,
-      (start_of (begin_of loop)).pre.1.1.0,
+      loop.loop-i.invariant.2.next,
+      (start_of (begin_of loop)).requires.1.1.0,
       room loop,
       table_length (lent_table (words_of loop)),
     )
 
-same_length : tie.Need-same-length invariant-loop decreases-loop
-same_length c =
+shape_of-out : tie.Need-shape_of-out invariant-loop-i decreases-loop-i
+shape_of-out c =
     let loop = c.before.before.before.before.before in
-    omega (arith, loop.loop.invariant.1, (begin_of loop).put_begin.auto.0, c.before.before.put_byte.auto.0)
+    omega (arith, loop.loop-i.invariant.1, (begin_of loop).put_begin-at.auto.out, c.before.before.put_byte.auto.line)
 
-returns : tie.Need-returns invariant-loop decreases-loop
+returns : tie.Need-returns invariant-loop-i decreases-loop-i
 returns c =
     let end = c.before.before in
     let loop = end.before.before.before in
     let begin = begin_of loop in
     table_put (words_of loop) (omega (arith, counted loop)) begin.before.magnitude_of.ensures
-    (start_of begin).pre.1.1.0 begin.put_begin.ensures
-    loop.loop.invariant.2 end.put_byte.ensures
+    (start_of begin).requires.1.1.0 begin.put_begin-at.ensures
+    loop.loop-i.invariant.2 end.put_byte.ensures
 
 pub put_table_spec : {M : Type 1} → statement M
 put_table_spec =
     tie.close
     (tie.spec
-    invariant-loop
-    decreases-loop
-    parts-of-requires
-    magnitude-of-requires
-    put-begin-requires
-    loop-holds
-    component-at-requires
-    put-component-requires
-    put-wires-requires
-    add-i
-    loop-less
-    loop-again
-    put-byte-requires
-    same_length
+    invariant-loop-i
+    decreases-loop-i
+    parts_of-count-requires
+    magnitude_of-requires
+    put_begin-at-requires
+    loop-i-init
+    component_at-c-requires
+    put_component-at-requires
+    put_wires-next-requires
+    overflow_add-i
+    loop-i-smaller
+    loop-i-preserved
+    put_byte-requires
+    shape_of-out
     returns)

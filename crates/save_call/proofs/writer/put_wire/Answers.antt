@@ -1,0 +1,8 @@
+-- `put_wire` puts four bytes, one after the other.
+use Rattle.write_bytes.specs.Pieces.{put_then}
+use Rattle.save_call.proofs.writer.put_wire.Goals as goal
+
+pub returns : goal.returns
+returns c =
+    put_then (put_then (put_then c.put_byte-next.ensures c.put_byte-next-2.ensures) c.put_byte-next-3.ensures)
+    c.put_byte.ensures
