@@ -43,6 +43,7 @@ fn wide(b: u8) -> u32
 }
 
 // The four bytes at a cursor, the lowest first.
+#[tactic(auto, using(crate::specs::Operands::cut_read))]
 pub fn u32_at(s: &[u8], c: Cursor) -> WordRead
     ensures { WordMeant s.now c.at result }
 {
