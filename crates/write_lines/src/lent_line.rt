@@ -28,7 +28,7 @@ const MOST_OUTPUT: usize = 21;
 // How many bytes the outputs of all parts take.
 fn outputs_length(table: &[u64], state: &[u64]) -> usize
     requires words_there { WordsThere table.now state.now }
-    requires table_bound { part_count table.now ≤ most_parts }
+    requires few_parts { part_count table.now ≤ most_parts }
     ensures { result ≡ length (outputs_text (model_in table.now state.now).parts) }
 {
     let count = parts_of(table);
@@ -44,7 +44,7 @@ fn outputs_length(table: &[u64], state: &[u64]) -> usize
 // The outputs of all parts, one after the other, into a line that has room for them.
 fn put_outputs(line: &mut [u8], at: usize, table: &[u64], state: &[u64]) -> usize
     requires words_there { WordsThere table.now state.now }
-    requires state_in_bounds { at + length (outputs_text (model_in table.now state.now).parts) ≤ length line.old }
+    requires has_room { at + length (outputs_text (model_in table.now state.now).parts) ≤ length line.old }
     ensures { Put (21 * part_count table.now)
         (outputs_text (model_in table.now state.now).parts) at line.old
         line.new result }
@@ -73,8 +73,8 @@ pub fn write_spelled(
     buf: &mut [u8],
 ) -> Written
     requires words_there { WordsThere table.now state.now }
-    requires table_bound { part_count table.now ≤ most_parts }
-    ensures by_index { (ceiling : ℕ) →
+    requires few_parts { part_count table.now ≤ most_parts }
+    ensures written_as { (ceiling : ℕ) →
         WrittenAs 0 (answer_line (lent_answer table.now
         state.now number step rounds revisions ceiling)) buf.old buf.new result }
     ensures length_bound { result.length ≤ 1024 }

@@ -13,15 +13,15 @@ use Rattle.write_lines.proofs.Outputs.{all_parts, outputs_few, outputs_longer}
 use Rattle.write_lines.proofs.lent_line.outputs_length.Statement.{statement}
 use Rattle.write_lines.proofs.lent_line.outputs_length.Tie as tie
 
-abbrev invariant-loop : tie.invariant-loop
-invariant-loop table state count length₀ i₀ sum i = (i ≤ count) ×
+abbrev invariant-loop-i : tie.invariant-loop-i
+invariant-loop-i table state count length₀ i₀ sum i = (i ≤ count) ×
     (sum ≡ length (outputs_text (take i (model_in table state).parts)))
 
-abbrev decreases-loop : tie.decreases-loop
-decreases-loop table state count length₀ i₀ sum i = count - i
+abbrev decreases-loop-i : tie.decreases-loop-i
+decreases-loop-i table state count length₀ i₀ sum i = count - i
 
 -- from the loop back to the start
-abbrev start_of : tie.At-loop invariant-loop decreases-loop → tie.Start invariant-loop decreases-loop
+abbrev start_of : tie.At-loop-i invariant-loop-i decreases-loop-i → tie.Start invariant-loop-i decreases-loop-i
 start_of turn = turn.before.before.before.before
 
 -- what one output more adds to the length of those of the first i parts
@@ -33,66 +33,66 @@ one_more ts ss {i = i} low same so_far more =
     omega (arith, outputs_longer ts ss i low, here)
 
 -- so it is with the sum
-longer : (c : tie.After-output-length invariant-loop decreases-loop) →
+longer : (c : tie.After-output_length-length invariant-loop-i decreases-loop-i) →
     let turn = c.before.before.before in
     let args = (start_of turn).args in
-    turn.loop.length + c.output_length.result ≡
-    length (outputs_text (take (turn.loop.i + 1) (model_in args.table.now args.state.now).parts))
+    turn.loop-i.length + c.output_length-length.result ≡
+    length (outputs_text (take (turn.loop-i.i + 1) (model_in args.table.now args.state.now).parts))
 longer c =
     let read = c.before in
     let turn = read.before.before in
     let args = (start_of turn).args in
-    let low : turn.loop.i < part_count args.table.now = omega arith in
-    one_more args.table.now args.state.now low read.output_at.ensures turn.loop.invariant.1
-    c.output_length.ensures
+    let low : turn.loop-i.i < part_count args.table.now = omega arith in
+    one_more args.table.now args.state.now low read.output_at.ensures turn.loop-i.invariant.1
+    c.output_length-length.ensures
 
-parts-of-requires : tie.Need-parts-of-requires invariant-loop decreases-loop
-parts-of-requires c κs = omega arith
+parts_of-count-requires : tie.Need-parts_of-count-requires invariant-loop-i decreases-loop-i
+parts_of-count-requires c κs = omega arith
 
-loop-holds : tie.Need-loop-init invariant-loop decreases-loop
+loop-i-init : tie.Need-loop-i-init invariant-loop-i decreases-loop-i
 unfolding outputs_text
-loop-holds c = (omega arith, refl)
+loop-i-init c = (omega arith, refl)
 
-output-at-requires : tie.Need-output-at-requires invariant-loop decreases-loop
-output-at-requires c κs = omega arith
+output_at-requires : tie.Need-output_at-requires invariant-loop-i decreases-loop-i
+output_at-requires c κs = omega arith
 
-output-length-requires : tie.Need-output-length-requires invariant-loop decreases-loop
-output-length-requires c κs = tt
+output_length-length-requires : tie.Need-output_length-length-requires invariant-loop-i decreases-loop-i
+output_length-length-requires c κs = tt
 
-add-length : tie.Need-overflow-add-length invariant-loop decreases-loop
-add-length c =
+overflow_add-length : tie.Need-overflow_add-length invariant-loop-i decreases-loop-i
+overflow_add-length c =
     let turn = c.before.before.before in
     let args = (start_of turn).args in
-    omega (arith, longer c, outputs_few args.table.now args.state.now (turn.loop.i + 1) (omega arith))
+    omega (arith, longer c, outputs_few args.table.now args.state.now (turn.loop-i.i + 1) (omega arith))
 
-add-i : tie.Need-overflow-add-i invariant-loop decreases-loop
-add-i c = omega arith
+overflow_add-i : tie.Need-overflow_add-i invariant-loop-i decreases-loop-i
+overflow_add-i c = omega arith
 
-loop-less : tie.Need-loop-smaller invariant-loop decreases-loop
-loop-less c = omega arith
+loop-i-smaller : tie.Need-loop-i-smaller invariant-loop-i decreases-loop-i
+loop-i-smaller c = omega arith
 
-loop-again : tie.Need-loop-preserved invariant-loop decreases-loop
-loop-again c = (omega arith, longer c)
+loop-i-preserved : tie.Need-loop-i-preserved invariant-loop-i decreases-loop-i
+loop-i-preserved c = (omega arith, longer c)
 
-returns : tie.Need-returns invariant-loop decreases-loop
+returns : tie.Need-returns invariant-loop-i decreases-loop-i
 returns c =
     let left = c.before in
     let args = (start_of left).args in
-    let all : left.loop.i ≡ part_count args.table.now = omega arith in
-    rw (all, all_parts args.table.now args.state.now) at left.loop.invariant.1
+    let all : left.loop-i.i ≡ part_count args.table.now = omega arith in
+    rw (all, all_parts args.table.now args.state.now) at left.loop-i.invariant.1
 
 pub outputs_length_spec : {M : Type 1} → statement M
 outputs_length_spec =
     tie.close
     (tie.spec
-    invariant-loop
-    decreases-loop
-    parts-of-requires
-    loop-holds
-    output-at-requires
-    output-length-requires
-    add-length
-    add-i
-    loop-less
-    loop-again
+    invariant-loop-i
+    decreases-loop-i
+    parts_of-count-requires
+    loop-i-init
+    output_at-requires
+    output_length-length-requires
+    overflow_add-length
+    overflow_add-i
+    loop-i-smaller
+    loop-i-preserved
     returns)

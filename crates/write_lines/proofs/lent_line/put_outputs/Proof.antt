@@ -19,16 +19,16 @@ use Rattle.write_lines.proofs.Outputs.{outputs_within}
 use Rattle.write_lines.proofs.lent_line.put_outputs.Statement.{statement}
 use Rattle.write_lines.proofs.lent_line.put_outputs.Tie as tie
 
-abbrev invariant-loop : tie.invariant-loop
-invariant-loop line₀ at table state count next₀ i₀ line next i =
+abbrev invariant-loop-i : tie.invariant-loop-i
+invariant-loop-i line₀ at table state count next₀ i₀ line next i =
     (i ≤ count) × (length line ≡ length line₀) ×
     Put (21 * i) (outputs_text (take i (model_in table state).parts)) at line₀ line next
 
-abbrev decreases-loop : tie.decreases-loop
-decreases-loop line₀ at table state count next₀ i₀ line next i = count - i
+abbrev decreases-loop-i : tie.decreases-loop-i
+decreases-loop-i line₀ at table state count next₀ i₀ line next i = count - i
 
 -- from the loop back to the start
-abbrev start_of : tie.At-loop invariant-loop decreases-loop → tie.Start invariant-loop decreases-loop
+abbrev start_of : tie.At-loop-i invariant-loop-i decreases-loop-i → tie.Start invariant-loop-i decreases-loop-i
 start_of turn = turn.before.before.before.before.before
 
 -- one output more after those of the first i parts
@@ -50,69 +50,69 @@ enough ts ss {i = i} low same =
     let here = ap (λ (x : Signal). length (blank ∷ signal_text x)) same in
     omega (arith, outputs_longer ts ss i low, outputs_within (model_in ts ss).parts (i + 1), here)
 
-parts-of-requires : tie.Need-parts-of-requires invariant-loop decreases-loop
-parts-of-requires c κs = omega arith
+parts_of-count-requires : tie.Need-parts_of-count-requires invariant-loop-i decreases-loop-i
+parts_of-count-requires c κs = omega arith
 
-loop-holds : tie.Need-loop-init invariant-loop decreases-loop
+loop-i-init : tie.Need-loop-i-init invariant-loop-i decreases-loop-i
 unfolding outputs_text
-loop-holds c = (omega arith, omega arith, put_nothing _ _)
+loop-i-init c = (omega arith, omega arith, put_nothing _ _)
 
-output-at-requires : tie.Need-output-at-requires invariant-loop decreases-loop
-output-at-requires c κs = omega arith
+output_at-output-requires : tie.Need-output_at-output-requires invariant-loop-i decreases-loop-i
+output_at-output-requires c κs = omega arith
 
-put-output-requires : tie.Need-put-output-requires invariant-loop decreases-loop
-put-output-requires c κs =
+put_output-next-requires : tie.Need-put_output-next-requires invariant-loop-i decreases-loop-i
+put_output-next-requires c κs =
     let read = c.before in
     let turn = read.before.before in
     let args = (start_of turn).args in
-    let low : turn.loop.i < part_count args.table.now = omega arith in
+    let low : turn.loop-i.i < part_count args.table.now = omega arith in
     omega (
       arith,
-      enough args.table.now args.state.now low read.output_at.ensures,
-      turn.loop.invariant.2.position,
+      enough args.table.now args.state.now low read.output_at-output.ensures,
+      turn.loop-i.invariant.2.position,
     )
 
-add-i : tie.Need-overflow-add-i invariant-loop decreases-loop
-add-i c = omega arith
+overflow_add-i : tie.Need-overflow_add-i invariant-loop-i decreases-loop-i
+overflow_add-i c = omega arith
 
-loop-less : tie.Need-loop-smaller invariant-loop decreases-loop
-loop-less c = omega arith
+loop-i-smaller : tie.Need-loop-i-smaller invariant-loop-i decreases-loop-i
+loop-i-smaller c = omega arith
 
-loop-again : tie.Need-loop-preserved invariant-loop decreases-loop
-loop-again c =
+loop-i-preserved : tie.Need-loop-i-preserved invariant-loop-i decreases-loop-i
+loop-i-preserved c =
     let put = c.before.before in
     let read = put.before.before in
     let turn = read.before.before in
     let args = (start_of turn).args in
-    let low : turn.loop.i < part_count args.table.now = omega arith in (
+    let low : turn.loop-i.i < part_count args.table.now = omega arith in (
       omega arith,
       omega arith,
-      one_more args.table.now args.state.now low read.output_at.ensures
-          turn.loop.invariant.2 put.put_output.ensures,
+      one_more args.table.now args.state.now low read.output_at-output.ensures
+          turn.loop-i.invariant.2 put.put_output-next.ensures,
     )
 
-same_length : tie.Need-same-length invariant-loop decreases-loop
-same_length c = search rules
+shape_of-line : tie.Need-shape_of-line invariant-loop-i decreases-loop-i
+shape_of-line c = search rules
 
-returns : tie.Need-returns invariant-loop decreases-loop
+returns : tie.Need-returns invariant-loop-i decreases-loop-i
 returns c =
     let left = c.before in
     let args = (start_of left).args in
-    let all : left.loop.i ≡ part_count args.table.now = omega arith in
-    rw (all, all_parts args.table.now args.state.now) at left.loop.invariant.2
+    let all : left.loop-i.i ≡ part_count args.table.now = omega arith in
+    rw (all, all_parts args.table.now args.state.now) at left.loop-i.invariant.2
 
 pub put_outputs_spec : {M : Type 1} → statement M
 put_outputs_spec =
     tie.close
     (tie.spec
-    invariant-loop
-    decreases-loop
-    parts-of-requires
-    loop-holds
-    output-at-requires
-    put-output-requires
-    add-i
-    loop-less
-    loop-again
-    same_length
+    invariant-loop-i
+    decreases-loop-i
+    parts_of-count-requires
+    loop-i-init
+    output_at-output-requires
+    put_output-next-requires
+    overflow_add-i
+    loop-i-smaller
+    loop-i-preserved
+    shape_of-line
     returns)

@@ -1,12 +1,11 @@
 -- `write_lent` makes the definition's test, and then has the line of words that are there, of at most 32 parts, since
 -- they spell a model.
-use Prim.Native.Nat.{ℕ, ◌≤◌}
+use Prim.Native.Nat.{ℕ}
 use native.Mathlib.Omega.{arith}
 use mathlib.Core.Path.{◌≡◌, sym, ◌∙◌}
 use mathlib.Core.Bool.{true}
 use mathlib.Core.List.{List}
 use borrow.Author.Rules.{rules}
-use borrow.Author.Tests.{not-true, not-false}
 use Rattle.machine.specs.declared.model.Written.{Written}
 use Rattle.machine.specs.Rehearse.{answer_line}
 use Rattle.machine.specs.Writing.{WrittenAs}
@@ -32,32 +31,32 @@ accepted :
 accepted ts ss number step rounds revisions before after w is written ceiling = rw is (written ceiling)
 
 -- what the test showed where it holds
-spells : (c : tie.Else1) →
+spells : (c : tie.Else-not-spelled) →
     let args = c.before.before.before.before.before.args in
     spelled args.table.now args.state.now ≡ true
-spells c = sym c.before.spelled.ensures ∙ not-false c.before.spelled.result c.if1.false
+spells c = sym c.before.spelled.ensures ∙ c.if-not-spelled.false
 
 spelled-requires : tie.Need-spelled-requires
 spelled-requires c κs = search rules
 
-returns : tie.Need-returns
-returns c =
+returns-then-not-spelled : tie.Need-returns-then-not-spelled
+returns-then-not-spelled c =
     let asked = c.before.spelled in
-    let none = sym asked.ensures ∙ not-true asked.result c.if1.true in
+    let none = sym asked.ensures ∙ c.if-not-spelled.true in
     (refused _ _ _ _ _ _ _ (unspelled_line _ _ none), omega arith)
 
-write-spelled-requires : tie.Need-write-spelled-requires
-write-spelled-requires c κs =
+write_spelled-requires : tie.Need-write_spelled-requires
+write_spelled-requires c κs =
     let test = c.before in
     let args = test.before.before.before.before.before.args in
     let here = spells test in
     (spelled_room args.table.now args.state.now here, spelled_few args.table.now args.state.now here)
 
-same_length : tie.Need-same-length
-same_length c = search rules
+shape_of-buf : tie.Need-shape_of-buf
+shape_of-buf c = search rules
 
-returns-2 : tie.Need-returns-2
-returns-2 c =
+returns : tie.Need-returns
+returns c =
     let written = c.before.before in
     let test = written.before.before in
     let args = test.before.before.before.before.before.args in
@@ -68,4 +67,10 @@ returns-2 c =
 
 pub write_lent_spec : {M : Type 1} → statement M
 write_lent_spec =
-    tie.close (tie.spec spelled-requires returns write-spelled-requires same_length returns-2)
+    tie.close
+    (tie.spec
+    spelled-requires
+    returns-then-not-spelled
+    write_spelled-requires
+    shape_of-buf
+    returns)

@@ -17,43 +17,43 @@ most start =
     let fits = start.ranges in
     numbers_most fits.t fits.n fits.step fits.rounds fits.revisions
 
-digits-of-requires : tie.Need-digits-of-requires
-digits-of-requires c κs = search rules
+digits_of-requires : tie.Need-digits_of-requires
+digits_of-requires c κs = search rules
 
-digits-of-requires-2 : tie.Need-digits-of-requires-2
-digits-of-requires-2 c κs = search rules
+digits_of-requires-2 : tie.Need-digits_of-requires-2
+digits_of-requires-2 c κs = search rules
 
-add-result : tie.Need-overflow-add-result
-add-result c =
+overflow_add-result : tie.Need-overflow_add-result
+overflow_add-result c =
     let sum = simp numbers_size at (most c.before.before) in
     omega arith
 
-digits-of-requires-3 : tie.Need-digits-of-requires-3
-digits-of-requires-3 c κs = search rules
+digits_of-requires-3 : tie.Need-digits_of-requires-3
+digits_of-requires-3 c κs = search rules
 
-add-result-2 : tie.Need-overflow-add-result-2
-add-result-2 c =
+overflow_add-result-2 : tie.Need-overflow_add-result-2
+overflow_add-result-2 c =
     let sum = simp numbers_size at (most c.before.before.before) in
     omega arith
 
-digits-of-requires-4 : tie.Need-digits-of-requires-4
-digits-of-requires-4 c κs = search rules
+digits_of-requires-4 : tie.Need-digits_of-requires-4
+digits_of-requires-4 c κs = search rules
 
-add-result-3 : tie.Need-overflow-add-result-3
-add-result-3 c =
+overflow_add-result-3 : tie.Need-overflow_add-result-3
+overflow_add-result-3 c =
     let sum = simp numbers_size at (most c.before.before.before.before) in
     omega arith
 
-digits-of-requires-5 : tie.Need-digits-of-requires-5
-digits-of-requires-5 c κs = search rules
+digits_of-requires-5 : tie.Need-digits_of-requires-5
+digits_of-requires-5 c κs = search rules
 
-add-result-4 : tie.Need-overflow-add-result-4
-add-result-4 c =
+overflow_add-result-4 : tie.Need-overflow_add-result-4
+overflow_add-result-4 c =
     let sum = simp numbers_size at (most c.before.before.before.before.before) in
     omega arith
 
-add-result-5 : tie.Need-overflow-add-result-5
-add-result-5 c =
+overflow_add-result-5 : tie.Need-overflow_add-result-5
+overflow_add-result-5 c =
     let sum = simp numbers_size at (most c.before.before.before.before.before) in
     omega arith
 
@@ -64,14 +64,14 @@ pub numbers_length_spec : {M : Type 1} → statement M
 numbers_length_spec =
     tie.close
     (tie.spec
-    digits-of-requires
-    digits-of-requires-2
-    add-result
-    digits-of-requires-3
-    add-result-2
-    digits-of-requires-4
-    add-result-3
-    digits-of-requires-5
-    add-result-4
-    add-result-5
+    digits_of-requires
+    digits_of-requires-2
+    overflow_add-result
+    digits_of-requires-3
+    overflow_add-result-2
+    digits_of-requires-4
+    overflow_add-result-3
+    digits_of-requires-5
+    overflow_add-result-4
+    overflow_add-result-5
     returns)

@@ -11,7 +11,7 @@ use Rattle.write_lines.proofs.line.write_refused.Statement.{statement}
 use Rattle.write_lines.proofs.line.write_refused.Tie as tie
 
 -- the start, from the length that was worked out of what the line begins with
-abbrev start_of : tie.After-refusal-length → tie.Start
+abbrev start_of : tie.After-refusal_length-length → tie.Start
 start_of measured = measured.before.before
 
 -- no line is longer
@@ -22,29 +22,29 @@ few start = omega (
   word_digits start.args.number (omega (arith, start.ranges.number)),
 )
 
-refusal-length-requires : tie.Need-refusal-length-requires
-refusal-length-requires c κs = search rules
+refusal_length-length-requires : tie.Need-refusal_length-length-requires
+refusal_length-length-requires c κs = search rules
 
-add-length : tie.Need-overflow-add-length
-add-length c =
+overflow_add-length : tie.Need-overflow_add-length
+overflow_add-length c =
     let most = simp refused_size at (few (start_of c)) in
     omega arith
 
-returns : tie.Need-returns
-returns c =
+returns-then-buf-length : tie.Need-returns-then-buf-length
+returns-then-buf-length c =
     let start = start_of c.before in
     let line = refused_line start.args.number in
     no_room 64 line start.args.buf.now _ (simp refused_size (omega arith)) (omega (arith, few start))
-    (omega (arith, c.if1.true))
+    (omega (arith, c.if-buf-length.true))
 
-put-refused-line-requires : tie.Need-put-refused-line-requires
-put-refused-line-requires c κs = simp refused_size (omega arith)
+put_refused_line-requires : tie.Need-put_refused_line-requires
+put_refused_line-requires c κs = simp refused_size (omega arith)
 
-same_length : tie.Need-same-length
-same_length c = search rules
+shape_of-buf : tie.Need-shape_of-buf
+shape_of-buf c = search rules
 
-returns-2 : tie.Need-returns-2
-returns-2 c =
+returns : tie.Need-returns
+returns c =
     let put = c.before.before in
     let start = start_of put.before.before.before in
     room 64 put.put_refused_line.ensures (omega (arith, few start)) (simp refused_size (omega arith))
@@ -53,9 +53,9 @@ pub write_refused_spec : {M : Type 1} → statement M
 write_refused_spec =
     tie.close
     (tie.spec
-    refusal-length-requires
-    add-length
-    returns
-    put-refused-line-requires
-    same_length
-    returns-2)
+    refusal_length-length-requires
+    overflow_add-length
+    returns-then-buf-length
+    put_refused_line-requires
+    shape_of-buf
+    returns)

@@ -11,7 +11,7 @@ use Rattle.write_lines.proofs.line.write_refused_at.Statement.{statement}
 use Rattle.write_lines.proofs.line.write_refused_at.Tie as tie
 
 -- the start, from the digits that were counted of the position
-abbrev start_of : tie.After-digits-of → tie.Start
+abbrev start_of : tie.After-digits_of → tie.Start
 start_of counted = counted.before.before.before
 
 -- no line is longer
@@ -26,42 +26,42 @@ few start =
       word_digits position (omega (arith, start.ranges.position)),
     )
 
-refusal-length-requires : tie.Need-refusal-length-requires
-refusal-length-requires c κs = search rules
+refusal_length-requires : tie.Need-refusal_length-requires
+refusal_length-requires c κs = search rules
 
-add-length : tie.Need-overflow-add-length
-add-length c =
+overflow_add-length : tie.Need-overflow_add-length
+overflow_add-length c =
     let most = simp refused_at_size at (few c.before.before) in
     omega arith
 
-digits-of-requires : tie.Need-digits-of-requires
-digits-of-requires c κs = search rules
+digits_of-requires : tie.Need-digits_of-requires
+digits_of-requires c κs = search rules
 
-add-length-2 : tie.Need-overflow-add-length-2
-add-length-2 c =
+overflow_add-length-2 : tie.Need-overflow_add-length-2
+overflow_add-length-2 c =
     let most = simp refused_at_size at (few (start_of c)) in
     omega arith
 
-add-length-3 : tie.Need-overflow-add-length-3
-add-length-3 c =
+overflow_add-length-3 : tie.Need-overflow_add-length-3
+overflow_add-length-3 c =
     let most = simp refused_at_size at (few (start_of c)) in
     omega arith
 
-returns : tie.Need-returns
-returns c =
+returns-then-buf-length : tie.Need-returns-then-buf-length
+returns-then-buf-length c =
     let start = start_of c.before in
     let line = refused_at_line start.args.number start.args.position in
     no_room 64 line start.args.buf.now _ (simp refused_at_size (omega arith)) (omega (arith, few start))
-    (omega (arith, c.if1.true))
+    (omega (arith, c.if-buf-length.true))
 
-put-refused-at-line-requires : tie.Need-put-refused-at-line-requires
-put-refused-at-line-requires c κs = simp refused_at_size (omega arith)
+put_refused_at_line-requires : tie.Need-put_refused_at_line-requires
+put_refused_at_line-requires c κs = simp refused_at_size (omega arith)
 
-same_length : tie.Need-same-length
-same_length c = search rules
+shape_of-buf : tie.Need-shape_of-buf
+shape_of-buf c = search rules
 
-returns-2 : tie.Need-returns-2
-returns-2 c =
+returns : tie.Need-returns
+returns c =
     let put = c.before.before in
     let start = start_of put.before.before.before in
     room 64 put.put_refused_at_line.ensures (omega (arith, few start)) (simp refused_at_size (omega arith))
@@ -70,12 +70,12 @@ pub write_refused_at_spec : {M : Type 1} → statement M
 write_refused_at_spec =
     tie.close
     (tie.spec
-    refusal-length-requires
-    add-length
-    digits-of-requires
-    add-length-2
-    add-length-3
-    returns
-    put-refused-at-line-requires
-    same_length
-    returns-2)
+    refusal_length-requires
+    overflow_add-length
+    digits_of-requires
+    overflow_add-length-2
+    overflow_add-length-3
+    returns-then-buf-length
+    put_refused_at_line-requires
+    shape_of-buf
+    returns)
