@@ -20,9 +20,7 @@ use Rattle.words_store.specs.Updated.{SameBehind}
 use Rattle.step_parts.specs.StepInto.{StatesSpelled}
 use Rattle.words_store.specs.StoreFrame.{behind_none}
 use Rattle.words_store.specs.Respelled.{respelled}
-use Rattle.words_store.specs.Free.{SameButFree, same_count}
-use Rattle.words_store.specs.FreeMeant.{same_meant}
-use Rattle.words_store.specs.FreeSpelled.{same_spelled}
+use Rattle.words_store.specs.Free.{SameButFree, same_count, same_meant, same_spelled}
 use Rattle.advance_call.specs.Searching.{Searched}
 use Rattle.advance_call.specs.Barring.{barred_by, barred_trimmed}
 use Rattle.advance_call.specs.Into.{lent_model, SearchedInto, CalledInto, AdvancedInto, AdvancedSound}

@@ -13,5 +13,3 @@ pub mod Spelling
 pub mod Respelled
 pub mod CleanKept
 pub mod Free
-pub mod FreeMeant
-pub mod FreeSpelled
