@@ -22,7 +22,7 @@ use Rattle.order_laws.specs.Row.{components_length}
 use Rattle.step_part.specs.PartRanges as point
 use Rattle.words_store.specs.Layout.{in_state, signal_field, signal_value_field, output_field, output_value_field}
 use Rattle.words_store.specs.ModelIn.{WordsThere, table_words, state_words, part_count, ordered_part, stored_part}
-use Rattle.words_store.specs.ModelIn.{stored_point, stored_state, model_in}
+use Rattle.words_store.specs.ModelIn.{stored_point, model_in}
 use Rattle.words_store.specs.Updated.{SameBehind}
 use Rattle.words_store.specs.StoreFrame.{held_number, held_part}
 use Rattle.words_store.specs.Clean.{CleanOutput, CleanOrKept, SignalsKept, CleanAfter, clean_kept, kept_through}

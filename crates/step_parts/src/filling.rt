@@ -16,8 +16,8 @@ use words_store::update::put_output;
 // signals. `old` is at the point before, which delays read. Nothing is asked of the outputs that `new` holds: whatever
 // they are, the definition's are there afterwards.
 pub(crate) fn filled_into(table: &[u64], old: &[u64], new: &mut [u64])
-    requires words_there { WordsThere table.now old.now }
-    requires words_there_2 { WordsThere table.now new.old }
+    requires old_there { WordsThere table.now old.now }
+    requires new_there { WordsThere table.now new.old }
     requires fillable { Fillable (trimmed (model_in table.now old.now)) (trimmed (model_in table.now new.old)) }
     ensures { FilledInto table.now old.now new.old new.new }
 {

@@ -18,7 +18,7 @@ use words_store::update::put_point;
 // part is written over them. What is required rules out a step past the time.
 pub fn trial_into(table: &[u64], old: &[u64], h: Ticks, new: &mut [u64])
     requires steppable { Steppable table.now old.now new.old h.0 }
-    requires bound { h.0 ≡ 0 → (model_in table.now old.now).point.n < last_microstep }
+    requires microstep_left { h.0 ≡ 0 → (model_in table.now old.now).point.n < last_microstep }
     ensures { TrialInto table.now old.now h.0 new.old new.new }
 {
     let from = point_of(old);
