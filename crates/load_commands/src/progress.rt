@@ -140,6 +140,7 @@ pub(crate) fn with_wire(progress: Progress, receiver: usize, port: u8, source: u
 }
 
 // The refusal of a Wire after this progress.
+#[tactic(auto, using(crate::proofs::WireJudged::source_refused, crate::proofs::WireJudged::receiver_refused))]
 pub(crate) fn wire_refusal(progress: Progress, source: u8, receiver: u8, port: u8) -> u64
     requires { progress.count ≤ most_parts }
     ensures { (rows : List (List ℕ)) →

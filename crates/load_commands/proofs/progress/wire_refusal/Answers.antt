@@ -1,69 +1,17 @@
--- `wire_refusal` makes the definition's tests of the two parts in its order; what is left depends on the receiver's
--- ports alone.
-use Prim.Native.Nat.{ℕ, ◌<◌, ◌≤◌}
+-- `wire_refusal` makes the definition's tests of the two parts in its order, by the laws of `proofs/WireJudged.antt`;
+-- what is left depends on the receiver's ports alone.
+use Prim.Native.Nat.{◌<◌, ◌≤◌}
 use native.Mathlib.Omega.{arith}
-use mathlib.Core.Path.{◌≡◌, ◌∙◌, sym}
-use mathlib.Core.List.{List}
+use mathlib.Core.Path.{◌∙◌, sym}
 use lib.ListN.{length}
-use borrow.Author.Tests.{lt-ltb, le-ltb}
-use Rattle.machine.specs.declared.part.Component.{Component}
-use Rattle.machine.specs.Table.{component_at}
-use Rattle.machine.specs.Load.{source_of, wire_refusal}
-use Rattle.load_commands.specs.declared.progress.Progress.{Progress}
-use Rattle.load_commands.specs.Progress.{with_row, reading_of}
-use Rattle.load_operands.specs.Refusals.{port_number}
-use Rattle.load_commands.specs.SpanRows.{length_reading, reading_at}
+use Rattle.load_commands.proofs.WireJudged.{port_left}
 use Rattle.load_commands.proofs.progress.wire_refusal.Goals as goal
-
--- the source is no part that was read
-source_unknown : (cs : List Component) (n source receiver port : ℕ) → length cs ≡ n → n ≤ source →
-    wire_refusal cs source receiver port ≡ 7
-unfolding wire_refusal
-source_unknown cs n source receiver port many none = rw (many, le-ltb source n none)
-
--- the receiver is none
-receiver_unknown : (cs : List Component) (n source receiver port : ℕ) → length cs ≡ n → source < n → n ≤ receiver →
-    wire_refusal cs source receiver port ≡ 7
-unfolding wire_refusal
-receiver_unknown cs n source receiver port many there none = rw (many, lt-ltb source n there, le-ltb receiver n none)
-
--- both are: what is left is the receiver's ports
-both_known : (cs : List Component) (n source receiver port : ℕ) → length cs ≡ n → source < n → receiver < n →
-    let c = component_at cs receiver in
-    wire_refusal cs source receiver port ≡ port_number c.kind c.port0 c.port1 port
-unfolding wire_refusal source_of port_number
-both_known cs n source receiver port many there here = rw (many, lt-ltb source n there, lt-ltb receiver n here)
-
--- and these are the ports of the part in its place
-port_left : (progress : Progress) (source receiver port : ℕ) (rows : List (List ℕ)) →
-    progress.count ≤ length progress.parts →
-    source < progress.count → receiver < progress.count →
-    let c = component_at progress.parts receiver in
-    wire_refusal (reading_of progress rows).table.parts source receiver port ≡
-    port_number c.kind c.port0 c.port1 port
-unfolding with_row
-port_left progress source receiver port rows few there here =
-    both_known (reading_of progress rows).table.parts progress.count source receiver port
-    (length_reading progress rows few) there here ∙
-    rw (reading_at progress rows receiver here few)
-
-pub returns-then-source-count : goal.returns-then-source-count
-returns-then-source-count c =
-    let progress = c.args.progress in
-    let few : progress.count ≤ length progress.parts = omega arith in
-    λ rows. sym (source_unknown _ progress.count _ _ _ (length_reading progress rows few) c.if-source-count.true)
-
-pub returns-then-place-count : goal.returns-then-place-count
-returns-then-place-count c =
-    let progress = c.args.progress in
-    let few : progress.count ≤ length progress.parts = omega arith in
-    λ rows. sym (receiver_unknown _ progress.count _ _ _ (length_reading progress rows few) c.if-source-count.false
-    c.if-place-count.true)
 
 pub returns : goal.returns
 returns c =
     let progress = c.args.progress in
     let few : progress.count ≤ length progress.parts = omega arith in
+    let here : c.args.receiver < progress.count = omega arith in
     λ rows.
     c.port_refusal.ensures ∙
-    sym (port_left progress _ _ _ rows few c.if-source-count.false c.if-place-count.false)
+    sym (port_left progress _ _ _ rows few c.if-source-count.false here)
