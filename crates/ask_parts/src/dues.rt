@@ -14,7 +14,7 @@ use words_store::lookup::{part_at, parts_of, point_of};
 // Whether some part is due.
 pub fn any_due_in(table: &[u64], state: &[u64]) -> bool
     requires words_there { WordsThere table.now state.now }
-    requires state_value { sound (trimmed (model_in table.now state.now)) ≡ true }
+    requires state_sound { sound (trimmed (model_in table.now state.now)) ≡ true }
     ensures { result ≡ any_due (trimmed (model_in table.now state.now)) }
 {
     let count = parts_of(table);

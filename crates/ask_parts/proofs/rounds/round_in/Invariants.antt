@@ -1,0 +1,13 @@
+use Rattle.std.specs.Prelude.{◌-◌, ◌≤◌, ◌≡◌, drop}
+use Rattle.machine.specs.Model.{trimmed}
+use Rattle.machine.specs.Advance.{least, round}
+use Rattle.words_store.specs.ModelIn.{model_in}
+use Rattle.ask_parts.proofs.rounds.round_in.Given as goal
+
+abbrev pub invariant-loop-i : goal.invariant-loop-i
+invariant-loop-i l =
+    let m = trimmed (model_in l.table l.state) in
+    record { within : l.i ≤ l.count; rest : least m l.h.0 l.best.0 (drop l.i m.parts) ≡ round m l.h.0 }
+
+abbrev pub decreases-loop-i : goal.decreases-loop-i
+decreases-loop-i l = l.count - l.i
