@@ -93,8 +93,8 @@ fn accept(read: TableRead, ending: Ending) -> Loaded
 // refusal not even those are.
 pub(crate) fn finished(read: TableRead) -> Loaded
     requires ended { read.number ≡ 0 → Ended read }
-    requires read_bound { (concluded read).number ≡ 0 → (concluded read).position ≤ last_position }
-    ensures result_value { trimmed_loaded result ≡ concluded read }
+    requires within { (concluded read).number ≡ 0 → (concluded read).position ≤ last_position }
+    ensures loads { trimmed_loaded result ≡ concluded read }
     ensures refused { (result.number ≡ 0 → ⊥) → result.model ≡ blank_model }
 {
     let number = read.number;

@@ -50,8 +50,8 @@ fn first_part(c: Component, magnitude: u8) -> Part
 
 // The first parts of the first `count` components, by the master's magnitude. The places after them are blank.
 pub(crate) fn first_parts(parts: [Component; PARTS], count: usize, magnitude: u8) -> [Part; PARTS]
-    requires count_le_most_parts { count ≤ most_parts }
-    requires magnitude_le_last_magnitude { magnitude ≤ last_magnitude }
+    requires few { count ≤ most_parts }
+    requires known { magnitude ≤ last_magnitude }
     ensures { result ≡ first_places magnitude count parts }
 {
     let blank = blank_part();

@@ -20,7 +20,7 @@ mod ratios;
 // position of the first refusal. Free are the bytes of unused places alone, which `trimmed_loaded` cuts away; of a
 // refused load not even those are.
 pub fn load(bytes: &[u8]) -> Loaded
-    ensures result_value { trimmed_loaded result ≡ load bytes.now }
+    ensures loads { trimmed_loaded result ≡ load bytes.now }
     ensures refused { (result.number ≡ 0 → ⊥) → result.model ≡ blank_model }
 {
     let read = read_table(bytes);

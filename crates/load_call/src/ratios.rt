@@ -27,8 +27,8 @@ pub(crate) fn master_magnitude(parts: [Component; PARTS], count: usize, default:
 
 // Whether no P of the first `count` components is above the last tick, by the master's magnitude.
 pub(crate) fn periods_fit(parts: [Component; PARTS], count: usize, magnitude: u8) -> bool
-    requires count_le_most_parts { count ≤ most_parts }
-    requires magnitude_le_last_magnitude { magnitude ≤ last_magnitude }
+    requires few { count ≤ most_parts }
+    requires known { magnitude ≤ last_magnitude }
     ensures { result ≡ periods_within magnitude (components_read count parts) }
 {
     let mut i: usize = 0;

@@ -10,9 +10,7 @@ use Rattle.load_table.specs.declared.table.TableRead.{TableRead}
 use Rattle.load_table.specs.Concluded.{concluded}
 use Rattle.load_call.specs.EndRefusals.{last_position}
 use Rattle.load_call.specs.Position.{load_within}
-use borrow.Author.Rules.{rules}
-use Rattle.load_call.proofs.load.Statement.{statement}
-use Rattle.load_call.proofs.load.Tie as tie
+use Rattle.load_call.proofs.load.Goals as goal
 
 -- the position that loading comes to is a usize
 position_fits : (bs : List ℕ) (r : TableRead) → load bs ≡ concluded r → length bs ≤ last_position →
@@ -21,16 +19,15 @@ position_fits bs r is few none =
     let within = (rw is at (load_within bs)) none in
     omega arith
 
-read-table-requires : tie.Need-read-table-requires
-read-table-requires c κs = search rules
+pub finished-requires : goal.finished-requires
+finished-requires c =
+    let few : length c.args.bytes.now ≤ last_position = omega arith in
+    let read = c.read_table-read in
+    record { ended = read.ensures.stopped.kept; within = position_fits _ read.result read.ensures.loads few }
 
-finished-requires : tie.Need-finished-requires
-finished-requires c κs =
-    let few : length c.before.before.args.bytes.now ≤ last_position = omega arith in
-    (c.read_table.ensures.1.kept, position_fits _ c.read_table.result c.read_table.ensures.0 few)
-
-returns : tie.Need-returns
-returns c = (c.finished.ensures.0 ∙ sym c.before.read_table.ensures.0, c.finished.ensures.1)
-
-pub load_spec : {M : Type 1} → statement M
-load_spec = tie.close (tie.spec read-table-requires finished-requires returns)
+pub returns : goal.returns
+returns c =
+    record {
+      loads = c.finished.ensures.loads ∙ sym c.read_table-read.ensures.loads;
+      refused = c.finished.ensures.refused;
+    }
