@@ -9,24 +9,39 @@ use lib.ListN.{length, take}
 use native.Mathlib.Omega.{arith}
 use Rattle.machine.specs.declared.part.Component.{Component}
 use Rattle.machine.specs.Lists.{same}
+use Rattle.machine.specs.Model.{most_parts}
 use Rattle.machine.specs.Table.{ordered, part_order}
 use Rattle.order_place.specs.Direct.{direct_of}
 use Rattle.order_test.specs.PlacesInTurn.{InTurn}
 use Rattle.order_test.specs.Passed.{none_passed, one_passed, placed_twice, before_source, after_higher}
 use Rattle.order_test.specs.Passed.{refused_at, all_accepted}
 use Rattle.order_test.proofs.follows.Goals as goal
-use Rattle.order_test.proofs.follows.Goals.{In-loop-i}
+use Rattle.order_test.proofs.follows.Goals.{In-loop-i, Start}
 
--- where place i is not in turn, the order is refused: the order, and the direct sources, have places for all parts
+-- the order, and the direct sources, have places for all parts
+long : (c : Start) → c.args.count ≤ length c.args.order
+long c =
+    let full : length c.args.order ≡ most_parts = omega arith in
+    let few : c.args.count ≤ most_parts = c.requires in
+    omega arith
+
+sourced : (c : Start) → c.args.count ≤ length c.args.direct
+sourced c =
+    let full : length c.args.direct ≡ most_parts = omega arith in
+    let few : c.args.count ≤ most_parts = c.requires in
+    omega arith
+
+-- where place i is not in turn, the order is refused
 refused_here : (c : In-loop-i) →
-    (InTurn c.args.count c.args.direct c.args.order c.loop-i.i → ⊥) →
-    (cs : List Component) → map direct_of cs ≡ take c.args.count c.args.direct →
-    false ≡ (ordered cs && same (take c.args.count c.args.order) (part_order cs))
+    let args = c.args in
+    (InTurn args.count args.direct args.order c.loop-i.i → ⊥) →
+    (cs : List Component) → map direct_of cs ≡ take args.count args.direct →
+    false ≡ (ordered cs && same (take args.count args.order) (part_order cs))
 refused_here c never cs of_parts =
     let args = c.args in
-    let long : args.count ≤ length args.order = omega (arith, c.requires) in
-    let sourced : args.count ≤ length args.direct = omega (arith, c.requires) in
-    refused_at args.count args.direct args.order sourced long cs of_parts c.loop-i.i c.loop-i-test.true never
+    let start = c.before.before in
+    refused_at args.count args.direct args.order (sourced start) (long start) cs of_parts c.loop-i.i
+    c.loop-i-test.true never
 
 pub loop-i-init : goal.loop-i-init
 loop-i-init c = none_passed _ _ _ _ c.requires refl
@@ -64,9 +79,10 @@ loop-i-preserved c =
     rw add-one
     (one_passed _ _ _ _ _ _ c.loop-i.invariant c.if-count-k.false c.if-after-k.false ready
     c.walk_back-link.result c.walk_back-link.ensures.link back c.loop-i-test.true c.requires
-    (omega (arith, c.requires)))
+    (long (goal.at.loop-i-preserved c).Start))
 
 pub returns : goal.returns
 returns c = λ cs of_parts.
-    all_accepted c.args.count c.args.direct c.args.order (omega (arith, c.requires)) (omega (arith, c.requires)) cs
-    of_parts (λ i h. c.loop-i.invariant.turns i (omega (arith, c.loop-i-test.false)))
+    let start = (goal.at.returns c).Start in
+    all_accepted c.args.count c.args.direct c.args.order (sourced start) (long start) cs of_parts
+    (λ i h. c.loop-i.invariant.turns i (omega (arith, c.loop-i-test.false)))
