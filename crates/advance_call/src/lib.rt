@@ -88,8 +88,8 @@ fn barred_outcome(number: u64) -> Outcome
 // in that order, then the search. The words of the table and of the old state are kept, as their types say; those of
 // the new one are kept where the call is barred, and hold the answer's state where it is not. No model is copied.
 pub fn advance_sound_into(table: &[u64], old: &[u64], w: u64, new: &mut [u64]) -> Outcome
-    requires value { spelled table.now old.now ≡ true }
-    requires value_2 { sound (lent_model table.now old.now) ≡ true }
+    requires model_spelled { spelled table.now old.now ≡ true }
+    requires model_sound { sound (lent_model table.now old.now) ≡ true }
     ensures { AdvancedSound table.now old.now w new.old new.new result }
 {
     let now = point_of(old);

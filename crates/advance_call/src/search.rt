@@ -24,7 +24,7 @@ use words_store::update::kept_in;
 // The number of the refusal of a step of `h` that all parts accept, 0 where it is made on trial.
 fn refusal_in(table: &[u64], state: &[u64], h: Ticks) -> u64
     requires words_there { WordsThere table.now state.now }
-    requires state_value { sound (lent_model table.now state.now) ≡ true }
+    requires model_sound { sound (lent_model table.now state.now) ≡ true }
     ensures { result ≡ refusal (lent_model table.now state.now) h.0 }
 {
     if h.0 != 0 {

@@ -12,14 +12,14 @@ use Rattle.advance_call.specs.IntoLaws.{spelled_call, unsound_call}
 use Rattle.advance_call.proofs.advance_into.Statement.{statement}
 use Rattle.advance_call.proofs.advance_into.Tie as tie
 
-is-sound-in-requires : tie.Need-is-sound-in-requires
-is-sound-in-requires c κs = search rules
+is_sound_in-requires : tie.Need-is_sound_in-requires
+is_sound_in-requires c κs = search rules
 
-barred-outcome-requires : tie.Need-barred-outcome-requires
-barred-outcome-requires c κs = search rules
+barred_outcome-requires : tie.Need-barred_outcome-requires
+barred_outcome-requires c κs = search rules
 
-returns : tie.Need-returns
-returns c =
+returns-then-not-is_sound_in : tie.Need-returns-then-not-is_sound_in
+returns-then-not-is_sound_in c =
     let sounds = c.before.before in
     let s = sounds.before.before.before.before in
     let ts = s.args.table.now in
@@ -27,10 +27,10 @@ returns c =
     let new = s.args.new.now in
     subst (AdvancedInto ts os s.args.w new new) (sym c.barred_outcome.ensures)
     (unsound_call ts os new s.args.w
-    (sym sounds.is_sound_in.ensures ∙ not-true sounds.is_sound_in.result c.before.if1.true))
+    (sym sounds.is_sound_in.ensures ∙ c.before.if-not-is_sound_in.true))
 
 -- the words spell a sound model
-passed : (c : tie.Else1) →
+passed : (c : tie.Else-not-is_sound_in) →
     let sounds = c.before in
     let s = sounds.before.before.before.before in
     (spelled s.args.table.now s.args.old.now ≡ true) ×
@@ -38,29 +38,35 @@ passed : (c : tie.Else1) →
 passed c =
     let sounds = c.before in
     let s = sounds.before.before.before.before in
-    let both = sym sounds.is_sound_in.ensures ∙ not-false sounds.is_sound_in.result c.if1.false in (
+    let both = sym sounds.is_sound_in.ensures ∙ c.if-not-is_sound_in.false in (
       and_left (spelled s.args.table.now s.args.old.now)
           (sound (lent_model s.args.table.now s.args.old.now)) both,
       and_right (spelled s.args.table.now s.args.old.now)
           (sound (lent_model s.args.table.now s.args.old.now)) both,
     )
 
-advance-sound-into-requires : tie.Need-advance-sound-into-requires
-advance-sound-into-requires c κs = passed c.before
+advance_sound_into-requires : tie.Need-advance_sound_into-requires
+advance_sound_into-requires c κs = passed c.before
 
-same_length : tie.Need-same-length
-same_length c = search rules
+shape_of-new : tie.Need-shape_of-new
+shape_of-new c = search rules
 
-returns-2 : tie.Need-returns-2
-returns-2 c =
+returns : tie.Need-returns
+returns c =
     let advances = c.before.before in
     let test = advances.before.before in
     let s = test.before.before.before.before.before in
     spelled_call s.args.table.now s.args.old.now s.args.new.now
-    advances.advance_sound_into.new.1.1.1.0 s.args.w
+    advances.advance_sound_into.new.new s.args.w
     advances.advance_sound_into.result (passed test).0 advances.advance_sound_into.ensures
 
 pub advance_into_spec : {M : Type 1} → statement M
 advance_into_spec =
     tie.close
-    (tie.spec is-sound-in-requires barred-outcome-requires returns advance-sound-into-requires same_length returns-2)
+    (tie.spec
+    is_sound_in-requires
+    barred_outcome-requires
+    returns-then-not-is_sound_in
+    advance_sound_into-requires
+    shape_of-new
+    returns)

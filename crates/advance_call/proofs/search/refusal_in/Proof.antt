@@ -34,22 +34,22 @@ unfolding trimmed model_in
 last_by ts ss now past is_sound at e =
     e ∙ ap (λ (p : Point). not (in_time (led_to p 0))) at ∙ last_past (lent_model ts ss) is_sound
 
-returns : tie.Need-returns
+returns-then-h-ne0 : tie.Need-returns-then-h-ne0
 unfolding refusal
-returns c = rw (ne_eqb _ 0 c.if1.true) refl
+returns-then-h-ne0 c = rw (ne_eqb _ 0 c.if-h-ne0.true) refl
 
-any-due-in-requires : tie.Need-any-due-in-requires
-any-due-in-requires c κs = search rules
+any_due_in-requires : tie.Need-any_due_in-requires
+any_due_in-requires c κs = search rules
 
-point-of-requires : tie.Need-point-of-requires
-point-of-requires c κs = search rules
+point_of-now-requires : tie.Need-point_of-now-requires
+point_of-now-requires c κs = search rules
 
-leads-past-requires : tie.Need-leads-past-requires
-leads-past-requires c κs = search rules
+leads_past-requires : tie.Need-leads_past-requires
+leads_past-requires c κs = search rules
 
 -- the number where a part is due
 due_refusal :
-    (past : tie.After-leads-past) →
+    (past : tie.After-leads_past) →
     let asked = past.before.before.before in
     let s = asked.before.before.before.before.before in
     cond past.leads_past.result 21 0 ≡ refusal (lent_model s.args.table.now s.args.state.now)
@@ -61,35 +61,35 @@ due_refusal past =
     let zeros = asked.before in
     let s = zeros.before.before.before.before in
     let m = lent_model s.args.table.now s.args.state.now in
-    zero_refusal m s.args.h.0 true past.leads_past.result zeros.if1.false (sym tests.if2.true ∙
+    zero_refusal m s.args.h.0 true past.leads_past.result zeros.if-h-ne0.false (sym tests.if-any_due_in.true ∙
     asked.any_due_in.ensures)
-    (last_by s.args.table.now s.args.state.now point.point_of.result past.leads_past.result
-    s.requires.1 point.point_of.ensures
+    (last_by s.args.table.now s.args.state.now point.point_of-now.result past.leads_past.result
+    s.requires.1 point.point_of-now.ensures
     past.leads_past.ensures)
 
-returns-2 : tie.Need-returns-2
-returns-2 c = sym (cond_true c.before.leads_past.result 21 0 c.if3.true) ∙ due_refusal c.before
+returns-then-leads_past : tie.Need-returns-then-leads_past
+returns-then-leads_past c = sym (cond_true c.before.leads_past.result 21 0 c.if-leads_past.true) ∙ due_refusal c.before
 
-returns-3 : tie.Need-returns-3
-returns-3 c = sym (cond_false c.before.leads_past.result 21 0 c.if3.false) ∙ due_refusal c.before
+returns-then-any_due_in : tie.Need-returns-then-any_due_in
+returns-then-any_due_in c = sym (cond_false c.before.leads_past.result 21 0 c.if-leads_past.false) ∙ due_refusal c.before
 
-returns-4 : tie.Need-returns-4
-returns-4 c =
+returns : tie.Need-returns
+returns c =
     let asked = c.before in
     let zeros = asked.before in
     let s = zeros.before.before.before.before in
     let m = lent_model s.args.table.now s.args.state.now in
-    zero_refusal m s.args.h.0 false (eqb m.point.n last_microstep) zeros.if1.false (sym c.if2.false ∙
+    zero_refusal m s.args.h.0 false (eqb m.point.n last_microstep) zeros.if-h-ne0.false (sym c.if-any_due_in.false ∙
     asked.any_due_in.ensures) refl
 
 pub refusal_in_spec : {M : Type 1} → statement M
 refusal_in_spec =
     tie.close
     (tie.spec
-    returns
-    any-due-in-requires
-    point-of-requires
-    leads-past-requires
-    returns-2
-    returns-3
-    returns-4)
+    returns-then-h-ne0
+    any_due_in-requires
+    point_of-now-requires
+    leads_past-requires
+    returns-then-leads_past
+    returns-then-any_due_in
+    returns)

@@ -3,12 +3,10 @@ use Prim.Native.Nat.{ℕ}
 use native.Mathlib.Omega.{arith}
 use mathlib.Core.Path.{◌≡◌, refl, sym, ◌∙◌}
 use mathlib.Core.Bool.{Bool, true, false, cond, not}
-use borrow.Author.Rules.{rules}
 use Rattle.machine.specs.declared.time.Point.{Point}
 use Rattle.machine.specs.declared.time.Stepped.TheVariants.{To, Past}
 use Rattle.machine.specs.Time.{in_time, led_to, stepped}
-use Rattle.advance_call.proofs.past.leads_past.Statement.{statement}
-use Rattle.advance_call.proofs.past.leads_past.Tie as tie
+use Rattle.advance_call.proofs.past.leads_past.Goals as goal
 
 -- which way the test went
 told_in : (b : Bool) (p q : Point) → cond b (To p) Past ≡ To q → false ≡ not b
@@ -28,20 +26,8 @@ past_the_time : (p : Point) (h : ℕ) → stepped p h ≡ Past → true ≡ not 
 unfolding stepped
 past_the_time p h e = told_past (in_time (led_to p h)) (led_to p h) e
 
-step-requires : tie.Need-step-requires
-step-requires c κs = search rules
+pub returns-in-To : goal.returns-in-To
+returns-in-To c = in_the_time _ _ _ (sym c.step.ensures ∙ c.in-To.is)
 
-enum_told : tie.Need-enum-told
-enum_told c = search rules
-
-enum-told-2 : tie.Need-enum-told-2
-enum-told-2 c = search rules
-
-returns : tie.Need-returns
-returns c = in_the_time _ _ _ (sym c.before.before.step.ensures ∙ c.enum_told.given.1)
-
-returns-2 : tie.Need-returns-2
-returns-2 c = past_the_time _ _ (sym c.before.before.step.ensures ∙ c.enum_told2.given.1)
-
-pub leads_past_spec : {M : Type 1} → statement M
-leads_past_spec = tie.close (tie.spec step-requires enum_told enum-told-2 returns returns-2)
+pub returns-in-Past : goal.returns-in-Past
+returns-in-Past c = past_the_time _ _ (sym c.step.ensures ∙ c.in-Past.is)
