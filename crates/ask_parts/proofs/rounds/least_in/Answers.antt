@@ -4,4 +4,4 @@ use Rattle.ask_parts.proofs.rounds.least_in.Goals as goal
 
 pub drives_in-requires : goal.drives_in-requires
 drives_in-requires c =
-    record { askable = c.requires.askable; agreed = c.requires.agreed (omega (arith, c.if-rounds-eq0.false)) }
+    record { askable = c.requires.askable; agreed = c.requires.agreed (omega arith) }
