@@ -30,8 +30,8 @@ pub(crate) fn put_blanks(out: &mut [u8], at: usize, count: usize) -> usize
 
 // A number in a field of a width, and a blank after it.
 pub(crate) fn put_number_field(out: &mut [u8], at: usize, width: usize, n: u64) -> usize
-    requires n_len_bound { length (decimal n) ≤ width }
-    requires width_in_bounds { at + width + 1 ≤ length out.old }
+    requires fits { length (decimal n) ≤ width }
+    requires has_room { at + width + 1 ≤ length out.old }
     ensures { Put (width + 1) (right_aligned width (decimal n) ++ (blank ∷ [])) at out.old
         out.new result }
 {
@@ -43,8 +43,8 @@ pub(crate) fn put_number_field(out: &mut [u8], at: usize, width: usize, n: u64) 
 
 // A value in an output's field.
 fn put_value_field(out: &mut [u8], at: usize, v: i64) -> usize
-    requires v_len_bound { length (signed_decimal v) ≤ output_width }
-    requires output_width_in_bounds { at + output_width ≤ length out.old }
+    requires fits { length (signed_decimal v) ≤ output_width }
+    requires has_room { at + output_width ≤ length out.old }
     ensures { Put output_width (right_aligned output_width (signed_decimal v)) at out.old
         out.new result }
 {
@@ -55,8 +55,8 @@ fn put_value_field(out: &mut [u8], at: usize, v: i64) -> usize
 
 // An output in its field: its value, or a single hyphen where it is absent.
 fn put_signal_field(out: &mut [u8], at: usize, output: Signal) -> usize
-    requires output_len_bound { length (signal_text output) ≤ output_width }
-    requires output_width_in_bounds { at + output_width ≤ length out.old }
+    requires fits { length (signal_text output) ≤ output_width }
+    requires has_room { at + output_width ≤ length out.old }
     ensures { Put output_width (right_aligned output_width (signal_text output)) at out.old
         out.new result }
 {
@@ -71,8 +71,8 @@ fn put_signal_field(out: &mut [u8], at: usize, output: Signal) -> usize
 
 // An output in its field, and a character after it.
 pub(crate) fn put_output_field(out: &mut [u8], at: usize, output: Signal, behind: u8) -> usize
-    requires output_len_bound { length (signal_text output) ≤ output_width }
-    requires output_width_in_bounds { at + output_width + 1 ≤ length out.old }
+    requires fits { length (signal_text output) ≤ output_width }
+    requires has_room { at + output_width + 1 ≤ length out.old }
     ensures { Put (output_width + 1) (right_aligned output_width (signal_text output) ++
         (behind ∷ [])) at out.old out.new result }
 {

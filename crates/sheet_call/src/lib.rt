@@ -70,8 +70,8 @@ fn put_line(
     third: usize,
     out: &mut [u8],
 ) -> usize
-    requires third_value { lent_sheet_refusal table.now state.now outcome first second third ≡ 0 }
-    requires in_bounds { 79 ≤ length out.old }
+    requires not_refused { lent_sheet_refusal table.now state.now outcome first second third ≡ 0 }
+    requires has_room { 79 ≤ length out.old }
     ensures { Put 79 (sheet_line (outcome_answer table.now state.now outcome) first second
         third) 0 out.old out.new result }
 {

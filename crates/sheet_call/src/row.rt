@@ -52,8 +52,8 @@ pub(crate) fn put_step_row(
     second: Signal,
     third: Signal,
 ) -> usize
-    requires third_value { shown_fits (ShownStep t n step rounds revisions first second third) ≡ true }
-    requires in_bounds { 79 ≤ length out.old }
+    requires fits { shown_fits (ShownStep t n step rounds revisions first second third) ≡ true }
+    requires has_room { 79 ≤ length out.old }
     ensures { Put 79 (shown_line (ShownStep t n step rounds revisions first second third)) 0 out.old
         out.new result }
 {

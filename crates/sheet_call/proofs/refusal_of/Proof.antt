@@ -5,7 +5,6 @@ use mathlib.Core.Path.{◌≡◌, refl, sym, ap, ◌∙◌}
 use mathlib.Core.Bool.{Bool, true, false, cond, ◌&&◌}
 use mathlib.Core.List.{List}
 use Prim.Native.Nat.{ℕ}
-use borrow.Author.Tests.{not-true, not-false}
 use Rattle.machine.specs.Sound.{sound}
 use Rattle.laws.specs.Bools.{and_left}
 use Rattle.words_store.specs.ModelIn.{part_count}
@@ -21,61 +20,61 @@ use Rattle.sheet_call.proofs.refusal_of.Statement.{statement}
 use Rattle.sheet_call.proofs.refusal_of.Tie as tie
 
 -- what the test of the words showed where it holds
-sounds_of : (c : tie.Else1) →
+sounds_of : (c : tie.Else-not-is_sound_in) →
     let start = c.before.before.before.before in
     let table = start.args.table.now in
     let state = start.args.state.now in
     (spelled table state && sound (lent_model table state)) ≡ true
-sounds_of c = sym c.before.is_sound_in.ensures ∙ not-false c.before.is_sound_in.result c.if1.false
+sounds_of c = sym c.before.is_sound_in.ensures ∙ c.if-not-is_sound_in.false
 
 -- what the test of the chosen parts showed, of the count that was read
 there_is : (count n a b c : ℕ) (t r : Bool) → count ≡ n → r ≡ all_there count a b c → r ≡ t → all_there n a b c ≡ t
 there_is count n a b c t r same is known = rw (← same) (sym is ∙ known)
 
-there_of : (c : tie.Else2) →
+there_of : (c : tie.Else-not-parts_there) →
     let start = c.before.before.before.before.before.before.before in
     let args = start.args in
     all_there (part_count args.table.now) args.first args.second args.third ≡ true
 there_of c =
     let asked = c.before.parts_there in
-    there_is _ _ _ _ _ true asked.result c.before.before.parts_of.ensures asked.ensures
-    (not-false asked.result c.if2.false)
+    there_is _ _ _ _ _ true asked.result c.before.before.parts_of-count.ensures asked.ensures
+    (c.if-not-parts_there.false)
 
-is-sound-in-requires : tie.Need-is-sound-in-requires
-is-sound-in-requires c κs = search rules
+is_sound_in-requires : tie.Need-is_sound_in-requires
+is_sound_in-requires c κs = search rules
 
-returns : tie.Need-returns
-returns c =
+returns-then-not-is_sound_in : tie.Need-returns-then-not-is_sound_in
+returns-then-not-is_sound_in c =
     let asked = c.before.is_sound_in in
-    sym (unsound_sheet _ _ _ _ _ _ (sym asked.ensures ∙ not-true asked.result c.if1.true))
+    sym (unsound_sheet _ _ _ _ _ _ (sym asked.ensures ∙ c.if-not-is_sound_in.true))
 
-parts-of-requires : tie.Need-parts-of-requires
-parts-of-requires c κs =
+parts_of-count-requires : tie.Need-parts_of-count-requires
+parts_of-count-requires c κs =
     let start = c.before.before.before.before in
     let args = start.args in
     let ts = args.table.now in
     let ss = args.state.now in
     omega (arith, (spelled_room ts ss (and_left (spelled ts ss) (sound (lent_model ts ss)) (sounds_of c))).table)
 
-parts-there-requires : tie.Need-parts-there-requires
-parts-there-requires c κs = search rules
+parts_there-requires : tie.Need-parts_there-requires
+parts_there-requires c κs = search rules
 
-returns-2 : tie.Need-returns-2
-returns-2 c =
+returns-then-not-parts_there : tie.Need-returns-then-not-parts_there
+returns-then-not-parts_there c =
     let asked = c.before in
     let read = asked.before in
-    let missing = there_is _ _ _ _ _ false asked.parts_there.result read.parts_of.ensures
+    let missing = there_is _ _ _ _ _ false asked.parts_there.result read.parts_of-count.ensures
     asked.parts_there.ensures
-    (not-true asked.parts_there.result c.if2.true) in
+    (c.if-not-parts_there.true) in
     sym (missing_sheet _ _ _ _ _ _ (sounds_of read.before) missing)
 
-returns-3 : tie.Need-returns-3
-returns-3 c =
+returns-then-outcome-ne0 : tie.Need-returns-then-outcome-ne0
+returns-then-outcome-ne0 c =
     let test = c.before.before in
-    sym (refused_sheet _ _ _ _ _ _ (sounds_of test.before.before.before) (there_of test) c.if3.true)
+    sym (refused_sheet _ _ _ _ _ _ (sounds_of test.before.before.before) (there_of test) c.if-outcome-ne0.true)
 
-counts-fit-requires : tie.Need-counts-fit-requires
-counts-fit-requires c κs = search rules
+counts_fit-requires : tie.Need-counts_fit-requires
+counts_fit-requires c κs = search rules
 
 -- a committed answer, by what the test of its counts told
 told : (ts ss : List ℕ) (v : Outcome) (a b c : ℕ) (r t : Bool) (n : ℕ) →
@@ -85,34 +84,34 @@ told : (ts ss : List ℕ) (v : Outcome) (a b c : ℕ) (r t : Bool) (n : ℕ) →
 told ts ss v a b c r t n is counted known number =
     sym (is ∙ ap (λ (k : Bool). cond k 0 26) (sym counted ∙ known) ∙ number)
 
-returns-4 : tie.Need-returns-4
-returns-4 c =
+returns-then-not-counts_fit : tie.Need-returns-then-not-counts_fit
+returns-then-not-counts_fit c =
     let counted = c.before in
     let committed = counted.before in
     let test = committed.before.before in
     told _ _ _ _ _ _ counted.counts_fit.result false 26
-    (counted_sheet _ _ _ _ _ _ (sounds_of test.before.before.before) (there_of test) committed.if3.false)
-    counted.counts_fit.ensures (not-true counted.counts_fit.result c.if4.true) refl
+    (counted_sheet _ _ _ _ _ _ (sounds_of test.before.before.before) (there_of test) committed.if-outcome-ne0.false)
+    counted.counts_fit.ensures (c.if-not-counts_fit.true) refl
 
-returns-5 : tie.Need-returns-5
-returns-5 c =
+returns : tie.Need-returns
+returns c =
     let counted = c.before in
     let committed = counted.before in
     let test = committed.before.before in
     told _ _ _ _ _ _ counted.counts_fit.result true 0
-    (counted_sheet _ _ _ _ _ _ (sounds_of test.before.before.before) (there_of test) committed.if3.false)
-    counted.counts_fit.ensures (not-false counted.counts_fit.result c.if4.false) refl
+    (counted_sheet _ _ _ _ _ _ (sounds_of test.before.before.before) (there_of test) committed.if-outcome-ne0.false)
+    counted.counts_fit.ensures (c.if-not-counts_fit.false) refl
 
 pub refusal_of_spec : {M : Type 1} → statement M
 refusal_of_spec =
     tie.close
     (tie.spec
-    is-sound-in-requires
-    returns
-    parts-of-requires
-    parts-there-requires
-    returns-2
-    returns-3
-    counts-fit-requires
-    returns-4
-    returns-5)
+    is_sound_in-requires
+    returns-then-not-is_sound_in
+    parts_of-count-requires
+    parts_there-requires
+    returns-then-not-parts_there
+    returns-then-outcome-ne0
+    counts_fit-requires
+    returns-then-not-counts_fit
+    returns)

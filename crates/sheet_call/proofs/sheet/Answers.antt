@@ -12,9 +12,7 @@ use Rattle.write_bytes.specs.Fitting.{left_out, put_in, nothing_written}
 use Rattle.machine.specs.declared.model.Outcome.{Outcome}
 use Rattle.sheet_call.specs.SheetInto.{SheetInto, outcome_answer, lent_sheet_refusal}
 use Rattle.sheet_call.specs.LentSheet.{line_length}
-use borrow.Author.Rules.{rules}
-use Rattle.sheet_call.proofs.sheet.Statement.{statement}
-use Rattle.sheet_call.proofs.sheet.Tie as tie
+use Rattle.sheet_call.proofs.sheet.Goals as goal
 
 module _ (ts ss : List ℕ) (v : Outcome) (a b c : ℕ) (before : List ℕ) where
   -- a line that its tests refuse
@@ -35,36 +33,18 @@ module _ (ts ss : List ℕ) (v : Outcome) (a b c : ℕ) (before : List ℕ) wher
         SheetInto ts ss v a b c before after (record { number = 0; length = r })
     put_line room put = let size = line_length ts ss v a b c small free in rw free (put_in (omega (arith, size)) put)
 
-refusal-of-requires : tie.Need-refusal-of-requires
-refusal-of-requires c κs = search rules
+pub returns-then-number-ne0 : goal.returns-then-number-ne0
+returns-then-number-ne0 c = refused _ _ _ _ _ _ _ _ c.if-number-ne0.true c.refusal_of-number.ensures
 
-returns : tie.Need-returns
-returns c = refused _ _ _ _ _ _ _ _ c.if1.true c.before.refusal_of.ensures
+pub returns-then-out-lt-LINE : goal.returns-then-out-lt-LINE
+returns-then-out-lt-LINE c =
+    no_room _ _ _ _ _ _ _ (omega (arith, c.well_formed)) (sym c.refusal_of-number.ensures ∙
+    c.if-number-ne0.false) c.if-out-lt-LINE.true
 
-returns-2 : tie.Need-returns-2
-returns-2 c =
-    let tested = c.before in
-    let start = tested.before.before.before.before.before in
-    no_room _ _ _ _ _ _ _ (omega (arith, start.well_formed)) (sym tested.before.refusal_of.ensures ∙
-    tested.if1.false) c.if2.true
+pub put_line-requires-clause-not_refused : goal.put_line-requires-clause-not_refused
+put_line-requires-clause-not_refused c = sym c.refusal_of-number.ensures ∙ c.if-number-ne0.false
 
-put-line-requires : tie.Need-put-line-requires
-put-line-requires c κs =
-    let room = c.before in
-    let tested = room.before in
-    (sym tested.before.refusal_of.ensures ∙ tested.if1.false, room.if2.false)
-
-same_length : tie.Need-same-length
-same_length c = search rules
-
-returns-3 : tie.Need-returns-3
-returns-3 c =
-    let put = c.before.before in
-    let room = put.before.before in
-    let tested = room.before in
-    let start = tested.before.before.before.before.before in
-    put_line _ _ _ _ _ _ _ (omega (arith, start.well_formed)) (sym tested.before.refusal_of.ensures ∙
-    tested.if1.false) room.if2.false put.put_line.ensures
-
-pub sheet_spec : {M : Type 1} → statement M
-sheet_spec = tie.close (tie.spec refusal-of-requires returns returns-2 put-line-requires same_length returns-3)
+pub returns : goal.returns
+returns c =
+    put_line _ _ _ _ _ _ _ (omega (arith, c.well_formed)) (sym c.refusal_of-number.ensures ∙
+    c.if-number-ne0.false) c.if-out-lt-LINE.false c.put_line.ensures

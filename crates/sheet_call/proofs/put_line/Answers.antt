@@ -15,9 +15,7 @@ use Rattle.words_store.specs.Spelling.{spelled_room}
 use Rattle.machine.specs.declared.model.Outcome.{Outcome}
 use Rattle.sheet_call.specs.SheetInto.{outcome_answer, lent_sheet_refusal}
 use Rattle.sheet_call.specs.LentSheet.{output_lent, refusal_shown, step_shown, sheet_free}
-use borrow.Author.Rules.{rules}
-use Rattle.sheet_call.proofs.put_line.Statement.{statement}
-use Rattle.sheet_call.proofs.put_line.Tie as tie
+use Rattle.sheet_call.proofs.put_line.Goals as goal
 
 -- what the words of a committed answer show, where nothing refuses the line
 words_shown : (ts ss : List ℕ) (v : Outcome) (a b c : ℕ) {now : Point} {x y z : Signal} →
@@ -55,90 +53,46 @@ chosen_rooms ts ss v a b c free =
       third = omega (arith, chosen.third);
     }
 
-put-refusal-row-requires : tie.Need-put-refusal-row-requires
-put-refusal-row-requires c κs = search rules
-
-same_length : tie.Need-same-length
-same_length c = search rules
-
-returns : tie.Need-returns
+pub returns-then-outcome-ne0 : goal.returns-then-outcome-ne0
 unfolding sheet_line shown_line
-returns c =
-    let put = c.before.before in
-    let test = put.before.before in
-    let start = test.before.before.before.before.before in
-    let args = start.args in
+returns-then-outcome-ne0 c =
+    let args = c.args in
     rw (refusal_shown args.table.now args.state.now args.outcome args.first args.second args.third
-    test.if1.true) put.put_refusal_row.ensures
+    c.if-outcome-ne0.true) c.put_refusal_row.ensures
 
-point-of-requires : tie.Need-point-of-requires
-point-of-requires c κs =
-    let start = c.before.before.before.before.before in
-    let args = start.args in
+pub point_of-now-requires : goal.point_of-now-requires
+point_of-now-requires c =
+    let args = c.args in
     omega (
       arith,
       (spelled_room args.table.now args.state.now
-          (sheet_free _ _ _ _ _ _ start.requires.0).spells).state,
+          (sheet_free _ _ _ _ _ _ c.requires.not_refused).spells).state,
     )
 
-output-at-requires : tie.Need-output-at-requires
-output-at-requires c κs =
-    let start = c.before.before.before.before.before.before in
-    let room = chosen_rooms _ _ _ _ _ _ start.requires.0 in
+pub output_at-x-requires : goal.output_at-x-requires
+output_at-x-requires c =
+    let room = chosen_rooms _ _ _ _ _ _ c.requires.not_refused in
     omega (arith, room.first, room.second, room.third)
 
-output-at-requires-2 : tie.Need-output-at-requires-2
-output-at-requires-2 c κs =
-    let start = c.before.before.before.before.before.before.before in
-    let room = chosen_rooms _ _ _ _ _ _ start.requires.0 in
+pub output_at-y-requires : goal.output_at-y-requires
+output_at-y-requires c =
+    let room = chosen_rooms _ _ _ _ _ _ c.requires.not_refused in
     omega (arith, room.first, room.second, room.third)
 
-output-at-requires-3 : tie.Need-output-at-requires-3
-output-at-requires-3 c κs =
-    let start = c.before.before.before.before.before.before.before.before in
-    let room = chosen_rooms _ _ _ _ _ _ start.requires.0 in
+pub output_at-z-requires : goal.output_at-z-requires
+output_at-z-requires c =
+    let room = chosen_rooms _ _ _ _ _ _ c.requires.not_refused in
     omega (arith, room.first, room.second, room.third)
 
-put-step-row-requires : tie.Need-put-step-row-requires
-put-step-row-requires c κs =
-    let third = c.before in
-    let second = third.before in
-    let first = second.before in
-    let point = first.before in
-    let start = point.before.before.before.before.before.before in (
-      ap shown_fits (sym (words_shown _ _ _ _ _ _ start.requires.0 point.before.if1.false point.point_of.ensures
-          first.output_at.ensures
-          second.output_at2.ensures third.output_at3.ensures)) ∙ (sheet_free _ _ _ _ _ _ start.requires.0).fits,
-      start.requires.1,
-    )
+pub put_step_row-requires-clause-fits : goal.put_step_row-requires-clause-fits
+put_step_row-requires-clause-fits c =
+    ap shown_fits (sym (words_shown _ _ _ _ _ _ c.requires.not_refused c.if-outcome-ne0.false c.point_of-now.ensures
+    c.output_at-x.ensures
+    c.output_at-y.ensures c.output_at-z.ensures)) ∙ (sheet_free _ _ _ _ _ _ c.requires.not_refused).fits
 
-same-length-2 : tie.Need-same-length-2
-same-length-2 c = search rules
-
-returns-2 : tie.Need-returns-2
+pub returns : goal.returns
 unfolding sheet_line
-returns-2 c =
-    let put = c.before.before in
-    let third = put.before.before in
-    let second = third.before in
-    let first = second.before in
-    let point = first.before in
-    let start = point.before.before.before.before.before.before in
-    rw (words_shown _ _ _ _ _ _ start.requires.0 point.before.if1.false point.point_of.ensures
-    first.output_at.ensures second.output_at2.ensures
-    third.output_at3.ensures) put.put_step_row.ensures
-
-pub put_line_spec : {M : Type 1} → statement M
-put_line_spec =
-    tie.close
-    (tie.spec
-    put-refusal-row-requires
-    same_length
-    returns
-    point-of-requires
-    output-at-requires
-    output-at-requires-2
-    output-at-requires-3
-    put-step-row-requires
-    same-length-2
-    returns-2)
+returns c =
+    rw (words_shown _ _ _ _ _ _ c.requires.not_refused c.if-outcome-ne0.false c.point_of-now.ensures
+    c.output_at-x.ensures c.output_at-y.ensures
+    c.output_at-z.ensures) c.put_step_row.ensures
