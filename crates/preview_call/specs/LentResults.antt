@@ -2,7 +2,7 @@
 -- among them and without, whatever the words lent for the new states held. `same_results` (wholelist's
 -- specs/PreviewLists.antt) says so of calls by value. The idea: the results of a chain on words are the machine's
 -- answers to the steps that it wanted, and these depend on the model and the steps alone. Assumes nothing.
-use Rattle.std.specs.Prelude.{ℕ, ◌≡◌, refl, true, List, [], ◌∷◌, eqb, length}
+use Rattle.std.specs.Prelude.{ℕ, ◌≡◌, refl, true, List, [], ◌∷◌, eqb}
 use Rattle.std.proofs.Common.{sym, ap, ap₂, ◌∙◌}
 use Rattle.machine.specs.declared.model.Model.{Model}
 use Rattle.machine.specs.declared.model.Answer.{Answer}

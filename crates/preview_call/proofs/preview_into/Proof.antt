@@ -15,49 +15,49 @@ use Rattle.preview_call.proofs.preview_into.Statement.{statement}
 use Rattle.preview_call.proofs.preview_into.Tie as tie
 
 -- the start, seen from the advance, and the words that it left
-abbrev start_of : tie.After-advance-into → tie.Start
+abbrev start_of : tie.After-advance_into-ended → tie.Start
 start_of advances = advances.before.before.before.before.before
 
-abbrev left_of : tie.After-advance-into → List ℕ
-left_of advances = advances.advance_into.new.1.1.1.0
+abbrev left_of : tie.After-advance_into-ended → List ℕ
+left_of advances = advances.advance_into-ended.new.new
 
 -- the advance, seen from the test of its rounds, and from the question whether a state can be shown
-abbrev asked_of : tie.Else1 → tie.After-advance-into
+abbrev asked_of : tie.Else-ended-ne0 → tie.After-advance_into-ended
 asked_of test = test.before.before.before.before
 
-abbrev shown_of : tie.Then2 → tie.After-advance-into
+abbrev shown_of : tie.Then-can_show → tie.After-advance_into-ended
 shown_of test = asked_of test.before.before
 
-advance-into-requires : tie.Need-advance-into-requires
-advance-into-requires c κs = search rules
+advance_into-ended-requires : tie.Need-advance_into-ended-requires
+advance_into-ended-requires c κs = search rules
 
-same_length : tie.Need-same-length
-same_length c = search rules
+shape_of-new-then-ended-ne0 : tie.Need-shape_of-new-then-ended-ne0
+shape_of-new-then-ended-ne0 c = search rules
 
-returns : tie.Need-returns
-returns c =
+returns-then-ended-ne0 : tie.Need-returns-then-ended-ne0
+returns-then-ended-ne0 c =
     let advances = c.before.before.before.before in
     let s = start_of advances in
     searched_preview s.args.table.now s.args.old.now s.args.w s.args.new.now (left_of advances)
-    advances.advance_into.result
-    advances.advance_into.ensures (λ none. omega (arith, c.if1.true))
+    advances.advance_into-ended.result
+    advances.advance_into-ended.ensures (λ none. omega (arith, c.if-ended-ne0.true))
 
-can-show-requires : tie.Need-can-show-requires
-can-show-requires c κs =
+can_show-requires : tie.Need-can_show-requires
+can_show-requires c κs =
     let advances = asked_of c in
     let s = start_of advances in
     found_spelled s.args.table.now s.args.old.now s.args.w s.args.new.now (left_of advances)
-    advances.advance_into.result
-    advances.advance_into.ensures
+    advances.advance_into-ended.result
+    advances.advance_into-ended.ensures
 
 -- a state can be shown in the words that the advance left
-can : (c : tie.Then2) →
+can : (c : tie.Then-can_show) →
     let s = start_of (shown_of c) in
     shows s.args.table.now s.args.old.now (length (left_of (shown_of c))) ≡ true
-can c = sym c.before.can_show.ensures ∙ c.if2.true
+can c = sym c.before.can_show.ensures ∙ c.if-can_show.true
 
-kept-in-requires : tie.Need-kept-in-requires
-kept-in-requires c κs =
+kept_in-requires : tie.Need-kept_in-requires
+kept_in-requires c κs =
     let test = c.before in
     let s = start_of (shown_of test) in
     let ts = s.args.table.now in
@@ -69,43 +69,43 @@ kept-in-requires c κs =
     } in
     (there, spare)
 
-same-length-2 : tie.Need-same-length-2
-same-length-2 c = search rules
+shape_of-new-then-can_show : tie.Need-shape_of-new-then-can_show
+shape_of-new-then-can_show c = search rules
 
-returns-2 : tie.Need-returns-2
-returns-2 c =
+returns-then-can_show : tie.Need-returns-then-can_show
+returns-then-can_show c =
     let keeps = c.before.before in
     let test = keeps.before.before in
     let advances = shown_of test in
     let s = start_of advances in
     copied_preview s.args.table.now s.args.old.now s.args.w s.args.new.now (left_of advances)
-    advances.advance_into.result
-    advances.advance_into.ensures keeps.kept_in.new.1.1.0 (omega (arith, test.before.before.if1.false))
+    advances.advance_into-ended.result
+    advances.advance_into-ended.ensures keeps.kept_in.new.new (omega (arith, test.before.before.if-ended-ne0.false))
     (can test) keeps.kept_in.ensures
 
-same-length-3 : tie.Need-same-length-3
-same-length-3 c = search rules
+shape_of-new-else-can_show : tie.Need-shape_of-new-else-can_show
+shape_of-new-else-can_show c = search rules
 
-returns-3 : tie.Need-returns-3
-returns-3 c =
+returns-else-can_show : tie.Need-returns-else-can_show
+returns-else-can_show c =
     let asks = c.before in
     let advances = asked_of asks.before in
     let s = start_of advances in
     unshown_preview s.args.table.now s.args.old.now s.args.w s.args.new.now (left_of advances)
-    advances.advance_into.result
-    advances.advance_into.ensures (omega (arith, asks.before.if1.false)) (sym asks.can_show.ensures ∙
-    c.if2.false)
+    advances.advance_into-ended.result
+    advances.advance_into-ended.ensures (omega (arith, asks.before.if-ended-ne0.false)) (sym asks.can_show.ensures ∙
+    c.if-can_show.false)
 
 pub preview_into_spec : {M : Type 1} → statement M
 preview_into_spec =
     tie.close
     (tie.spec
-    advance-into-requires
-    same_length
-    returns
-    can-show-requires
-    kept-in-requires
-    same-length-2
-    returns-2
-    same-length-3
-    returns-3)
+    advance_into-ended-requires
+    shape_of-new-then-ended-ne0
+    returns-then-ended-ne0
+    can_show-requires
+    kept_in-requires
+    shape_of-new-then-can_show
+    returns-then-can_show
+    shape_of-new-else-can_show
+    returns-else-can_show)
