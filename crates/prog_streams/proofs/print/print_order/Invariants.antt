@@ -1,0 +1,10 @@
+-- `print_order` is safe and ends: the measure is the number of places left.
+use Rattle.std.proofs.Common.{◌-◌}
+use Rattle.machine.specs.Model.{most_parts}
+use Rattle.prog_streams.proofs.print.print_order.Given as goal
+
+abbrev pub invariant-loop-i : goal.invariant-loop-i
+invariant-loop-i l = Unit {0}
+
+abbrev pub decreases-loop-i : goal.decreases-loop-i
+decreases-loop-i l = most_parts - l.i

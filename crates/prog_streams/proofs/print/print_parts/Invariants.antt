@@ -1,0 +1,10 @@
+-- `print_parts` is safe and ends: the measure is the number of places left.
+use Prim.Native.Nat.{◌-◌}
+use Rattle.machine.specs.Model.{most_parts}
+use Rattle.prog_streams.proofs.print.print_parts.Given as goal
+
+abbrev pub invariant-loop-i : goal.invariant-loop-i
+invariant-loop-i l = Unit {0}
+
+abbrev pub decreases-loop-i : goal.decreases-loop-i
+decreases-loop-i l = most_parts - l.i
