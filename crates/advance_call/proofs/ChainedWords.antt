@@ -20,14 +20,14 @@ use Rattle.words_store.specs.ModelIn.{slot, stored_spans, stored_component, stor
 use Rattle.words_store.specs.ModelIn.{stored_part, stored_point, model_in}
 use Rattle.words_store.specs.Form.{words_within, component_spelled, part_spelled, parts_spelled, spelled}
 use Rattle.words_store.specs.Clean.{CleanOutput, CleanOrKept, CleanAfter}
-use Rattle.words_store.specs.Updated.{state_spelled, Copied, SameBehind}
+use Rattle.words_store.specs.Updated.{state_spelled, SameBehind}
 use Rattle.words_store.specs.StoreFrame.{behind_copied}
 use Rattle.machine.specs.declared.model.Outcome.{Outcome}
 use Rattle.advance_call.specs.Into.{lent_model, SearchedInto, AdvancedInto}
 use Rattle.advance_call.specs.IntoLaws.{barred_call, short_call, searched_call, spelled_call}
 use Rattle.advance_call.specs.EveryLent.{LentCall, next_state, LentChain}
-use Rattle.advance_call.specs.AnyRoom.{Promised, AnyRoomChain, WholeLentList, with_room, room_alone}
-use Rattle.advance_call.specs.AnyRoom.{every_room_list}
+use Rattle.advance_call.specs.AnyRoom.{Promised, AnyRoomChain, WholeLentList, with_room}
+use Rattle.advance_call.proofs.AnyRoom.{room_alone, every_room_list}
 
 -- the bytes of the table, and its words
 abbrev pub square_bytes : List ℕ

@@ -3,15 +3,10 @@
 -- specs/Calls.antt) asks of each answer that very promise, and that each call is given the model of the answer before
 -- it. So what a caller gets who hands each answer's model to the next call is a chain, one call at a time, and
 -- `whole_list` (wholelist's specs/Demand3.antt) speaks of it. Assumes nothing.
-use Rattle.std.specs.Prelude.{ℕ, ◌≡◌, refl, List, [], ◌∷◌}
+use Rattle.std.specs.Prelude.{ℕ, refl, List, [], ◌∷◌}
 use Rattle.machine.specs.declared.model.Model.{Model}
-use Rattle.machine.specs.declared.model.Loaded.{Loaded}
 use Rattle.machine.specs.declared.model.Answer.{Answer}
-use Rattle.machine.specs.Model.{trimmed_loaded}
-use Rattle.machine.specs.Load.{load}
 use Rattle.machine.specs.Calls.{Advanced, Call, Chain}
-use Rattle.machine.specs.WholeList.{WholeList}
-use Rattle.advance_lists.proofs.Demand3.{whole_list}
 
 -- the call that is given the model m and the wanted step w, and answered r
 abbrev pub call : Model → ℕ → Answer → Call
@@ -37,17 +32,9 @@ calls m (w ∷ ws) [] = []
 calls m (w ∷ ws) (r ∷ rs) = call m w r ∷ calls r.model ws rs
 
 -- it is a chain
-answered_chain : (m : Model) (ws : List ℕ) (rs : List Answer) → Answered m ws rs → Chain m (calls m ws rs)
+pub answered_chain : (m : Model) (ws : List ℕ) (rs : List Answer) → Answered m ws rs → Chain m (calls m ws rs)
 unfolding calls
 answered_chain m [] rs all = tt
 answered_chain m (w ∷ ws) [] all = absurd all
 answered_chain m (w ∷ ws) (r ∷ rs) all =
     chain_step m w r (calls r.model ws rs) all.0 (answered_chain r.model ws rs all.1)
-
--- demand 3: whatever bytes were loaded, and whatever steps were wanted then, the claim holds of the whole list of calls
-pub every_list :
-    (bs : List ℕ) (loaded : Loaded) → trimmed_loaded loaded ≡ load bs → loaded.number ≡ 0 →
-    (ws : List ℕ) (rs : List Answer) → Answered loaded.model ws rs →
-    WholeList loaded.model (calls loaded.model ws rs)
-every_list bs loaded loads accepted ws rs all =
-    whole_list bs loaded (calls loaded.model ws rs) loads accepted (answered_chain loaded.model ws rs all)

@@ -3,7 +3,6 @@
 use mathlib.Core.Path.{◌≡◌, sym, subst, ◌∙◌}
 use mathlib.Core.Bool.{true}
 use borrow.Author.Rules.{rules}
-use borrow.Author.Tests.{not-true, not-false}
 use Rattle.machine.specs.Sound.{sound}
 use Rattle.laws.specs.Bools.{and_left, and_right}
 use Rattle.words_store.specs.Form.{spelled}

@@ -9,7 +9,7 @@ use Rattle.preview_call.proofs.can_show.Goals.{Joined-number-eq24, then-number-e
 -- the words spell a model: they were found to, or the call before has
 spells : (c : Joined-number-eq24) → spelled c.args.table.now c.args.old.now ≡ true
 spells c = elim c.if-number-eq24.branch [
-  then-number-eq24+else-not-spelled w ↦ sym w.spelled.ensures ∙ w.if-not-spelled.false
+  | then-number-eq24+else-not-spelled w ↦ sym w.spelled.ensures ∙ w.if-not-spelled.false
   | else-number-eq24 w ↦ c.requires w.if-number-eq24.false
 ]
 
@@ -19,8 +19,11 @@ returns-then-not-spelled c = simp (sym c.spelled.ensures ∙ c.if-not-spelled.tr
 
 pub parts_of-count-requires : goal.parts_of-count-requires
 parts_of-count-requires c =
-    omega (arith, (spelled_room c.args.table.now c.args.old.now
-    (spells (goal.at.parts_of-count-requires c).Joined-number-eq24)).table)
+    omega (
+      arith,
+      (spelled_room c.args.table.now c.args.old.now
+          (spells (goal.at.parts_of-count-requires c).Joined-number-eq24)).table,
+    )
 
 pub state_words-requires : goal.state_words-requires
 state_words-requires c =
