@@ -11,7 +11,6 @@ use Rattle.machine.specs.declared.model.Answer.{Answer}
 use Rattle.machine.specs.declared.model.Outcome.{Outcome}
 use Rattle.machine.specs.declared.model.Written.{Written}
 use Rattle.machine.specs.Model.{most_parts}
-use Rattle.machine.specs.Advance.{advance}
 use Rattle.machine.specs.Rehearse.{answer_line}
 use Rattle.machine.specs.Sheet.{sheet_line}
 use Rattle.machine.specs.Writing.{WrittenAs}

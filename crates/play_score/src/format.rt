@@ -82,7 +82,7 @@ pub(crate) fn put_answer(
     used: usize,
 ) -> usize
     requires answer_in { AnswerIn table.now state.now v format }
-    requires used_in_bounds { used + 1024 ≤ length lines.old }
+    requires line_room { used + 1024 ≤ length lines.old }
     ensures { let answer = outcome_answer table.now state.now v in
         Put 1024 (line_of answer format) used lines.old lines.new result }
 {

@@ -39,8 +39,8 @@ fn play_wanted(
     used: usize,
 ) -> Played
     requires playable { Playable table.now old.now format }
-    requires most_state_words_in_bounds { most_state_words ≤ length new.old }
-    requires used_in_bounds { used + 1024 ≤ length lines.old }
+    requires state_room { most_state_words ≤ length new.old }
+    requires line_room { used + 1024 ≤ length lines.old }
     ensures { let left = cond result.moved new.new old.now in
         PlayedWanted table.now old.now wanted next format
         left lines.old used lines.new result }
@@ -76,8 +76,8 @@ fn play_command(
     used: usize,
 ) -> Played
     requires playable { Playable table.now old.now format }
-    requires most_state_words_in_bounds { most_state_words ≤ length new.old }
-    requires used_in_bounds { used + 1024 ≤ length lines.old }
+    requires state_room { most_state_words ≤ length new.old }
+    requires line_room { used + 1024 ≤ length lines.old }
     ensures { let left = cond result.moved new.new old.now in
         CommandPlayed stream.now at table.now old.now format
         left lines.old used lines.new result }
@@ -119,9 +119,9 @@ fn play_exchanged(
     used: usize,
 ) -> Played
     requires playable { Playable table.now (stands_in exchanged first.old second.old) format }
-    requires most_state_words_in_bounds { most_state_words ≤ length first.old }
-    requires most_state_words_in_bounds_2 { most_state_words ≤ length second.old }
-    requires used_in_bounds { used + 1024 ≤ length lines.old }
+    requires first_room { most_state_words ≤ length first.old }
+    requires second_room { most_state_words ≤ length second.old }
+    requires line_room { used + 1024 ≤ length lines.old }
     ensures { let asked = stands_in exchanged first.old second.old in
         let left = stands_in result.moved first.new second.new in
         CommandPlayed stream.now at table.now asked format
@@ -151,12 +151,12 @@ pub fn play_batch(
     lines: &mut [u8],
 ) -> Played
     requires playable { Playable table.now (stands_in exchanged first.old second.old) format }
-    requires most_state_words_in_bounds { most_state_words ≤ length first.old }
-    requires most_state_words_in_bounds_2 { most_state_words ≤ length second.old }
-    ensures fact { let asked = stands_in exchanged first.old second.old in
+    requires first_room { most_state_words ≤ length first.old }
+    requires second_room { most_state_words ≤ length second.old }
+    ensures batched { let asked = stands_in exchanged first.old second.old in
         let left = stands_in result.moved first.new second.new in
         Batched stream.now from table.now asked format left lines.new result }
-    ensures fact_2 { let left = stands_in result.moved first.new second.new in
+    ensures still_playable { let left = stands_in result.moved first.new second.new in
         Playable table.now left format }
 {
     let mut at = from;

@@ -54,9 +54,9 @@ pub fn open_score(
     state: &mut [u64],
     lines: &mut [u8],
 ) -> Opening
-    requires most_table_words_in_bounds { most_table_words ≤ length table.old }
-    requires most_state_words_in_bounds { most_state_words ≤ length state.old }
-    requires in_bounds { 64 ≤ length lines.old }
+    requires table_room { most_table_words ≤ length table.old }
+    requires state_room { most_state_words ≤ length state.old }
+    requires line_room { 64 ≤ length lines.old }
     ensures { let words = state.new in
         Opened stream.now format table.new words lines.new result }
 {
@@ -91,9 +91,9 @@ fn print_batches(
 ) -> bool
     requires playable { Playable table.now first.old format }
     requires printed_so_far { PrintedSoFar stream.now format from (lent_model table.now first.old) }
-    requires most_state_words_in_bounds { most_state_words ≤ length first.old }
-    requires most_state_words_in_bounds_2 { most_state_words ≤ length second.old }
-    requires in_bounds { 1024 ≤ length lines.old }
+    requires first_room { most_state_words ≤ length first.old }
+    requires second_room { most_state_words ≤ length second.old }
+    requires line_room { 1024 ≤ length lines.old }
 {
     let mut at = from;
     let mut exchanged = false;

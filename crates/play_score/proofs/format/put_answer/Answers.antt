@@ -1,0 +1,31 @@
+-- `put_answer` lends what is left of the buffer, in either format: the line that is written there is put after the
+-- first bytes. A sheet line of an answer is not refused.
+use native.Mathlib.Omega.{arith}
+use Rattle.sheet_call.specs.SheetInto.{outcome_answer}
+use Rattle.play_score.proofs.Commands.{put_part}
+use Rattle.play_score.proofs.Answers.{line_words, plain_put, sheet_put, sheet_written}
+use Rattle.play_score.proofs.format.put_answer.Goals as goal
+
+pub write_spelled-w-requires : goal.write_spelled-w-requires
+write_spelled-w-requires c =
+    let words = line_words _ _ c.requires.answer_in in
+    record { words_there = words.0; few_parts = words.1 }
+
+pub overflow_add-result-in-Sheet : goal.overflow_add-result-in-Sheet
+overflow_add-result-in-Sheet c =
+    let sheet = sheet_written _ _ _ _ _ c.in-Sheet.is c.requires.answer_in c.sheet-w.ensures in
+    omega (arith, sheet.1, c.requires.line_room)
+
+pub returns-in-Plain : goal.returns-in-Plain
+returns-in-Plain c =
+    let args = c.args in
+    let line = c.write_spelled-w.ensures.written_as args.v.ceiling in
+    plain_put (outcome_answer args.table.now args.state.now args.v) _ c.in-Plain.is
+    (put_part args.used c.requires.line_room line c.write_spelled-w.ensures.length_bound)
+
+pub returns-in-Sheet : goal.returns-in-Sheet
+returns-in-Sheet c =
+    let sheet = sheet_written _ _ _ _ _ c.in-Sheet.is c.requires.answer_in c.sheet-w.ensures in
+    let args = c.args in
+    sheet_put (outcome_answer args.table.now args.state.now args.v) _ _ c.in-Sheet.is
+    (put_part args.used c.requires.line_room sheet.0 sheet.1)

@@ -1,0 +1,86 @@
+-- `play_batch` plays command after command. The invariant: the lines in the buffer and those from the position on are
+-- all lines, told of the state that the rehearsal is in, whose words can be played; the position moved on where the
+-- buffer holds a line; and the slices keep their lengths. The measure is what is left of the stream.
+use native.Mathlib.Omega.{arith}
+use mathlib.Core.Path.{refl, sym, ◌∙◌}
+use mathlib.Core.Bool.{true≢false}
+use Rattle.play_score.specs.Playing.{lines_left}
+use Rattle.play_score.proofs.Commands.{played_on}
+use Rattle.play_score.proofs.play.play_batch.Goals as goal
+
+pub loop-lines-init : goal.loop-lines-init
+loop-lines-init c =
+    (omega arith, refl, refl, refl, refl, c.requires.playable, omega arith, λ some. absurd (omega arith))
+
+pub overflow_sub-lines : goal.overflow_sub-lines
+overflow_sub-lines c = omega arith
+
+pub play_exchanged-played-requires : goal.play_exchanged-played-requires
+play_exchanged-played-requires c =
+    let had = c.loop-lines.invariant in
+    record {
+      playable = had.5;
+      first_room = omega (arith, c.requires.first_room, had.2);
+      second_room = omega (arith, c.requires.second_room, had.3);
+      line_room = omega arith;
+    }
+
+pub shape_of-first-then-played : goal.shape_of-first-then-played
+shape_of-first-then-played c = omega arith
+
+pub shape_of-second-then-played : goal.shape_of-second-then-played
+shape_of-second-then-played c = omega arith
+
+pub shape_of-lines-then-played : goal.shape_of-lines-then-played
+shape_of-lines-then-played c = omega arith
+
+pub returns-then-played : goal.returns-then-played
+returns-then-played c =
+    let played = c.play_exchanged-played.ensures in
+    record {
+      batched = record {
+        lines = c.loop-lines.invariant.4 ∙ played.lines;
+        room = played.room;
+        later = λ goes room. absurd (true≢false (sym c.if-played.true ∙ goes));
+      };
+      still_playable = played.playable;
+    }
+
+pub loop-lines-smaller : goal.loop-lines-smaller
+loop-lines-smaller c =
+    let later = c.play_exchanged-played.ensures.later c.if-played.false in
+    omega (arith, later.0, later.1)
+
+pub loop-lines-preserved : goal.loop-lines-preserved
+loop-lines-preserved c =
+    let played = c.play_exchanged-played.ensures in
+    let on = played_on c.if-played.false c.loop-lines.invariant.4 played in
+    let later = played.later c.if-played.false in
+    let least = c.loop-lines.invariant.6 in (
+      played.room,
+      omega arith,
+      omega arith,
+      omega arith,
+      on,
+      played.playable,
+      omega (arith, later.0, least),
+      λ some. (omega (arith, later.0, least), omega (arith, later.1, least)),
+    )
+
+pub shape_of-first : goal.shape_of-first
+shape_of-first c = omega arith
+
+pub shape_of-second : goal.shape_of-second
+shape_of-second c = omega arith
+
+pub shape_of-lines : goal.shape_of-lines
+shape_of-lines c = omega arith
+
+pub returns : goal.returns
+unfolding lines_left
+returns c =
+    let had = c.loop-lines.invariant in
+    record {
+      batched = record { lines = had.4; room = had.0; later = λ goes room. had.7 (omega arith) };
+      still_playable = had.5;
+    }

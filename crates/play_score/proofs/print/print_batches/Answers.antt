@@ -1,0 +1,60 @@
+-- `print_batches` is safe and ends. The invariant: the buffer and the states keep their lengths, some text with what
+-- is to come is what is printed, and the state that the rehearsal is in can be played; that text grows by each
+-- batch's own (`one_batch_more`). It does not say that this text was written: no contract speaks of what `write_all`
+-- is given, so that is read off the code. The measure is what is left of the stream, since a batch that is not the
+-- last moves on.
+use native.Mathlib.Omega.{arith}
+use mathlib.Core.Path.{refl}
+use lib.ListN.{length-take}
+use Rattle.play_score.proofs.Commands.{one_batch_more}
+use Rattle.play_score.proofs.print.print_batches.Goals as goal
+
+pub loop-format-init : goal.loop-format-init
+loop-format-init c =
+    (refl, refl, refl, c.requires.printed_so_far, c.requires.playable)
+
+pub play_batch-played-requires : goal.play_batch-played-requires
+play_batch-played-requires c =
+    let had = c.loop-format.invariant in
+    record {
+      playable = had.4;
+      first_room = omega (arith, c.requires.first_room, had.0);
+      second_room = omega (arith, c.requires.second_room, had.1);
+    }
+
+pub slice_bounds-write_all-end : goal.slice_bounds-write_all-end
+slice_bounds-write_all-end c =
+    c.play_batch-played.ensures.batched.room
+
+pub slice_bounds-write_all-end-in-loop-format : goal.slice_bounds-write_all-end-in-loop-format
+slice_bounds-write_all-end-in-loop-format c =
+    simp length-take (omega (arith, c.play_batch-played.ensures.batched.room))
+
+pub shape_of-first-then-not-write_all : goal.shape_of-first-then-not-write_all
+shape_of-first-then-not-write_all c = omega arith
+
+pub shape_of-second-then-not-write_all : goal.shape_of-second-then-not-write_all
+shape_of-second-then-not-write_all c = omega arith
+
+pub shape_of-lines-then-not-write_all : goal.shape_of-lines-then-not-write_all
+shape_of-lines-then-not-write_all c = omega arith
+
+pub shape_of-first-then-played : goal.shape_of-first-then-played
+shape_of-first-then-played c = omega arith
+
+pub shape_of-second-then-played : goal.shape_of-second-then-played
+shape_of-second-then-played c = omega arith
+
+pub shape_of-lines-then-played : goal.shape_of-lines-then-played
+shape_of-lines-then-played c = omega arith
+
+pub loop-format-smaller : goal.loop-format-smaller
+loop-format-smaller c =
+    let later =
+    c.play_batch-played.ensures.batched.later c.if-played.false (omega (arith, c.requires.line_room, c.loop-format.invariant.2)) in
+    omega (arith, later.0, later.1)
+
+pub loop-format-preserved : goal.loop-format-preserved
+loop-format-preserved c =
+    let batch = c.play_batch-played.ensures in
+    (omega arith, omega arith, omega arith, one_batch_more c.if-played.false c.loop-format.invariant.3 batch.batched, batch.still_playable)

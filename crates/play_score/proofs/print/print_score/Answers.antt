@@ -1,0 +1,25 @@
+-- `print_score` writes what is said at the beginning, which lies within the buffer, and goes on where printing does,
+-- with all lines to come.
+use native.Mathlib.Omega.{arith}
+use lib.ListN.{length-take}
+use Rattle.play_score.proofs.Openings.{opened_goes_on}
+use Rattle.play_score.proofs.print.print_score.Goals as goal
+
+pub slice_bounds-write_all-end : goal.slice_bounds-write_all-end
+slice_bounds-write_all-end c =
+    simp length-take (omega (arith, c.open_score-opened.ensures.room))
+
+pub slice_bounds-write_all-end-2 : goal.slice_bounds-write_all-end-2
+slice_bounds-write_all-end-2 c =
+    simp length-take (omega (arith, c.open_score-opened.ensures.room))
+
+pub print_batches-requires : goal.print_batches-requires
+print_batches-requires c =
+    let on = opened_goes_on c.if-opened.false c.if-opened-2.false c.open_score-opened.ensures in
+    record {
+      playable = on.0;
+      printed_so_far = on.1;
+      first_room = omega arith;
+      second_room = omega arith;
+      line_room = omega arith;
+    }
