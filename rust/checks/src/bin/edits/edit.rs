@@ -14,19 +14,25 @@ pub struct Replacement {
 pub enum Place {
     /// A declaration of a file, and a row of it.
     Declaration { file: String, name: String, row: Option<String> },
-    /// A function that has no proof file.
-    Function(String),
+    /// A function, one of whose goals the checker proved by itself: this goal, or any.
+    Function { name: String, goal: Option<String> },
+    /// A goal of a function in a file of code, which the checker proved by itself.
+    Goal { file: String, goal: String },
 }
 
 impl Place {
     /// The place that the words after `# refused in:` name.
     fn read(words: &str) -> Result<Place, String> {
-        let mut rest = words.split(' ');
-        match (rest.next(), rest.next(), rest.next(), rest.next()) {
-            (Some("fn"), Some(name), None, None) => Ok(Place::Function(name.to_string())),
-            (Some(file), Some(name), row, None) if file.ends_with(".antt") => {
-                Ok(Place::Declaration { file: file.to_string(), name: name.to_string(), row: row.map(str::to_string) })
+        let parts: Vec<&str> = words.split(' ').collect();
+        let owned = |word: &&str| word.to_string();
+        match parts[..] {
+            ["fn", name, ref goal @ ..] if goal.len() <= 1 => {
+                Ok(Place::Function { name: name.to_string(), goal: goal.first().map(owned) })
             }
+            [file, name, ref row @ ..] if file.ends_with(".antt") && row.len() <= 1 => {
+                Ok(Place::Declaration { file: file.to_string(), name: name.to_string(), row: row.first().map(owned) })
+            }
+            [file, goal] if file.ends_with(".rt") => Ok(Place::Goal { file: file.to_string(), goal: goal.to_string() }),
             _ => Err(format!("no place: {words}")),
         }
     }
@@ -37,7 +43,9 @@ impl fmt::Display for Place {
         match self {
             Place::Declaration { file, name, row: None } => write!(f, "{file} {name}"),
             Place::Declaration { file, name, row: Some(row) } => write!(f, "{file} {name} {row}"),
-            Place::Function(name) => write!(f, "fn {name}"),
+            Place::Function { name, goal: None } => write!(f, "fn {name}"),
+            Place::Function { name, goal: Some(goal) } => write!(f, "fn {name} {goal}"),
+            Place::Goal { file, goal } => write!(f, "{file} {goal}"),
         }
     }
 }

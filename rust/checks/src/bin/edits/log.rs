@@ -4,22 +4,17 @@ use crate::edit::Place;
 use std::fs;
 use std::path::Path;
 
-/// What an error says that only a proof's shape caused: a need, a place on the way to one, or a field of it is not
-/// there.
-const UNFIT: [&str; 12] = [
-    "has no `Need-",
-    "has no `After-",
-    "has no `At-",
-    "has no `In-",
-    "has no `InvT-",
-    "has no `MeasureT-",
-    "has no `Then",
-    "has no `Else",
-    "has no `Start",
-    "has no `Tie`",
-    "has no `Joined",
-    "has no field `",
-];
+/// What an error says that only a proof's shape caused: a goal, a place on the way to one, or a fact there has another
+/// name or is gone.
+const UNFIT: [&str; 3] = ["has no `", "has no field", "is not in scope"];
+
+/// What an error says that follows from another.
+const FOLLOWS: [&str; 2] = ["was not admitted", "was rejected"];
+
+/// What a note says of a goal that the checker does not prove by itself, and what it adds where it knows values for
+/// which the goal is false.
+const OPEN: &str = ": it is not proved that ";
+const FALSE: &str = "allow values at which this goal is false";
 
 /// An error in a file of the crate: its line and column, the declaration that it is in, and what it says.
 struct Error {
@@ -32,24 +27,16 @@ struct Error {
 
 impl Error {
     /// The error that a line of the log begins.
-    fn read(line: &str, prefix: &str) -> Option<Error> {
+    fn read(line: &str) -> Option<Error> {
         let (place, said) = line.split_once(": error: ")?;
-        let (_, place) = place.split_once(prefix)?;
-        let mut parts = place.rsplitn(3, ':');
-        let (column, line, file) = (parts.next()?, parts.next()?, parts.next()?);
+        let (file, line, column) = placed(place)?;
         let declaration = said.strip_prefix('`').and_then(|rest| rest.split_once("`: ")).map_or("", |(name, _)| name);
-        Some(Error {
-            file: file.to_string(),
-            line: line.parse().ok()?,
-            column: column.parse().ok()?,
-            declaration: declaration.to_string(),
-            said: said.to_string(),
-        })
+        Some(Error { file, line, column, declaration: declaration.to_string(), said: said.to_string() })
     }
 
     /// Whether the error follows from another.
     fn follows(&self) -> bool {
-        self.said.contains("was not admitted")
+        FOLLOWS.iter().any(|words| self.said.contains(words))
     }
 
     /// Whether it says only that the proof no longer fits the code's shape.
@@ -57,9 +44,14 @@ impl Error {
         UNFIT.iter().any(|words| self.said.contains(words))
     }
 
+    /// Whether it is in the answers that a function's goals have, each for itself.
+    fn in_answers(&self) -> bool {
+        self.file.ends_with("/Answers.antt")
+    }
+
     /// The row that it is in: the last name before it with a sign of equality, but for those that `let` gives.
-    fn row(&self, copy: &Path) -> Option<String> {
-        let text = fs::read_to_string(copy.join(&self.file)).ok()?;
+    fn row(&self, folders: &[&Path]) -> Option<String> {
+        let text = folders.iter().find_map(|folder| fs::read_to_string(folder.join(&self.file)).ok())?;
         let mut lines: Vec<String> = text.lines().take(self.line).map(str::to_string).collect();
         let last = lines.last_mut()?;
         *last = last.chars().take(self.column.saturating_sub(1)).collect();
@@ -70,22 +62,60 @@ impl Error {
     }
 }
 
-/// The function without a proof file that a line says is not proved, unless that follows from a function that it calls.
-fn unproved_by(line: &str) -> Option<String> {
-    let (name, why) = line.strip_prefix("fn ")?.split_once(": no proof: ")?;
-    (!why.contains("which is not proved")).then(|| name.to_string())
+/// The file, the line and the column that a place spells.
+fn placed(place: &str) -> Option<(String, usize, usize)> {
+    let mut parts = place.rsplitn(3, ':');
+    let (column, line, file) = (parts.next()?, parts.next()?, parts.next()?);
+    Some((file.trim_start_matches("./").to_string(), line.parse().ok()?, column.parse().ok()?))
 }
 
-/// The errors of a log, and the functions without a proof file that were not proved.
+/// A goal that the checker tried to prove by itself and did not: its function, the file of code, its name, and whether
+/// the checker knows values for which it is false.
+struct Fallen {
+    function: String,
+    file: String,
+    goal: String,
+    is_false: bool,
+}
+
+impl Fallen {
+    /// The goal that a note of the log tells, of a function that the log names after it.
+    fn read(line: &str) -> Option<Fallen> {
+        let (place, said) = line.strip_prefix("note: ")?.split_once(OPEN)?;
+        let (file, _, _) = placed(place)?;
+        let goal = said.split_once("(`")?.1.split_once("`)")?.0;
+        Some(Fallen { function: String::new(), file, goal: goal.to_string(), is_false: said.contains(FALSE) })
+    }
+
+    /// The folder of its function's proofs, as a proof file's path begins.
+    fn proofs(&self) -> String {
+        let parts: Vec<&str> = self.function.split("::").skip(1).collect();
+        format!("proofs/{}/", parts.join("/"))
+    }
+}
+
+/// The function whose end a line of the log tells.
+fn function_told(line: &str) -> Option<&str> {
+    line.strip_prefix("fn ")?.split_once(": ").map(|(name, _)| name)
+}
+
+/// What a log shows of a place: that it is refused, that a proof only no longer fits, or nothing.
+enum Shown {
+    Refused,
+    Unfit(String),
+    Nothing,
+}
+
+/// The errors of a log, and the goals that the checker did not prove by itself.
 pub struct Log {
     errors: Vec<Error>,
-    unproved: Vec<String>,
+    fallen: Vec<Fallen>,
 }
 
 impl Log {
-    /// The log of an edit whose copies of files have the prefix in their paths.
-    pub fn read(text: &str, prefix: &str) -> Log {
-        let (mut errors, mut unproved): (Vec<Error>, Vec<String>) = (Vec::new(), Vec::new());
+    /// What a check printed.
+    pub fn read(text: &str) -> Log {
+        let (mut errors, mut fallen): (Vec<Error>, Vec<Fallen>) = (Vec::new(), Vec::new());
         let mut open = false;
         for line in text.lines() {
             if line.starts_with(' ') {
@@ -95,29 +125,62 @@ impl Log {
                 }
                 continue;
             }
-            let error = Error::read(line, prefix);
+            let error = Error::read(line);
             open = error.is_some();
             errors.extend(error);
-            unproved.extend(unproved_by(line));
+            fallen.extend(Fallen::read(line));
+            // A function's notes stand above its own line.
+            let Some(function) = function_told(line) else { continue };
+            for goal in fallen.iter_mut().rev().take_while(|goal| goal.function.is_empty()) {
+                goal.function = function.to_string();
+            }
         }
-        Log { errors, unproved }
+        Log { errors, fallen }
     }
 
-    /// What is missing at a place, if anything is.
-    pub fn missing(&self, place: &Place, copy: &Path) -> Option<String> {
-        let Place::Declaration { file, name, row } = place else { return self.function_missing(place) };
-        let in_file = || self.errors.iter().filter(|e| &e.file == file);
-        if in_file().next().is_some_and(Error::unfit) {
-            return Some(format!("{file} only became unfit"));
+    /// What is missing at a place, if anything is. The folders have the files of the log, the first before the others.
+    pub fn missing(&self, place: &Place, folders: &[&Path]) -> Option<String> {
+        let shown = match place {
+            Place::Declaration { file, name, row } => self.declaration_shown(file, name, row.as_deref(), folders),
+            Place::Function { name, goal: None } => self.goal_shown(|fallen| &fallen.function == name),
+            Place::Function { name, goal: Some(goal) } => {
+                self.goal_shown(|fallen| &fallen.function == name && &fallen.goal == goal)
+            }
+            Place::Goal { file, goal } => self.goal_shown(|fallen| &fallen.file == file && &fallen.goal == goal),
+        };
+        match shown {
+            Shown::Refused => None,
+            Shown::Unfit(what) => Some(format!("{what} only became unfit")),
+            Shown::Nothing => Some(format!("not refused in {place}")),
         }
-        let here = |e: &&Error| &e.declaration == name && (row.is_none() || e.row(copy) == *row);
-        let mut own = in_file().filter(here).filter(|e| !e.follows() && !e.unfit());
-        own.next().is_none().then(|| format!("not refused in {place}"))
     }
 
-    /// What is missing where a function has to be unproved.
-    fn function_missing(&self, place: &Place) -> Option<String> {
-        let Place::Function(name) = place else { return None };
-        (!self.unproved.contains(name)).then(|| format!("not refused in {place}"))
+    /// What the log shows of a declaration. A proof that is one walk of the code is unfit from its first error on; the
+    /// answers to a function's goals are each for themselves.
+    fn declaration_shown(&self, file: &str, name: &str, row: Option<&str>, folders: &[&Path]) -> Shown {
+        let in_file = || self.errors.iter().filter(|error| error.file == file);
+        let mut walk = in_file().filter(|error| !error.in_answers() || error.declaration == name);
+        if walk.next().is_some_and(Error::unfit) {
+            return Shown::Unfit(file.to_string());
+        }
+        let here = |e: &&Error| e.declaration == name && (row.is_none() || e.row(folders).as_deref() == row);
+        let mut own = in_file().filter(here).filter(|error| !error.follows() && !error.unfit());
+        own.next().map_or(Shown::Nothing, |_| Shown::Refused)
+    }
+
+    /// What the log shows of a goal that the checker proved by itself. Where an answer of its function became unfit, an
+    /// edit gave goals other names, and one that falls may want the answer that it had: then it has to be false for
+    /// values that the checker knows.
+    fn goal_shown(&self, here: impl Fn(&Fallen) -> bool) -> Shown {
+        let unfit = |fallen: &Fallen| {
+            let proofs = fallen.proofs();
+            self.errors.iter().any(|error| error.file.starts_with(&proofs) && error.unfit())
+        };
+        let fallen: Vec<&Fallen> = self.fallen.iter().filter(|fallen| here(fallen)).collect();
+        match fallen.first() {
+            None => Shown::Nothing,
+            Some(_) if fallen.iter().any(|fallen| fallen.is_false || !unfit(fallen)) => Shown::Refused,
+            Some(first) => Shown::Unfit(first.proofs()),
+        }
     }
 }

@@ -4,14 +4,21 @@
 //! with its name, one or more lines `# refused in: PLACE`, and the replacements that make it. A place is a fact that it
 //! breaks:
 //!
-//!     # refused in: FILE DECLARATION [ROW]    a proof or a law of the crate, and a row of it
-//!     # refused in: fn PATH                   a function that has no proof file, with its crate and modules
+//!     # refused in: FILE DECLARATION [ROW]    an answer, a proof or a law of the crate (.antt), and a row of it
+//!     # refused in: fn PATH [GOAL]            a goal of a function that the checker proves by itself, whether or not
+//!                                             the function has a proof file; PATH begins with the crate
+//!     # refused in: FILE GOAL                 the same, by the function's file (.rt)
 //!
 //! `edits apply` sees that each edit is well formed, before `rt ci` starts: every text to be replaced is there exactly
 //! once, no two wrong programs of an edit change one function or name one place, no two of a crate have one name, and
-//! no edit has more than eight of them. `edits refused` reads the logs that `rt ci` left: at every place there must be
-//! an error of its own. An error that follows from another ("was not admitted") is none, nor one that says only that
-//! the proof no longer fits the code's shape. Both print a line of figures, or a line for each fault; the status tells.
+//! no edit has more than eight of them. `edits refused` reads the logs that `.ci/edits` kept of the edited crates'
+//! checks: at every place there must be an error of its own, or the goal must not be proved. An error that follows from
+//! another ("was not admitted") is none, nor one that says only that the proof no longer fits the code's shape. Both
+//! print a line of figures, or a line for each fault; the status tells. Both take the names of crates, and judge all
+//! where none is named.
+//!
+//! `edits list` prints each crate and edit. `edits put CRATE EDIT FOLDER` writes the files that an edit changes, as it
+//! leaves them, below a folder.
 
 use std::collections::HashMap;
 use std::path::{Path, PathBuf};
@@ -66,8 +73,8 @@ fn names_in(folder: &Path) -> Vec<String> {
     names
 }
 
-/// The files of a crate as an edit leaves them, one replacement after the other.
-fn applied(named: &Named) -> Result<(), String> {
+/// The files of a crate that an edit changes, as it leaves them, one replacement after the other.
+fn applied(named: &Named) -> Result<HashMap<&str, String>, String> {
     let mut files: HashMap<&str, String> = HashMap::new();
     for replacement in named.edit.programs.iter().flat_map(|p| &p.replacements) {
         let path = PathBuf::from("crates").join(&named.krate).join(&replacement.file);
@@ -81,6 +88,18 @@ fn applied(named: &Named) -> Result<(), String> {
             return Err(format!("in {} there is {times} times: {}", replacement.file, replacement.old));
         }
         *text = text.replacen(&replacement.old, &replacement.new, 1);
+    }
+    Ok(files)
+}
+
+/// Writes the files that an edit changes, as it leaves them, below a folder.
+fn put(named: &Named, folder: &Path) -> Result<(), String> {
+    for (file, text) in applied(named)? {
+        let path = folder.join(file);
+        let above = path.parent().unwrap_or(folder);
+        fs::create_dir_all(above)
+            .and_then(|()| fs::write(&path, text))
+            .map_err(|_| format!("{} cannot be written", path.display()))?;
     }
     Ok(())
 }
@@ -125,12 +144,13 @@ fn form_faults(named: &Named) -> Vec<String> {
 /// What an edit's log does not show.
 fn refusal_faults(named: &Named) -> Vec<String> {
     let copy = PathBuf::from("target/must-fail").join(&named.krate).join(&named.label);
+    let own = PathBuf::from("crates").join(&named.krate);
     let log = match fs::read_to_string(copy.join(".log")) {
-        Ok(text) => Log::read(&text, &format!("/must-fail/{}/{}/", named.krate, named.label)),
+        Ok(text) => Log::read(&text),
         Err(_) => return vec![named.fault("it left no log")],
     };
     let places = named.edit.programs.iter().flat_map(|p| &p.places);
-    places.filter_map(|place| log.missing(place, &copy).map(|what| named.fault(&what))).collect()
+    places.filter_map(|place| log.missing(place, &[&copy, &own]).map(|what| named.fault(&what))).collect()
 }
 
 /// The names that two wrong programs of a crate have.
@@ -143,19 +163,28 @@ fn names_twice(all: &[Named]) -> Vec<String> {
     names.windows(2).filter(|pair| pair[0] == pair[1]).map(|pair| format!("{}: two have this name", pair[0])).collect()
 }
 
-/// Judges all edits, and prints the faults.
-fn main() -> ExitCode {
-    let mut faults = Vec::new();
-    let all = edits(&mut faults);
-    faults.extend(names_twice(&all));
-    let (judge, said): (fn(&Named) -> Vec<String>, &str) = match env::args().nth(1).as_deref() {
-        Some("apply") => (form_faults, "each can be applied"),
-        Some("refused") => (refusal_faults, "each refused for the fact that it names"),
-        _ => {
-            eprintln!("usage: edits apply | refused, at the top of the repository");
-            return ExitCode::from(2);
-        }
-    };
+/// Prints the crate and the name of each edit.
+fn list(all: &[Named], faults: &[String]) -> Result<(), String> {
+    all.iter().for_each(|named| println!("{} {}", named.krate, named.label));
+    faults.first().map_or(Ok(()), |fault| Err(fault.clone()))
+}
+
+/// The edit of a crate and a name.
+fn find<'a>(all: &'a [Named], krate: &str, label: &str) -> Result<&'a Named, String> {
+    let mut found = all.iter().filter(|named| named.krate == krate && named.label == label);
+    found.next().ok_or_else(|| format!("there is no edit {krate}/{label}"))
+}
+
+/// Ends with what failed, if something did.
+fn ended(done: Result<(), String>) -> ExitCode {
+    let Err(what) = done else { return ExitCode::SUCCESS };
+    println!("edits: {what}");
+    ExitCode::from(1)
+}
+
+/// Judges edits, and prints the faults.
+fn judged(all: &[Named], mut faults: Vec<String>, judge: fn(&Named) -> Vec<String>, said: &str) -> ExitCode {
+    faults.extend(names_twice(all));
     faults.extend(all.iter().flat_map(judge));
     for fault in &faults {
         println!("edits: {fault}");
@@ -167,4 +196,28 @@ fn main() -> ExitCode {
     let programs: usize = all.iter().map(|named| named.edit.programs.len()).sum();
     println!("edits: {programs} wrong programs in {} edits, {said}", all.len());
     ExitCode::SUCCESS
+}
+
+/// Does what the arguments say.
+fn main() -> ExitCode {
+    let mut faults = Vec::new();
+    let mut all = edits(&mut faults);
+    let words: Vec<String> = env::args().skip(1).collect();
+    match words.iter().map(String::as_str).collect::<Vec<_>>()[..] {
+        [verb @ ("apply" | "refused"), ref crates @ ..] => {
+            all.retain(|named| crates.is_empty() || crates.contains(&named.krate.as_str()));
+            match verb {
+                "apply" => judged(&all, faults, form_faults, "each can be applied"),
+                _ => judged(&all, faults, refusal_faults, "each refused for the fact that it names"),
+            }
+        }
+        ["list"] => ended(list(&all, &faults)),
+        ["put", krate, label, folder] => {
+            ended(find(&all, krate, label).and_then(|named| put(named, Path::new(folder))))
+        }
+        _ => {
+            eprintln!("usage: edits apply|refused [CRATE ..] | list | put CRATE EDIT FOLDER, at the repository's root");
+            ExitCode::from(2)
+        }
+    }
 }
