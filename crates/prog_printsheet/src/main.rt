@@ -40,8 +40,8 @@ fn print_sheet(input: &[u8]) -> bool {
 // All that is printed for the first `n` bytes of `room`, and whether it was written. It is called with what was read
 // into a buffer: one that has room for all bytes that count, and for no other.
 fn print_read(room: &[u8], n: usize) -> bool
-    requires room_len { length room.now ≡ most_input }
-    requires n_in_bounds { n ≤ length room.now }
+    requires room_size { length room.now ≡ most_input }
+    requires n_within { n ≤ length room.now }
 {
     print_sheet(&room[..n])
 }

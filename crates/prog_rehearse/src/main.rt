@@ -15,8 +15,8 @@ const MOST: usize = 65536;
 // All lines of the first `n` bytes of `room`, and whether they were written. It is called with what was read into a
 // buffer: one that has room for all bytes that count, and for no other.
 fn rehearse(room: &[u8], n: usize) -> bool
-    requires room_len { length room.now ≡ most_read }
-    requires n_in_bounds { n ≤ length room.now }
+    requires room_size { length room.now ≡ most_read }
+    requires n_within { n ≤ length room.now }
 {
     print_score(&room[..n], Format::Plain)
 }

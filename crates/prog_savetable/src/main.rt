@@ -54,9 +54,9 @@ fn tell(stream: &[u8], out: &mut [u8]) -> Told
 // What there is to tell of the first `n` bytes of `room`. It is called with what was read into a buffer: one that has
 // room for all bytes that count, and for no other.
 fn tell_read(room: &[u8], n: usize, out: &mut [u8]) -> Told
-    requires room_len { length room.now ≡ most_read }
-    requires n_in_bounds { n ≤ length room.now }
-    requires longest_table_in_bounds { longest_table ≤ length out.old }
+    requires room_size { length room.now ≡ most_read }
+    requires n_within { n ≤ length room.now }
+    requires has_room { longest_table ≤ length out.old }
     ensures { ToldOf (take n room.now) out.new result }
 {
     tell(&room[..n], out)

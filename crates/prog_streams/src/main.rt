@@ -60,8 +60,8 @@ fn line_end(text: &[u8], from: usize) -> usize
 
 // What a line spells with one digit more; a byte that has both digits is put after the others.
 fn with_digit(s: Spelled, d: u8, bytes: &mut [u8]) -> Spelled
-    requires count_in_bounds { s.count ≤ length bytes.old }
-    requires d_bound { d ≤ 15 }
+    requires count_within { s.count ≤ length bytes.old }
+    requires is_digit { d ≤ 15 }
     ensures { result.count ≤ length bytes.new }
 {
     let at = s.count;

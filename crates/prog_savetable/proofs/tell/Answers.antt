@@ -1,0 +1,22 @@
+-- `tell` writes the line of a refused load, and of an accepted one saves the model, which it puts into words first.
+use native.Mathlib.Omega.{arith}
+use Rattle.load_call.specs.LoadOwed.{accepted_few}
+use Rattle.prog_savetable.proofs.Tellings.{refusal_told, table_told}
+use Rattle.prog_savetable.proofs.tell.Goals as goal
+
+pub returns-then-loaded-ne0 : goal.returns-then-loaded-ne0
+returns-then-loaded-ne0 c =
+    refusal_told _ _ _ c.load-loaded.result _ c.load-loaded.ensures.loads c.if-loaded-ne0.true c.requires
+    c.write_refused_at-line.ensures.written_as
+    c.write_refused_at-line.ensures.length_bound
+
+pub put_fitting-requires : goal.put_fitting-requires
+put_fitting-requires c =
+    let few = accepted_few _ c.load-loaded.result c.load-loaded.ensures.loads c.if-loaded-ne0.false in
+    record { few_parts = few; table_there = omega arith; state_there = omega arith }
+
+pub returns : goal.returns
+returns c =
+    table_told _ _ _ _ _ c.load-loaded.result _ c.load-loaded.ensures.loads c.if-loaded-ne0.false c.requires
+    c.put_fitting.ensures.model_put
+    c.save-saved.ensures
