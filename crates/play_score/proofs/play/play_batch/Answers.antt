@@ -25,15 +25,6 @@ play_exchanged-played-requires c =
       line_room = omega arith;
     }
 
-pub shape_of-first-then-played : goal.shape_of-first-then-played
-shape_of-first-then-played c = omega arith
-
-pub shape_of-second-then-played : goal.shape_of-second-then-played
-shape_of-second-then-played c = omega arith
-
-pub shape_of-lines-then-played : goal.shape_of-lines-then-played
-shape_of-lines-then-played c = omega arith
-
 pub returns-then-played : goal.returns-then-played
 returns-then-played c =
     let played = c.play_exchanged-played.ensures in
@@ -66,15 +57,6 @@ loop-lines-preserved c =
       omega (arith, later.0, least),
       λ some. (omega (arith, later.0, least), omega (arith, later.1, least)),
     )
-
-pub shape_of-first : goal.shape_of-first
-shape_of-first c = omega arith
-
-pub shape_of-second : goal.shape_of-second
-shape_of-second c = omega arith
-
-pub shape_of-lines : goal.shape_of-lines
-shape_of-lines c = omega arith
 
 pub returns : goal.returns
 unfolding lines_left

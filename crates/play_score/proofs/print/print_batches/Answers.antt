@@ -30,24 +30,6 @@ pub slice_bounds-write_all-end-in-loop-format : goal.slice_bounds-write_all-end-
 slice_bounds-write_all-end-in-loop-format c =
     simp length-take (omega (arith, c.play_batch-played.ensures.batched.room))
 
-pub shape_of-first-then-not-write_all : goal.shape_of-first-then-not-write_all
-shape_of-first-then-not-write_all c = omega arith
-
-pub shape_of-second-then-not-write_all : goal.shape_of-second-then-not-write_all
-shape_of-second-then-not-write_all c = omega arith
-
-pub shape_of-lines-then-not-write_all : goal.shape_of-lines-then-not-write_all
-shape_of-lines-then-not-write_all c = omega arith
-
-pub shape_of-first-then-played : goal.shape_of-first-then-played
-shape_of-first-then-played c = omega arith
-
-pub shape_of-second-then-played : goal.shape_of-second-then-played
-shape_of-second-then-played c = omega arith
-
-pub shape_of-lines-then-played : goal.shape_of-lines-then-played
-shape_of-lines-then-played c = omega arith
-
 pub loop-format-smaller : goal.loop-format-smaller
 loop-format-smaller c =
     let later =
