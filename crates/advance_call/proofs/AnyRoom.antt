@@ -1,5 +1,5 @@
--- Demand 3 of every list of calls on lent words, however many words each was lent. The idea: a call that was lent too few
--- is refused, writes no word, and hands on its state, so the calls that had room are a chain.
+-- Demand 3 of every list of calls on lent words, however many words each was lent. The idea: a call that was lent too
+-- few is refused, writes no word, and hands on its state, so the calls that had room are a chain.
 use Rattle.std.specs.Prelude.{ℕ, ◌≤◌, ◌<◌, ◌≡◌, refl, true, false, ◌⊎◌, eqb, length}
 use Rattle.std.proofs.Common.{arith, sym, ◌∙◌, true≢false, inl, inr, eq-eqb, ne_eqb, leb-true, leb-false}
 use Rattle.std.proofs.Math.Decide.{ℕ_discrete}
@@ -17,7 +17,8 @@ use Rattle.advance_call.specs.Into.{lent_model, outcome_into}
 use Rattle.advance_call.specs.IntoLaws.{with_barred, with_short}
 use Rattle.advance_call.specs.EveryLent.{LentCall, next_state, LentChain, spells_on}
 use Rattle.advance_call.specs.EveryLent.{every_lent_list}
-use Rattle.advance_call.specs.AnyRoom.{Promised, AnyRoomChain, last_state, has_room, with_room, short_number, ShortCall, RoomAlone, WholeLentList}
+use Rattle.advance_call.specs.AnyRoom.{Promised, AnyRoomChain, last_state, has_room, with_room, short_number}
+use Rattle.advance_call.specs.AnyRoom.{ShortCall, RoomAlone, WholeLentList}
 
 -- how a call ends that was lent too few words
 short_outcome : (ts os : List ℕ) (w room : ℕ) → spelled ts os ≡ true → room < state_words (part_count ts) →

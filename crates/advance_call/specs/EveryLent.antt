@@ -150,5 +150,6 @@ unfolding trimmed_loaded
 every_lent_list bs ts s accepted is spells cs chain =
     let loaded : Loaded = record { number = 0; position = (load bs).position; model = model_in ts s } in
     whole_list bs loaded (machine_calls_of ts cs)
-    (ap₂ (λ (n : ℕ) (m : Model). record { number = n; position = (load bs).position; model = m }) (sym accepted) is) refl
+    (ap₂ (λ (n : ℕ) (m : Model). record { number = n; position = (load bs).position; model = m }) (sym accepted) is)
+    refl
     (lent_chain ts s cs spells chain)

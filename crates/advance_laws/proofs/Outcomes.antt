@@ -8,7 +8,8 @@ use Rattle.machine.specs.WholeList.{AllAccept}
 use Rattle.advance_laws.specs.Found.{Found}
 use Rattle.advance_laws.proofs.Found.{found}
 use Rattle.advance_laws.specs.SearchTurns.{RoundOwes, turn_fair}
-use Rattle.advance_laws.specs.Outcomes.{OutcomeFacts, found_facts, barred_facts, not_barred, outcome_barred, outcome_searched}
+use Rattle.advance_laws.specs.Outcomes.{OutcomeFacts, found_facts, barred_facts, not_barred, outcome_barred}
+use Rattle.advance_laws.specs.Outcomes.{outcome_searched}
 
 -- what the search finds for a call that is not barred
 pub outcome_found : {m : Model} {potential : ℕ → ℕ} → RoundOwes m potential → (w : ℕ) → barred m w ≡ 0 →

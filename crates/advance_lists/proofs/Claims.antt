@@ -1,5 +1,5 @@
--- Document 01's third demand, of every chain of calls from a sound model: what `Retraced` says of the chain, and that its
--- last model is sound.
+-- Document 01's third demand, of every chain of calls from a sound model: what `Retraced` says of the chain, and that
+-- its last model is sound.
 use Rattle.std.specs.Prelude.{◌≡◌, true, List}
 use Rattle.std.proofs.Common.{ap, ◌∙◌}
 use mathlib.Core.List.Memᴰ

@@ -1,4 +1,5 @@
--- Steps that all parts accept, where each is made, lead through every pulse's point (k × P, 1) once they pass (k × P, 0).
+-- Steps that all parts accept, where each is made, lead through every pulse's point (k × P, 1) once they pass
+-- (k × P, 0).
 use Rattle.std.specs.Prelude.{ℕ, ◌*◌, ◌<◌, ◌≡◌, length}
 use Rattle.std.proofs.Common.{arith, inl}
 use mathlib.Core.List.{List, Memᴰ}

@@ -3,7 +3,8 @@
 -- leads past the next multiple of P; and there the pulse is due, so that the next step is 0 and leads to (k × P, 1).
 -- Assumes nothing.
 use Rattle.std.specs.Prelude.{ℕ, zero, suc, ◌+◌, ◌*◌, ◌/◌, ◌%◌, ◌≤◌, ◌<◌, ◌≡◌, Bool, true, false, ◌⊎◌, eqb, ltb}
-use Rattle.std.proofs.Common.{arith, mul-zero, div-lt_iff_lt-mul, mul-le-mul_right, ap, sym, ◌∙◌, true≢false, inl, inr, ltb-true, ltb-false, lt-ltb, eq-eqb, ne_eqb}
+use Rattle.std.proofs.Common.{arith, mul-zero, div-lt_iff_lt-mul, mul-le-mul_right, ap, sym, ◌∙◌, true≢false, inl}
+use Rattle.std.proofs.Common.{inr, ltb-true, ltb-false, lt-ltb, eq-eqb, ne_eqb}
 use Rattle.std.proofs.Math.Nat.{mul-mod_left}
 use Rattle.std.proofs.lemmas.Bool.{false≢true}
 use mathlib.Core.List.{List, [], ◌∷◌, Memᴰ}

@@ -41,7 +41,8 @@ clear_set (b ∷ marks) zero = refl
 clear_set (b ∷ marks) (suc k) = clear_set marks k
 
 -- clearing one mark sets no other
-pub marked_before : (marks : List Bool) (k j : ℕ) → get_or (set marks k false) j false ≡ true → get_or marks j false ≡ true
+pub marked_before : (marks : List Bool) (k j : ℕ) → get_or (set marks k false) j false ≡ true → get_or marks j false ≡
+    true
 marked_before [] k j e = e
 marked_before (b ∷ marks) zero zero e = absurd (false≢true e)
 marked_before (b ∷ marks) zero (suc j) e = e

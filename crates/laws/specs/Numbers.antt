@@ -1,6 +1,8 @@
 -- Laws of numbers that are not in the library: of two numbers, and of division. Assumes nothing.
-use Rattle.std.specs.Prelude.{ℕ, zero, suc, ◌+◌, ◌*◌, ◌/◌, ◌≤◌, ◌<◌, min, max, ◌≡◌, true, false, not, ◌&&◌, ◌⊎◌, leb, ltb}
-use Rattle.std.proofs.Common.{arith, le-div_iff_mul-le, div-lt_iff_lt-mul, div-mul-le_self, le-mul_of_pos_right, le_trans, inl, inr, ⊎_elim, leb-true, leb-false, le-leb, ltb-true, ltb-false}
+use Rattle.std.specs.Prelude.{ℕ, zero, suc, ◌+◌, ◌*◌, ◌/◌, ◌≤◌, ◌<◌, min, max, ◌≡◌, true, false, not, ◌&&◌, ◌⊎◌, leb}
+use Rattle.std.specs.Prelude.{ltb}
+use Rattle.std.proofs.Common.{arith, le-div_iff_mul-le, div-lt_iff_lt-mul, div-mul-le_self, le-mul_of_pos_right}
+use Rattle.std.proofs.Common.{le_trans, inl, inr, ⊎_elim, leb-true, leb-false, le-leb, ltb-true, ltb-false}
 use Rattle.std.proofs.Math.Nat.{lt-div-mul-add, div-zero}
 use Rattle.std.proofs.Math.Logic.{⊎_map}
 use Rattle.std.proofs.lemmas.Bool.{lt-leb}

@@ -1,6 +1,7 @@
 -- The first elements of a list, mapped; and a list whose first elements are changed and whose others are not yet, which
 -- is what a loop over an array holds partway. Assumes nothing.
-use Rattle.std.specs.Prelude.{ℕ, zero, suc, ◌+◌, ◌≤◌, ◌<◌, ◌≡◌, refl, List, [], ◌∷◌, ◌++◌, map, length, get_or, set, take, drop}
+use Rattle.std.specs.Prelude.{ℕ, zero, suc, ◌+◌, ◌≤◌, ◌<◌, ◌≡◌, refl, List, [], ◌∷◌, ◌++◌, map, length, get_or, set}
+use Rattle.std.specs.Prelude.{take, drop}
 use Rattle.std.proofs.Common.{arith, add-one, ap, ap₂, sym, ◌∙◌, length-take, get_or-take, length-take-le, take_at}
 use Rattle.std.proofs.lemmas.List.{length-map}
 use Rattle.laws.specs.ListLaws.{getD_map_in}

@@ -2,8 +2,10 @@
 -- which numbers fit a word, and what values and clamping are by these. A signed number is `pos n` or `negsuc n`, which
 -- is −(n + 1), so each law goes by cases on these, and a bound on it is a bound on its absolute value, `nat_abs`.
 -- Assumes nothing.
-use Rattle.std.specs.Prelude.{ℕ, zero, suc, ◌+◌, ◌-◌, ◌*◌, ◌^◌, ◌≤◌, ◌<◌, min, ◌≡◌, refl, Bool, true, false, cond, eqb, ltb, ℤ, pos, negsuc, nat_abs, neg_ℤ, ◌+ℤ◌, ◌-ℤ◌, ◌*ℤ◌}
-use Rattle.std.proofs.Common.{mul-le-mul, le_trans, le_of_eq, arith, ap, true≢false, leb-true, le-leb, ltb-true, ltb-false, lt-ltb, ne_eqb}
+use Rattle.std.specs.Prelude.{ℕ, zero, suc, ◌+◌, ◌-◌, ◌*◌, ◌^◌, ◌≤◌, ◌<◌, min, ◌≡◌, refl, Bool, true, false, cond}
+use Rattle.std.specs.Prelude.{eqb, ltb, ℤ, pos, negsuc, nat_abs, neg_ℤ, ◌+ℤ◌, ◌-ℤ◌, ◌*ℤ◌}
+use Rattle.std.proofs.Common.{mul-le-mul, le_trans, le_of_eq, arith, ap, true≢false, leb-true, le-leb, ltb-true}
+use Rattle.std.proofs.Common.{ltb-false, lt-ltb, ne_eqb}
 use Rattle.std.proofs.lemmas.Bool.{false≢true, lt-leb}
 use Rattle.std.proofs.Math.IntN.{sub_ℕ}
 use Rattle.std.specs.Int.Signed.{mag, lt_z, le_z}

@@ -1,7 +1,8 @@
 -- The marks of a word: its binary digits as a list of Bools, lowest first; how trailing zeros find the first one, and
 -- what clearing one by subtraction comes to. Every law is over the width, the number of digits, by induction on it with
 -- a split on the lowest digit. Assumes nothing.
-use Rattle.std.specs.Prelude.{ℕ, zero, suc, ◌-◌, ◌*◌, ◌/◌, ◌%◌, ◌^◌, ◌≤◌, ◌<◌, ◌≡◌, refl, Bool, true, false, List, [], ◌∷◌, length, get_or, set, replicate}
+use Rattle.std.specs.Prelude.{ℕ, zero, suc, ◌-◌, ◌*◌, ◌/◌, ◌%◌, ◌^◌, ◌≤◌, ◌<◌, ◌≡◌, refl, Bool, true, false, List, []}
+use Rattle.std.specs.Prelude.{◌∷◌, length, get_or, set, replicate}
 use Rattle.std.proofs.Common.{arith, pow-suc, mul_comm, one-mul, div-one, ap, ◌∙◌, pow_pos, shl_exact}
 use Rattle.std.proofs.Math.Nat.{div-div-eq-div-mul}
 use Rattle.std.proofs.lemmas.Bool.{false≢true}

@@ -31,7 +31,8 @@ rowed (suc i) (c ∷ cs) [] = c ∷ cs
 rowed (suc i) (c ∷ cs) (row ∷ rows) = with_spans c row ∷ rowed i cs rows
 
 -- one more
-pub rowed_next : (i : ℕ) (cs : List Component) (rows : List (List ℕ)) (d : Component) → i < length cs → i < length rows →
+pub rowed_next : (i : ℕ) (cs : List Component) (rows : List (List ℕ)) (d : Component) → i < length cs →
+    i < length rows →
     set (rowed i cs rows) i (with_spans (get_or (rowed i cs rows) i d) (get_or rows i [])) ≡ rowed (suc i) cs rows
 unfolding rowed
 rowed_next i [] rows d here there = absurd (omega arith)
@@ -41,7 +42,8 @@ rowed_next (suc i) (c ∷ cs) (row ∷ rows) d here there =
     ap (λ l. with_spans c row ∷ l) (rowed_next i cs rows d (omega arith) (omega arith))
 
 -- all of them, trimmed
-pub rowed_all : (n : ℕ) (cs : List Component) (rows : List (List ℕ)) (count : ℕ) → length cs ≤ n → length cs ≤ length rows →
+pub rowed_all : (n : ℕ) (cs : List Component) (rows : List (List ℕ)) (count : ℕ) → length cs ≤ n →
+    length cs ≤ length rows →
     map trimmed_component (take count (rowed n cs rows)) ≡ joined (take count cs) rows
 unfolding rowed joined with_row trimmed_component
 rowed_all zero [] rows zero few there = refl

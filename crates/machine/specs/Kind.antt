@@ -1,7 +1,8 @@
 -- Document 01, "Kinds of part", with requests 1 and 2: numbers, ports, direct ports, operands; the output of each kind
 -- at a point; what sides and marks become. Document 01's own terms, a mark, a side and a direct port, are explained
 -- where they are defined. Assumes nothing.
-use Rattle.std.specs.Prelude.{ℕ, zero, suc, ◌-◌, ◌*◌, ◌/◌, ◌%◌, Bool, true, false, cond, ◌&&◌, List, [], ◌∷◌, get_or, eqb, leb, ltb, ℤ, pos, negsuc}
+use Rattle.std.specs.Prelude.{ℕ, zero, suc, ◌-◌, ◌*◌, ◌/◌, ◌%◌, Bool, true, false, cond, ◌&&◌, List, [], ◌∷◌, get_or}
+use Rattle.std.specs.Prelude.{eqb, leb, ltb, ℤ, pos, negsuc}
 use Rattle.machine.specs.declared.time.Point.{Point}
 use Rattle.machine.specs.declared.signal.Signal.{Signal}
 use Rattle.machine.specs.declared.signal.Signal.TheVariants.{Absent, Value}

@@ -1,7 +1,8 @@
 -- Document 01, "The table's bytes": the commands, what a table's bytes load to, every refusal with its number and
 -- position. Commands are read in turn; within one the order is 2, 3, 1, 6, 5, 12, 7, 8, then 9, 10, 11 at End. A stream
 -- is a list of bytes. Assumes nothing.
-use Rattle.std.specs.Prelude.{ℕ, zero, suc, ◌+◌, ◌-◌, ◌*◌, Bool, true, false, cond, not, ◌&&◌, ◌||◌, List, [], ◌∷◌, ◌++◌, length, get_or, set, eqb, leb, ltb, ℤ, pos, negsuc}
+use Rattle.std.specs.Prelude.{ℕ, zero, suc, ◌+◌, ◌-◌, ◌*◌, Bool, true, false, cond, not, ◌&&◌, ◌||◌, List, [], ◌∷◌}
+use Rattle.std.specs.Prelude.{◌++◌, length, get_or, set, eqb, leb, ltb, ℤ, pos, negsuc}
 use Rattle.machine.specs.declared.part.Kind.{Kind}
 use Rattle.machine.specs.declared.part.Source.{Source}
 use Rattle.machine.specs.declared.part.Source.TheVariants.{Unwired, From}

@@ -1,5 +1,6 @@
 -- Document 01, "Played examples": what the program `rehearse` prints, byte for byte. Assumes nothing.
-use Rattle.std.specs.Prelude.{ℕ, zero, suc, ◌+◌, ◌/◌, ◌%◌, cond, List, [], ◌∷◌, ◌++◌, length, take, eqb, ltb, ℤ, pos, negsuc}
+use Rattle.std.specs.Prelude.{ℕ, zero, suc, ◌+◌, ◌/◌, ◌%◌, cond, List, [], ◌∷◌, ◌++◌, length, take, eqb, ltb, ℤ, pos}
+use Rattle.std.specs.Prelude.{negsuc}
 use Rattle.machine.specs.declared.signal.Signal.{Signal}
 use Rattle.machine.specs.declared.signal.Signal.TheVariants.{Absent, Value}
 use Rattle.machine.specs.declared.part.Part.{Part}

@@ -1,6 +1,7 @@
 -- Document 02, request 5, "Print the rehearsal": what a sheet line shows of an answer, the line itself, what refuses
 -- it, and a reader of such lines. Assumes nothing.
-use Rattle.std.specs.Prelude.{ℕ, zero, suc, ◌+◌, ◌-◌, ◌*◌, ◌≤◌, ◌<◌, ◌≡◌, Bool, true, cond, ◌&&◌, List, [], ◌∷◌, ◌++◌, eqb, leb, ltb, ℤ, pos, negsuc, length, get_or, take, drop, replicate}
+use Rattle.std.specs.Prelude.{ℕ, zero, suc, ◌+◌, ◌-◌, ◌*◌, ◌≤◌, ◌<◌, ◌≡◌, Bool, true, cond, ◌&&◌, List, [], ◌∷◌, ◌++◌}
+use Rattle.std.specs.Prelude.{eqb, leb, ltb, ℤ, pos, negsuc, length, get_or, take, drop, replicate}
 use Rattle.machine.specs.declared.signal.Signal.{Signal}
 use Rattle.machine.specs.declared.signal.Signal.TheVariants.{Absent, Value}
 use Rattle.machine.specs.declared.model.Model.{Model}

@@ -1,6 +1,7 @@
 -- Document 01, "Time" and "Kinds of part", of a whole table: its ratios, what P comes to, the order of its parts, and
 -- loops. Assumes nothing.
-use Rattle.std.specs.Prelude.{ℕ, zero, suc, ◌*◌, ◌<◌, ◌≡◌, Bool, true, false, cond, not, ◌&&◌, ◌||◌, List, [], ◌∷◌, map, ◌⊎◌, length, get_or, set, replicate, leb}
+use Rattle.std.specs.Prelude.{ℕ, zero, suc, ◌*◌, ◌<◌, ◌≡◌, Bool, true, false, cond, not, ◌&&◌, ◌||◌, List, [], ◌∷◌}
+use Rattle.std.specs.Prelude.{map, ◌⊎◌, length, get_or, set, replicate, leb}
 use Rattle.std.proofs.Math.Option.{Option, some, none}
 use Rattle.machine.specs.declared.part.Source.{Source}
 use Rattle.machine.specs.declared.part.Source.TheVariants.{Unwired, From}

@@ -85,7 +85,8 @@ module _ (old : List Part) (now : Point) where
       where
         unwritten : Memᴰ j (i ∷ back) → ⊥
         unwritten m =
-            let there : j < length (components ps) = complete.below j (rw e (mathlib.Core.List.Memᴰ.append_right front m)) in
+            let there : j < length (components ps) =
+            complete.below j (rw e (mathlib.Core.List.Memᴰ.append_right front m)) in
             once_apart front (i ∷ back) j (rw e at complete.once) (complete.after front back j i e wire there) m
 
     -- a part's output is its row for the outputs that are stored at the end
@@ -132,7 +133,8 @@ module _ (old : List Part) (now : Point) where
             ((i : ℕ) → Memᴰ i front → stored qs i ≡ stored qs' i) →
             stored qs k ≡ stored qs' k
         step front back k e before =
-            let among : Memᴰ k ks = rw e (mathlib.Core.List.Memᴰ.append_right front (mathlib.Core.List.Memᴰ.head refl)) in
+            let among : Memᴰ k ks = rw e (mathlib.Core.List.Memᴰ.append_right front
+            (mathlib.Core.List.Memᴰ.head refl)) in
             let there : k < length ps = omega (arith, complete.below k among, components_length ps) in
             f.rows k there ∙
             (row_at old now ps qs qs' k there

@@ -1,7 +1,8 @@
 -- The order of parts: where it has all parts it is complete, each part comes after its direct sources, and the lowest
 -- part that may go goes next. All of it follows from one description of what `placed` gives (`Placing`), which is by
 -- induction on the list. Assumes nothing.
-use Rattle.std.specs.Prelude.{ℕ, zero, suc, ◌+◌, ◌≤◌, ◌<◌, ◌≡◌, Bool, true, false, not, cond, ◌&&◌, ◌||◌, ◌⊎◌, length, get_or, set, drop, replicate}
+use Rattle.std.specs.Prelude.{ℕ, zero, suc, ◌+◌, ◌≤◌, ◌<◌, ◌≡◌, Bool, true, false, not, cond, ◌&&◌, ◌||◌, ◌⊎◌, length}
+use Rattle.std.specs.Prelude.{get_or, set, drop, replicate}
 use native.Mathlib.Omega.{arith}
 use Rattle.std.proofs.Common.{sym, subst, ◌∙◌, inl, inr, ⊎_elim, drop_of_length-le, drop-cons}
 use Rattle.std.proofs.lemmas.Bool.{false≢true}

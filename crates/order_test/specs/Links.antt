@@ -1,7 +1,8 @@
 -- Links between the places of an order: the link of a place leads back over parts that are no higher than the part
 -- there. Assumes nothing.
 use Rattle.std.specs.Prelude.{ℕ, suc, ◌-◌, ◌≤◌, ◌<◌, ◌≡◌, true, false, ◌⊎◌, List, length, get_or, set, leb}
-use Rattle.std.proofs.Common.{arith, eq-or-lt_of_le, inl, inr, ⊎_elim, get_or-set_same, get_or-set_other, leb-true, leb-false}
+use Rattle.std.proofs.Common.{arith, eq-or-lt_of_le, inl, inr, ⊎_elim, get_or-set_same, get_or-set_other, leb-true}
+use Rattle.std.proofs.Common.{leb-false}
 use Rattle.laws.specs.Bools.{either}
 
 -- from place l up to place q the parts of the order ks are no higher than the part at q
@@ -24,7 +25,8 @@ pub link_none : (ks : List ℕ) (i : ℕ) → Link ks i i
 link_none ks i = record { within = omega arith; lower = λ t le lt. absurd (omega arith) }
 
 -- the part at place q, before what is passed, is no higher either: it is passed, with what its link leads over
-pub link_more : (ks : List ℕ) (i q l : ℕ) → Link ks i (suc q) → get_or ks q 0 ≤ get_or ks i 0 → Link ks q l → Link ks i l
+pub link_more : (ks : List ℕ) (i q l : ℕ) → Link ks i (suc q) → get_or ks q 0 ≤ get_or ks i 0 → Link ks q l →
+    Link ks i l
 link_more ks i q l walked le link =
     record {
       within = omega (arith, walked.within, link.within);
@@ -32,7 +34,8 @@ link_more ks i q l walked le link =
           λ t from before. by_place t from before (either (leb (suc q) t));
     }
   where
-    by_place : (t : ℕ) → l ≤ t → t < i → (leb (suc q) t ≡ true) ⊎ (leb (suc q) t ≡ false) → get_or ks t 0 ≤ get_or ks i 0
+    by_place : (t : ℕ) → l ≤ t → t < i → (leb (suc q) t ≡ true) ⊎ (leb (suc q) t ≡ false) →
+        get_or ks t 0 ≤ get_or ks i 0
     by_place t from before (inl u) = walked.lower t (leb-true (suc q) t u) before
     by_place t from before (inr u) =
         let at_most : t ≤ q = omega (arith, leb-false (suc q) t u) in

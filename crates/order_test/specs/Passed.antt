@@ -1,7 +1,9 @@
 -- What the test of an order keeps: the places that it has passed are in turn, with the numbers of the parts placed and
 -- the links of these places. What it asks of the next place decides whether that is in turn. Assumes nothing.
-use Rattle.std.specs.Prelude.{ℕ, suc, ◌-◌, ◌≤◌, ◌<◌, ◌≡◌, refl, true, false, ◌&&◌, ◌⊎◌, List, map, length, get_or, set, take, replicate, leb}
-use Rattle.std.proofs.Common.{arith, eq-or-lt_of_le, sym, ap, ◌∙◌, true≢false, inl, inr, ⊎_elim, length-set, length-take-le, le-leb, lt-ltb, le-ltb, leb-true, leb-false}
+use Rattle.std.specs.Prelude.{ℕ, suc, ◌-◌, ◌≤◌, ◌<◌, ◌≡◌, refl, true, false, ◌&&◌, ◌⊎◌, List, map, length, get_or}
+use Rattle.std.specs.Prelude.{set, take, replicate, leb}
+use Rattle.std.proofs.Common.{arith, eq-or-lt_of_le, sym, ap, ◌∙◌, true≢false, inl, inr, ⊎_elim, length-set}
+use Rattle.std.proofs.Common.{length-take-le, le-leb, lt-ltb, le-ltb, leb-true, leb-false}
 use Rattle.std.proofs.lemmas.Bool.{false≢true, lt-leb}
 use Rattle.std.proofs.lemmas.List.{length-map}
 use Rattle.machine.specs.declared.part.Component.{Component}

@@ -4,8 +4,10 @@
 -- parts; every part has a place, so both come to the same. Assumes nothing.
 use Prim.Native.Nat.{ℕ, zero, suc, ◌+◌, ◌-◌, ◌≤◌, ◌<◌}
 use native.Mathlib.Omega.{arith}
-use Rattle.std.proofs.Common.{eq-or-lt_of_le, sym, ◌∙◌, inl, inr, ⊎_elim, drop-cons, get_or-set_other, take-suc, take-take, eqb-true, le-leb, leb-true, leb-false}
-use Rattle.std.specs.Prelude.{◌≡◌, refl, Bool, true, false, ◌&&◌, ◌⊎◌, List, [], ◌∷◌, map, get_or, drop, set, replicate, leb, eqb}
+use Rattle.std.proofs.Common.{eq-or-lt_of_le, sym, ◌∙◌, inl, inr, ⊎_elim, drop-cons, get_or-set_other, take-suc}
+use Rattle.std.proofs.Common.{take-take, eqb-true, le-leb, leb-true, leb-false}
+use Rattle.std.specs.Prelude.{◌≡◌, refl, Bool, true, false, ◌&&◌, ◌⊎◌, List, [], ◌∷◌, map, get_or, drop, set}
+use Rattle.std.specs.Prelude.{replicate, leb, eqb}
 use Rattle.std.proofs.Math.Path.{ap}
 use Rattle.std.proofs.lemmas.Bool.{false≢true, eqb-false}
 use Rattle.std.proofs.Math.Option.{Option, some, none}
@@ -67,7 +69,8 @@ cleared_at n ks (suc d) p j h m e =
       get_or-set_other (marks_at n ks p) (get_or ks p 0) j false false other,
     ) m
 
-    here : (eqb j (get_or ks p 0) ≡ true) ⊎ (eqb j (get_or ks p 0) ≡ false) → get_or (marks_at n ks (suc p)) j false ≡ false →
+    here : (eqb j (get_or ks p 0) ≡ true) ⊎ (eqb j (get_or ks p 0) ≡ false) → get_or (marks_at n ks (suc p)) j false ≡
+        false →
         get_or ks p 0 ≡ j
     here (inl t) f = sym (eqb-true j (get_or ks p 0) t)
     here (inr t) f = absurd (false≢true (sym f ∙ kept (eqb-false j (get_or ks p 0) t)))
@@ -156,7 +159,8 @@ module _ (cs : List Component) (ds : List Direct) (of_parts : take (length cs) d
     lower_later p i le h lt =
         let t = turns i h in
         sources (marks_at (length cs) ks p) (get_or ks i 0) t.below ∙
-        t.passed_by p (⊎_elim (λ e. absurd (let same : get_or ks p 0 ≡ get_or ks i 0 = rw e in omega arith)) (λ less. less)
+        t.passed_by p (⊎_elim (λ e. absurd (let same : get_or ks p 0 ≡ get_or ks i 0 = rw e in omega arith))
+        (λ less. less)
         (eq-or-lt_of_le le)) lt
 
     -- the part at each place is the lowest that may go

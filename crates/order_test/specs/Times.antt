@@ -110,7 +110,12 @@ module _
       by_part : (eqb k (get_or ks i 0) ≡ true) ⊎ (eqb k (get_or ks i 0) ≡ false) →
           get_or (marks_at n ks p) k false ≡ ltb p (get_or (set after (get_or ks i 0) (suc i)) k 0)
       by_part (inl t) =
-          rw (eqb-true k (get_or ks i 0) t, own, placed.marked p (get_or ks i 0) le part, lt-ltb p (suc i) (omega arith))
+          rw (
+            eqb-true k (get_or ks i 0) t,
+            own,
+            placed.marked p (get_or ks i 0) le part,
+            lt-ltb p (suc i) (omega arith),
+          )
           (lt-ltb p (get_or after (get_or ks i 0) 0) (omega (arith, never_before)))
       by_part (inr t) = rw (other k (eqb-false k (get_or ks i 0) t)) (placed.marked p k le h)
 

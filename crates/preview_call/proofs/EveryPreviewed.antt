@@ -11,7 +11,8 @@ use Rattle.words_store.specs.Form.{spelled}
 use Rattle.advance_call.specs.Into.{lent_model}
 use Rattle.advance_call.specs.EveryLent.{LentCall, next_state, machine_calls_of, spells_on, every_lent_list}
 use Rattle.preview_call.specs.PreviewedInto.{shows, told, PreviewedInto}
-use Rattle.preview_call.specs.EveryPreviewed.{AnyLentCall, LentAdvance, LentPreview, LentMixed, lent_advances, LentUnaltered}
+use Rattle.preview_call.specs.EveryPreviewed.{AnyLentCall, LentAdvance, LentPreview, LentMixed, lent_advances}
+use Rattle.preview_call.specs.EveryPreviewed.{LentUnaltered}
 
 -- words that spell a model, and enough of them for a state, can show one
 shows_there : (ts s : List ℕ) (room : ℕ) → spelled ts s ≡ true → state_words (part_count ts) ≤ room →

@@ -1,6 +1,7 @@
 -- How long the bytes of a table are: those of each command, and of a table that fits at most 1,891, which is 59 for
 -- each part and 3. The idea: a kind has spans or a second port, and none has both. Assumes nothing.
-use Rattle.std.specs.Prelude.{ℕ, suc, ◌+◌, ◌*◌, ◌≤◌, ◌<◌, ◌≡◌, refl, Bool, true, false, cond, ◌&&◌, List, [], ◌∷◌, ◌++◌, length, ltb}
+use Rattle.std.specs.Prelude.{ℕ, suc, ◌+◌, ◌*◌, ◌≤◌, ◌<◌, ◌≡◌, refl, Bool, true, false, cond, ◌&&◌, List, [], ◌∷◌}
+use Rattle.std.specs.Prelude.{◌++◌, length, ltb}
 use Rattle.std.proofs.Common.{arith, length-append, ltb-true}
 use Rattle.std.proofs.Math.Bool.{and-eq-true_iff}
 use Rattle.machine.specs.declared.part.Kind.{Kind}

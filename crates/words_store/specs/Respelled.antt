@@ -51,4 +51,7 @@ respelled ts os ss h deep each =
     let kept : SpellingFacts ts ss =
     record { two = had.two; magnitude = had.magnitude; few = had.few; table = had.table; state = deep } in
     spelled_parts ts ss kept ∙
-    parts_all ts ss (part_count ts) (λ j low. ((parts_at ts os (part_count ts) j (all_parts ts os h) low).0, each j low))
+    parts_all ts ss (part_count ts) (λ j low. (
+      (parts_at ts os (part_count ts) j (all_parts ts os h) low).0,
+      each j low,
+    ))

@@ -2,7 +2,8 @@
 -- else; and the places of that model. The idea: a record's words lie apart from every other record's, so that each
 -- state but the one written is read from words that were kept. Assumes nothing.
 use Rattle.std.specs.Prelude.{ℕ, ◌+◌, ◌≤◌, ◌<◌, ◌≡◌, true, false, ◌⊎◌, eqb, ltb, length, get_or, set, drop}
-use Rattle.std.proofs.Common.{arith, sym, ◌∙◌, inl, inr, length-set, drop_of_length-le, get_or-set_same, get_or-set_other, ext_get_or, eqb-true, ltb-true, ltb-false}
+use Rattle.std.proofs.Common.{arith, sym, ◌∙◌, inl, inr, length-set, drop_of_length-le, get_or-set_same}
+use Rattle.std.proofs.Common.{get_or-set_other, ext_get_or, eqb-true, ltb-true, ltb-false}
 use Rattle.std.proofs.Math.Path.{refl, ap, ap₂}
 use mathlib.Core.List.{List}
 use Rattle.std.proofs.lemmas.Bool.{eqb-false}

@@ -2,7 +2,8 @@
 -- parts are put one after the other, and a record's words lie after those of the records before it, so that what is put
 -- is still read back at the end. Assumes nothing.
 use Rattle.std.specs.Prelude.{ℕ, ◌+◌, ◌*◌, ◌%◌, ◌≤◌, ◌<◌, ◌≡◌, refl, true, List, map, length, get_or, set, take}
-use Rattle.std.proofs.Common.{arith, sym, ◌∙◌, inl, inr, length-set, get_or-set_same, get_or-set_other, get_or-take, length-take-le, take_all, ext_get_or}
+use Rattle.std.proofs.Common.{arith, sym, ◌∙◌, inl, inr, length-set, get_or-set_same, get_or-set_other, get_or-take}
+use Rattle.std.proofs.Common.{length-take-le, take_all, ext_get_or}
 use Rattle.std.proofs.Math.Path.{ap}
 use Rattle.std.proofs.lemmas.List.{length-map}
 use Rattle.std.proofs.Math.ListN.{get_or-map}
@@ -169,7 +170,8 @@ module _
       }
 
 -- the table of the first n elements of a list
-front_of : {A : Type 0} (f : ℕ → A) (l : List A) (d : A) (n : ℕ) → n ≤ length l → ((j : ℕ) → j < n → f j ≡ get_or l j d) →
+front_of : {A : Type 0} (f : ℕ → A) (l : List A) (d : A) (n : ℕ) → n ≤ length l →
+    ((j : ℕ) → j < n → f j ≡ get_or l j d) →
     take n (tabulate f n) ≡ take n l
 front_of f l d n long each =
     let many : length (tabulate f n) ≡ length (take n l) = length_table f n ∙ sym (length-take-le n l long) in
@@ -189,7 +191,8 @@ trimmed_front k l n long_k long_l each =
     length-take-le n k long_k in
     let size_l : length (map trimmed_part (take n l)) ≡ n = length-map (take n l) trimmed_part ∙
     length-take-le n l long_l in
-    ext_get_or (trimmed_part blank_part) (map trimmed_part (take n k)) (map trimmed_part (take n l)) (size_k ∙ sym size_l)
+    ext_get_or (trimmed_part blank_part) (map trimmed_part (take n k)) (map trimmed_part (take n l))
+    (size_k ∙ sym size_l)
     (λ j inside.
     let low : j < n = omega (arith, size_k) in
     at k j low ∙ each j low ∙ sym (at l j low))

@@ -126,7 +126,7 @@ pub fn put_fitting(m: Model, table: &mut [u64], state: &mut [u64])
 
 // The model, put into words, whatever they are. The answer is 24 where the model counts more than 32 parts, else 25
 // where the table's or the state's words are too few; then no word is written. It is 0 where the model was put.
-#[tactic(auto, using(crate::specs::PutInto::table_short_put, crate::specs::PutInto::state_short_put, crate::specs::PutInto::whole_put))]
+#[tactic(auto, using(crate::proofs::Outcomes::put_outcomes))]
 pub fn put_model(m: Model, table: &mut [u64], state: &mut [u64]) -> u64
     ensures { PutInto m table.old table.new state.old state.new result }
 {

@@ -1,6 +1,7 @@
 -- Laws of `Put`: nothing put, one byte put, a piece put after another, and a text by another name. Assumes nothing.
 use Rattle.std.specs.Prelude.{ℕ, ◌+◌, ◌-◌, ◌≤◌, ◌<◌, ◌≡◌, refl, List, [], ◌∷◌, ◌++◌, length, take, drop, set}
-use Rattle.std.proofs.Common.{add-one, arith, sym, ap₂, ◌∙◌, append_assoc, append-nil, length-append, take-append-drop, take-suc-set, drop-set-lt, drop-drop}
+use Rattle.std.proofs.Common.{add-one, arith, sym, ap₂, ◌∙◌, append_assoc, append-nil, length-append}
+use Rattle.std.proofs.Common.{take-append-drop, take-suc-set, drop-set-lt, drop-drop}
 use Rattle.write_bytes.specs.Put.{Put}
 
 -- nothing

@@ -2,8 +2,10 @@
 -- at most k digits; and of `signed_decimal`, by the sign. The definition puts digits in front of characters, with fuel;
 -- that the characters are after, and that more fuel changes nothing (`digits_enough` of `write_laws`), give the laws.
 -- Assumes nothing.
-use Rattle.std.specs.Prelude.{ℕ, zero, suc, ◌+◌, ◌/◌, ◌%◌, ◌^◌, ◌≤◌, ◌<◌, ◌≡◌, refl, true, false, ◌⊎◌, List, [], ◌∷◌, ◌++◌, length, ℤ, pos, negsuc, nat_abs, ltb}
-use Rattle.std.proofs.Common.{pow-suc, arith, ap, ◌∙◌, inl, inr, append_assoc, length-append, SFits, lt-ltb, le-ltb, ltb-true, ltb-false}
+use Rattle.std.specs.Prelude.{ℕ, zero, suc, ◌+◌, ◌/◌, ◌%◌, ◌^◌, ◌≤◌, ◌<◌, ◌≡◌, refl, true, false, ◌⊎◌, List, [], ◌∷◌}
+use Rattle.std.specs.Prelude.{◌++◌, length, ℤ, pos, negsuc, nat_abs, ltb}
+use Rattle.std.proofs.Common.{pow-suc, arith, ap, ◌∙◌, inl, inr, append_assoc, length-append, SFits, lt-ltb, le-ltb}
+use Rattle.std.proofs.Common.{ltb-true, ltb-false}
 use Rattle.std.specs.Int.Signed.{lt_z}
 use Rattle.std.specs.Int.{w64}
 use Rattle.machine.specs.Rehearse.{hyphen, digits_before, decimal, signed_decimal}

@@ -1,7 +1,8 @@
 -- The turns that `lines_from` may take and the places that `digits_before` may fill are never all used: any larger
 -- number gives the same text. The idea: a score command takes a byte or more, and a number of more than one digit is
 -- larger than its tenth. Assumes nothing.
-use Rattle.std.specs.Prelude.{ℕ, zero, suc, ◌+◌, ◌/◌, ◌%◌, ◌≤◌, ◌<◌, ◌≡◌, refl, Bool, true, false, cond, List, ◌∷◌, ◌++◌, length, eqb, leb, ltb}
+use Rattle.std.specs.Prelude.{ℕ, zero, suc, ◌+◌, ◌/◌, ◌%◌, ◌≤◌, ◌<◌, ◌≡◌, refl, Bool, true, false, cond, List, ◌∷◌}
+use Rattle.std.specs.Prelude.{◌++◌, length, eqb, leb, ltb}
 use Rattle.std.proofs.Common.{arith, ap, ltb-true, ltb-false, le-ltb, lt-ltb, eqb-true}
 use Rattle.machine.specs.declared.model.Model.{Model}
 use Rattle.machine.specs.declared.model.Score.{Score}

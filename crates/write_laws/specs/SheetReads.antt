@@ -1,7 +1,8 @@
 -- A field of a sheet line reads back as what was put into it: a number in base ten as itself, and an output as itself,
 -- whatever blanks are before. The characters of `decimal n` are digits and spell n, by induction from a number to its
 -- tenth part; blanks and hyphens are no digits. Assumes nothing.
-use Rattle.std.specs.Prelude.{ℕ, zero, suc, ◌+◌, ◌-◌, ◌*◌, ◌/◌, ◌%◌, ◌≤◌, ◌<◌, ◌≡◌, refl, Bool, true, false, cond, ◌⊎◌, List, [], ◌∷◌, ◌++◌, length, get_or, replicate, pos, negsuc, eqb, leb, ltb}
+use Rattle.std.specs.Prelude.{ℕ, zero, suc, ◌+◌, ◌-◌, ◌*◌, ◌/◌, ◌%◌, ◌≤◌, ◌<◌, ◌≡◌, refl, Bool, true, false, cond}
+use Rattle.std.specs.Prelude.{◌⊎◌, List, [], ◌∷◌, ◌++◌, length, get_or, replicate, pos, negsuc, eqb, leb, ltb}
 use Rattle.std.proofs.Common.{arith, ◌∙◌, inl, inr, le-leb, ltb-true, ltb-false, ne_eqb}
 use Rattle.machine.specs.declared.signal.Signal.{Signal}
 use Rattle.machine.specs.declared.signal.Signal.TheVariants.{Absent, Value}

@@ -39,7 +39,8 @@ decreases-loop-candidates marks direct candidates₀ candidates = candidates
 -- the first candidate of a turn
 read_first : (c : tie.In-loop-candidates invariant-loop-candidates decreases-loop-candidates) →
     Candidate c.before.loop-candidates.candidates (count_trailing_zeros 32 c.before.loop-candidates.candidates)
-read_first c = candidate c.before.loop-candidates.candidates c.loop-candidates-test.true c.before.loop-candidates.invariant.0
+read_first c = candidate c.before.loop-candidates.candidates c.loop-candidates-test.true
+    c.before.loop-candidates.invariant.0
 
 loop-candidates-init : tie.Need-loop-candidates-init invariant-loop-candidates decreases-loop-candidates
 loop-candidates-init c = (c.ranges.marks.fits, refl)
@@ -92,7 +93,8 @@ loop-candidates-preserved c =
     rw it.shifted (
       omega (arith, turn.before.loop-candidates.invariant.0),
       rw it.rest.marks
-          (passed (marks_of 32 w) (marks_of 32 start.args.marks) 0 (count_trailing_zeros 32 w) start.args.direct no_sources
+          (passed (marks_of 32 w) (marks_of 32 start.args.marks) 0 (count_trailing_zeros 32 w) start.args.direct
+          no_sources
           (λ i at. let here : i ≡ count_trailing_zeros 32 w = omega arith in
           rw here (sym c.before.ready.ensures ∙ c.if-ready.false)) ∙
           turn.before.loop-candidates.invariant.1),

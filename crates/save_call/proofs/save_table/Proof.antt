@@ -20,7 +20,8 @@ start_of lengths = lengths.before.before.before
 abbrev bytes_of : tie.After-lengths_of-lengths → List ℕ
 bytes_of lengths = table_bytes (lent_table (start_of lengths).args.table.now)
 
-whole_length : (c : tie.After-lengths_of-lengths) → c.lengths_of-lengths.result.parts + 2 + c.lengths_of-lengths.result.wires + 1 ≡
+whole_length : (c : tie.After-lengths_of-lengths) →
+    c.lengths_of-lengths.result.parts + 2 + c.lengths_of-lengths.result.wires + 1 ≡
     length (bytes_of c)
 whole_length c =
     omega (

@@ -71,7 +71,8 @@ returns-then-leads_past : tie.Need-returns-then-leads_past
 returns-then-leads_past c = sym (cond_true c.before.leads_past.result 21 0 c.if-leads_past.true) ∙ due_refusal c.before
 
 returns-then-any_due_in : tie.Need-returns-then-any_due_in
-returns-then-any_due_in c = sym (cond_false c.before.leads_past.result 21 0 c.if-leads_past.false) ∙ due_refusal c.before
+returns-then-any_due_in c = sym (cond_false c.before.leads_past.result 21 0 c.if-leads_past.false) ∙
+    due_refusal c.before
 
 returns : tie.Need-returns
 returns c =

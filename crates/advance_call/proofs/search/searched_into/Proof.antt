@@ -115,7 +115,8 @@ loop-least-preserved c =
       omega (arith, below, inv.2),
       omega (arith, below, inv.3),
       inv.4,
-      λ some. subst (Agreed (model_of at)) (sym rounds.least_in-least.ensures) (round_agreed (model_of at) at.loop-least.h),
+      λ some. subst (Agreed (model_of at)) (sym rounds.least_in-least.ensures)
+          (round_agreed (model_of at) at.loop-least.h),
     )
 
 overflow_add-revisions : tie.Need-overflow_add-revisions Inv_loop μ_loop Inv_ceilings μ_ceilings
@@ -231,7 +232,8 @@ returns-else-any_objects_in c =
     searched_words ts os s.args.new.now b s.args.w _
     (committed_answer (model_in ts os) (is_sound_at s) (model_in ts b) s.args.w ceilings.ceiling h
     at.loop-least.rounds ceilings.revisions
-    at.loop-least.invariant.0 (kept (refusal_of_trial tries)) (not_refused tries.before.before) (ap (any_objects h) made ∙
+    at.loop-least.invariant.0 (kept (refusal_of_trial tries)) (not_refused tries.before.before)
+    (ap (any_objects h) made ∙
     objects_tried asked ∙ free.if-any_objects_in.false)
     made)
     (omega arith) refl (λ j low. by_settling.behind.form j (by_trial.form j low)) (behind_settled settles)

@@ -51,7 +51,8 @@ accept-requires c =
     let read = c.args.read in
     let ended = c.requires.ended none in
     let few : read.count ≤ length read.parts = omega (arith, ended.few) in
-    acceptable read few c.judged-ending.result ended none c.requires.within c.judged-ending.ensures c.if-number-ne0-2.false
+    acceptable read few c.judged-ending.result ended none c.requires.within c.judged-ending.ensures
+    c.if-number-ne0-2.false
 
 pub returns : goal.returns
 returns c =

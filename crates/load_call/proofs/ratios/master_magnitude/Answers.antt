@@ -23,7 +23,8 @@ loop-i-preserved c =
     let parts = c.args.parts in
     let few : count ≤ length parts = omega arith in
     loop.invariant ∙ preferences_on count parts few loop.magnitude loop.i c.loop-i-test.true ∙
-    ap (λ (e : ℕ). master_magnitude e (drop (loop.i + 1) (preferences_read count parts))) (sym c.larger_of-magnitude.ensures)
+    ap (λ (e : ℕ). master_magnitude e (drop (loop.i + 1) (preferences_read count parts)))
+    (sym c.larger_of-magnitude.ensures)
 
 pub returns : goal.returns
 unfolding magnitude_of table_in preferences_read

@@ -9,11 +9,19 @@ returns-then-b-eq-BEGIN_BYTE c = simp (eq-eqb _ _ c.if-b-eq-BEGIN_BYTE.true)
 
 pub returns-then-begun : goal.returns-then-begun
 unfolding in_its_place
-returns-then-begun c = simp (ne_eqb _ _ c.if-b-eq-BEGIN_BYTE.false, eq-eqb _ _ c.if-b-eq-SPAN_BYTE.true, c.if-begun.true)
+returns-then-begun c = simp (
+  ne_eqb _ _ c.if-b-eq-BEGIN_BYTE.false,
+  eq-eqb _ _ c.if-b-eq-SPAN_BYTE.true,
+  c.if-begun.true,
+)
 
 pub returns-then-b-eq-SPAN_BYTE : goal.returns-then-b-eq-SPAN_BYTE
 unfolding in_its_place
-returns-then-b-eq-SPAN_BYTE c = simp (ne_eqb _ _ c.if-b-eq-BEGIN_BYTE.false, eq-eqb _ _ c.if-b-eq-SPAN_BYTE.true, c.if-begun.false)
+returns-then-b-eq-SPAN_BYTE c = simp (
+  ne_eqb _ _ c.if-b-eq-BEGIN_BYTE.false,
+  eq-eqb _ _ c.if-b-eq-SPAN_BYTE.true,
+  c.if-begun.false,
+)
 
 pub returns-then-b-eq-WANT_BYTE : goal.returns-then-b-eq-WANT_BYTE
 unfolding in_its_place

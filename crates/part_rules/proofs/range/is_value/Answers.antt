@@ -14,4 +14,5 @@ returns-then-v-lt-SMALLEST_VALUE c =
 pub returns : goal.returns
 returns c =
     let v = c.args.v in
-    rw (to_z-of_z w64 v c.ranges.v) (sym (value_from v (rw (to_z-of_z w64 v c.ranges.v) at c.if-v-lt-SMALLEST_VALUE.false)))
+    rw (to_z-of_z w64 v c.ranges.v) (sym (value_from v (rw (to_z-of_z w64 v c.ranges.v) at
+    c.if-v-lt-SMALLEST_VALUE.false)))

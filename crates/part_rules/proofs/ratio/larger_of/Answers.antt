@@ -10,7 +10,10 @@ returns-then-preference-eq-NO_PREFERENCE c = simp (eq-eqb _ _ c.if-preference-eq
 
 pub returns-then-e-preference : goal.returns-then-e-preference
 unfolding larger
-returns-then-e-preference c = simp (ne_eqb _ _ c.if-preference-eq-NO_PREFERENCE.false, max-eq_right (le_of_lt c.if-e-preference.true))
+returns-then-e-preference c = simp (
+  ne_eqb _ _ c.if-preference-eq-NO_PREFERENCE.false,
+  max-eq_right (le_of_lt c.if-e-preference.true),
+)
 
 pub returns : goal.returns
 unfolding larger

@@ -27,7 +27,10 @@ returns-then-preference-eq-NO_PREFERENCE c = simp (eq-eqb _ _ c.if-preference-eq
 
 pub returns-then-magnitude-preference : goal.returns-then-magnitude-preference
 unfolding ratio_of
-returns-then-magnitude-preference c = simp (ne_eqb _ _ c.if-preference-eq-NO_PREFERENCE.false, sub-eq-zero_of_le (le_of_lt c.if-magnitude-preference.true))
+returns-then-magnitude-preference c = simp (
+  ne_eqb _ _ c.if-preference-eq-NO_PREFERENCE.false,
+  sub-eq-zero_of_le (le_of_lt c.if-magnitude-preference.true),
+)
 
 pub returns : goal.returns
 unfolding ratio_of tens

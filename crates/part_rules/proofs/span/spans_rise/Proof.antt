@@ -22,7 +22,8 @@ none_left before i l h = rw (drop_of_length-le l h)
 -- the rest from i on rises where span i does, and the rest after it
 one_more : (before i count : ℕ) (l : List ℕ) → i < count → i < length l →
     spans_rise before (drop i (take count l)) ≡
-    (ltb before (get_or l i 0) && leb (get_or l i 0) 1_000_000_000 && spans_rise (get_or l i 0) (drop (i + 1) (take count l)))
+    (ltb before (get_or l i 0) && leb (get_or l i 0) 1_000_000_000 && spans_rise (get_or l i 0)
+    (drop (i + 1) (take count l)))
 unfolding spans_rise
 one_more before i count l below inside =
     let within : i < length (take count l) = rw length-take (omega arith) in

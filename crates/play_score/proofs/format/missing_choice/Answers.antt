@@ -15,9 +15,14 @@ returns-then-choice-count-2 c = rw (lt-ltb _ _ c.if-choice-count.false, le-ltb _
 pub returns-then-choice-count-3 : goal.returns-then-choice-count-3
 unfolding missing_at
 returns-then-choice-count-3 c =
-    rw (lt-ltb _ _ c.if-choice-count.false, lt-ltb _ _ c.if-choice-count-2.false, le-ltb _ _ c.if-choice-count-3.true) refl
+    rw (lt-ltb _ _ c.if-choice-count.false, lt-ltb _ _ c.if-choice-count-2.false, le-ltb _ _ c.if-choice-count-3.true)
+    refl
 
 pub returns : goal.returns
 unfolding missing_at
 returns c =
-    rw (lt-ltb _ _ c.if-choice-count.false, lt-ltb _ _ c.if-choice-count-2.false, lt-ltb _ _ c.if-choice-count-3.false) refl
+    rw (
+      lt-ltb _ _ c.if-choice-count.false,
+      lt-ltb _ _ c.if-choice-count-2.false,
+      lt-ltb _ _ c.if-choice-count-3.false,
+    ) refl

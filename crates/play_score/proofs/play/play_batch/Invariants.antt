@@ -12,7 +12,8 @@ invariant-loop-lines l =
     (l.used ≤ length l.lines) × (length l.lines ≡ length l.initial.lines) × (length l.first ≡ length l.initial.first) ×
     (length l.second ≡ length l.initial.second) ×
     (played_at l.stream l.from (lent_model l.table (stands_in l.exchanged l.initial.first l.initial.second)) l.format ≡
-    take l.used l.lines ++ played_at l.stream l.at (lent_model l.table (stands_in l.turned l.first l.second)) l.format) ×
+    take l.used l.lines ++ played_at l.stream l.at (lent_model l.table (stands_in l.turned l.first l.second))
+    l.format) ×
     Playable l.table (stands_in l.turned l.first l.second) l.format × (l.from ≤ l.at) ×
     (0 < l.used → (l.from < l.at) × (l.from < length l.stream))
 

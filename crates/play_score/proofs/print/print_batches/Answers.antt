@@ -33,10 +33,16 @@ slice_bounds-write_all-end-in-loop-format c =
 pub loop-format-smaller : goal.loop-format-smaller
 loop-format-smaller c =
     let later =
-    c.play_batch-played.ensures.batched.later c.if-played.false (omega (arith, c.requires.line_room, c.loop-format.invariant.2)) in
+    c.play_batch-played.ensures.batched.later c.if-played.false
+    (omega (arith, c.requires.line_room, c.loop-format.invariant.2)) in
     omega (arith, later.0, later.1)
 
 pub loop-format-preserved : goal.loop-format-preserved
 loop-format-preserved c =
-    let batch = c.play_batch-played.ensures in
-    (omega arith, omega arith, omega arith, one_batch_more c.if-played.false c.loop-format.invariant.3 batch.batched, batch.still_playable)
+    let batch = c.play_batch-played.ensures in (
+      omega arith,
+      omega arith,
+      omega arith,
+      one_batch_more c.if-played.false c.loop-format.invariant.3 batch.batched,
+      batch.still_playable,
+    )

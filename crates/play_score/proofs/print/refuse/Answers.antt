@@ -4,4 +4,5 @@ use Rattle.play_score.proofs.print.refuse.Goals as goal
 
 pub returns : goal.returns
 returns c =
-    line_said _ _ _ _ _ _ c.requires c.write_refused_at-line.ensures.written_as c.write_refused_at-line.ensures.length_bound
+    line_said _ _ _ _ _ _ c.requires c.write_refused_at-line.ensures.written_as
+    c.write_refused_at-line.ensures.length_bound

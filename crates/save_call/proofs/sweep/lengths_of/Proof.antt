@@ -24,7 +24,8 @@ abbrev decreases-loop-i : tie.decreases-loop-i
 decreases-loop-i words count parts₀ wires₀ i₀ parts wires i = count - i
 
 -- the start, what the words of the part at hand grant, and how long the sums can become with it
-abbrev turn_of : tie.After-span_count_at invariant-loop-i decreases-loop-i → tie.At-loop-i invariant-loop-i decreases-loop-i
+abbrev turn_of : tie.After-span_count_at invariant-loop-i decreases-loop-i →
+    tie.At-loop-i invariant-loop-i decreases-loop-i
 turn_of spans = spans.before.before
 
 abbrev start_of : tie.At-loop-i invariant-loop-i decreases-loop-i → tie.Start invariant-loop-i decreases-loop-i

@@ -30,7 +30,8 @@ abbrev decreases-loop-i : tie.decreases-loop-i
 decreases-loop-i words wires out₀ count at₀ next₀ i₀ out at next i = count - i
 
 -- from the loop back to Begin, and from there to the start
-abbrev begin_of : tie.At-loop-i invariant-loop-i decreases-loop-i → tie.After-put_begin-at invariant-loop-i decreases-loop-i
+abbrev begin_of : tie.At-loop-i invariant-loop-i decreases-loop-i →
+    tie.After-put_begin-at invariant-loop-i decreases-loop-i
 begin_of loop = loop.before.before.before
 
 abbrev start_of : tie.After-put_begin-at invariant-loop-i decreases-loop-i → tie.Start invariant-loop-i decreases-loop-i
@@ -40,7 +41,8 @@ start_of begin = begin.before.before.before.before.before.before
 abbrev words_of : tie.At-loop-i invariant-loop-i decreases-loop-i → List ℕ
 words_of loop = (start_of (begin_of loop)).args.table.now
 
-here : (c : tie.At-loop-i invariant-loop-i decreases-loop-i) → c.loop-i.i < part_count (words_of c) → SavablePart (words_of c) c.loop-i.i
+here : (c : tie.At-loop-i invariant-loop-i decreases-loop-i) → c.loop-i.i < part_count (words_of c) →
+    SavablePart (words_of c) c.loop-i.i
 here c low = part_fits_at _ (start_of (begin_of c)).requires.1.0 _ low
 
 -- the count of parts was read
@@ -52,7 +54,8 @@ counted c =
     start.parts_of-count.ensures
 
 -- the buffer has room for the whole table
-room : (c : tie.At-loop-i invariant-loop-i decreases-loop-i) → length (table_bytes (lent_table (words_of c))) ≤ length c.loop-i.out
+room : (c : tie.At-loop-i invariant-loop-i decreases-loop-i) →
+    length (table_bytes (lent_table (words_of c))) ≤ length c.loop-i.out
 room c = omega (arith, (start_of (begin_of c)).requires.1.1.1, c.loop-i.invariant.1, (begin_of c).put_begin-at.auto.out)
 
 -- one part more, as it was read and put, and its wires

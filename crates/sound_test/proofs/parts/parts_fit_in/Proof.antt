@@ -31,7 +31,8 @@ decreases-loop-i table state magnitude t count i₀ i = count - i
 abbrev start_of : tie.In-loop-i invariant-loop-i decreases-loop-i → tie.Start invariant-loop-i decreases-loop-i
 start_of test = test.before.before.before.before.before
 
-here : (test : tie.In-loop-i invariant-loop-i decreases-loop-i) → test.before.loop-i.i < part_count (start_of test).args.table.now
+here : (test : tie.In-loop-i invariant-loop-i decreases-loop-i) →
+    test.before.loop-i.i < part_count (start_of test).args.table.now
 here test = omega (arith, test.loop-i-test.true, test.before.before.parts_of-count.ensures)
 
 -- a turn's question of the part i, and the rest after it

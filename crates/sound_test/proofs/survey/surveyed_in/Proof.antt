@@ -13,7 +13,8 @@ use Rattle.sound_test.proofs.survey.surveyed_in.Statement.{statement}
 use Rattle.sound_test.proofs.survey.surveyed_in.Tie as tie
 
 abbrev invariant-loop-i : tie.invariant-loop-i
-invariant-loop-i table count magnitude₀ direct₀ order₀ i₀ magnitude direct order i = Surveying table i magnitude direct order
+invariant-loop-i table count magnitude₀ direct₀ order₀ i₀ magnitude direct order i =
+    Surveying table i magnitude direct order
 
 abbrev decreases-loop-i : tie.decreases-loop-i
 decreases-loop-i table count magnitude₀ direct₀ order₀ i₀ magnitude direct order i = count - i
@@ -32,7 +33,8 @@ place test =
     omega (arith, here test, start.requires.0)
 
 -- the turn, seen from the calls
-abbrev test_of : tie.After-direct_sources invariant-loop-i decreases-loop-i → tie.In-loop-i invariant-loop-i decreases-loop-i
+abbrev test_of : tie.After-direct_sources invariant-loop-i decreases-loop-i →
+    tie.In-loop-i invariant-loop-i decreases-loop-i
 test_of c = c.before.before.before
 
 parts_of-count-requires : tie.Need-parts_of-count-requires invariant-loop-i decreases-loop-i

@@ -25,7 +25,8 @@ wires_left (suc (suc zero)) a b low = absurd (a refl)
 wires_left (suc (suc (suc zero))) a b low = absurd (b refl)
 wires_left (suc (suc (suc (suc n)))) a b low = absurd (omega arith)
 
-state_left : (j : ℕ) → (j ≡ 3 → ⊥) → (j ≡ 5 → ⊥) → (j ≡ 7 → ⊥) → (j ≡ 8 → ⊥) → j < 9 → any_word ≡ get_or state_limits j 0
+state_left : (j : ℕ) → (j ≡ 3 → ⊥) → (j ≡ 5 → ⊥) → (j ≡ 7 → ⊥) → (j ≡ 8 → ⊥) → j < 9 → any_word ≡
+    get_or state_limits j 0
 state_left zero a b c d low = refl
 state_left (suc zero) a b c d low = refl
 state_left (suc (suc zero)) a b c d low = refl

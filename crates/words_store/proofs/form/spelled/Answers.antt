@@ -10,10 +10,18 @@ use Rattle.words_store.specs.Spelling.{spelled_facts, spelled_parts}
 use Rattle.words_store.proofs.form.spelled.Goals as goal
 
 pub returns-then-table-lt-HEADER : goal.returns-then-table-lt-HEADER
-returns-then-table-lt-HEADER c = sym (refuted _ (λ h. omega (arith, (spelled_facts _ _ h).two, c.if-table-lt-HEADER.true)))
+returns-then-table-lt-HEADER c = sym (refuted _ (λ h. omega (
+  arith,
+  (spelled_facts _ _ h).two,
+  c.if-table-lt-HEADER.true,
+)))
 
 pub returns-then-table-gt255 : goal.returns-then-table-gt255
-returns-then-table-gt255 c = sym (refuted _ (λ h. omega (arith, (spelled_facts _ _ h).magnitude, c.if-table-gt255.true)))
+returns-then-table-gt255 c = sym (refuted _ (λ h. omega (
+  arith,
+  (spelled_facts _ _ h).magnitude,
+  c.if-table-gt255.true,
+)))
 
 pub returns-then-count-gt-PARTS : goal.returns-then-count-gt-PARTS
 returns-then-count-gt-PARTS c = sym (refuted _ (λ h. omega (

@@ -20,7 +20,8 @@ abbrev decreases-loop-j : tie.decreases-loop-j
 decreases-loop-j words k run count j₀ j = count - j
 
 -- the limits that are asked, as many as there are words
-many : (start : tie.Start invariant-loop-j decreases-loop-j) → length (take start.args.count (run_limits start.args.run)) ≡
+many : (start : tie.Start invariant-loop-j decreases-loop-j) →
+    length (take start.args.count (run_limits start.args.run)) ≡
     start.args.count
 many start = length-take-le start.args.count (run_limits start.args.run) start.requires.1
 

@@ -57,7 +57,11 @@ enough : (c : Joined-buf-parts_of) → length (lent_text c.args.table.now c.args
 enough c =
     let line = size c.args.table.now c.args.state.now c.point_of-now.ensures c.type_inv.state
     c.ranges.step c.ranges.rounds c.ranges.revisions in
-    elim c.if-buf-parts_of.branch [ then-buf-parts_of+else-buf-length w ↦ omega arith | else-buf-parts_of w ↦ omega arith ]
+    elim c.if-buf-parts_of.branch [
+      | then-buf-parts_of+else-buf-length w ↦ omega arith
+      | else-buf-parts_of w ↦ omega
+          arith
+    ]
 
 -- a text that is written is written under each of its names
 written_line : {text before after : List ℕ} {w : Written} {line : ℕ → List ℕ} → ((ceiling : ℕ) → text ≡ line ceiling) →

@@ -164,7 +164,8 @@ pub objected :
 objected c = objects_tried c.before ∙ c.if-any_objects_in.true
 
 -- so it is one of at least 2
-pub halves : (c : tie.Then-any_objects_in Inv_loop μ_loop Inv_ceilings μ_ceilings) → 2 ≤ (loop_of_trial (trial_of c.before)).loop-least.h
+pub halves : (c : tie.Then-any_objects_in Inv_loop μ_loop Inv_ceilings μ_ceilings) →
+    2 ≤ (loop_of_trial (trial_of c.before)).loop-least.h
 halves c =
     let tries = trial_of c.before in
     let at = loop_of_trial tries in
