@@ -1,104 +1,93 @@
-//! How far a check of the crates is. `rt` begins the file target/log/NAME.out when it begins a crate, and fills it when
-//! the crate is done.
+//! How far a build of crates is. `rt` builds the crates below one, each after those that it uses, and then that one. It
+//! passes over in silence what did not change. Of each other crate it says first how many jobs it chose for it.
 use crate::messages::Messages;
 use std::collections::HashMap;
 use std::fs;
-use std::path::{Path, PathBuf};
-use std::time::{Duration, Instant, SystemTime};
+use std::path::Path;
+use std::time::Instant;
 
-/// A crate that did not change is done within this time, and is not told.
-const SETTLED: Duration = Duration::from_millis(700);
-
-/// How far a crate is.
-#[derive(Clone, Copy)]
-enum Stage {
-    Waiting,
-    Begun { number: usize, at: Instant },
-    Told { at: Instant },
-    Done,
-}
-
-/// The crates of a check that began at a moment.
+/// The crates of a build in the order in which `rt` comes to them, and the one that it is at, with when it came there.
 pub struct Crates {
-    logs: PathBuf,
-    moment: SystemTime,
-    stages: Vec<(String, Stage)>,
-    begun: usize,
+    order: Vec<String>,
+    now: Option<(String, Instant)>,
 }
 
 impl Crates {
     /// A crate and all that it depends on.
-    pub fn of(root: &Path, name: &str, moment: SystemTime) -> Crates {
+    pub fn of(root: &Path, name: &str) -> Crates {
         let list = fs::read_to_string(root.join("crates.txt")).unwrap_or_default();
-        let stages = below(&list, name).into_iter().map(|name| (name, Stage::Waiting)).collect();
-        Crates { logs: root.join("target/log"), moment, stages, begun: 0 }
+        Crates { order: in_order(&list, name), now: None }
     }
 
-    /// Looks how far each crate is. Tells each that is being proved, and shows which are now.
-    pub fn look(&mut self, messages: &mut Messages) {
-        let all = self.stages.len();
-        let mut now = Vec::new();
-        for (name, stage) in &mut self.stages {
-            let Some(log) = log_since(&self.logs.join(format!("{name}.out")), self.moment) else { continue };
-            if let Stage::Waiting = stage {
-                self.begun += 1;
-                *stage = Stage::Begun { number: self.begun, at: Instant::now() };
-            }
-            *stage = next(*stage, &log, |number| messages.say(&format!("rehearse: {number} of {all}: {name}")));
-            if let Stage::Told { at } = stage {
-                now.push(format!("{name} ({} s)", at.elapsed().as_secs()));
-            }
+    /// Hears a line of `rt`. Where it begins another crate, the one before is proved, and the next one is told.
+    pub fn hear(&mut self, line: &str, messages: &mut Messages) {
+        let Some(name) = begun(line) else { return };
+        if self.now.as_ref().is_some_and(|(now, _)| now == name) {
+            return;
         }
-        if !now.is_empty() {
-            messages.progress(&format!("rehearse: now {}", now.join(", ")));
+        self.proved(messages);
+        let Some(at) = self.order.iter().position(|known| known == name) else { return };
+        messages.say(&format!("rehearse: {} of {}: {name}", at + 1, self.order.len()));
+        self.now = Some((name.to_string(), Instant::now()));
+    }
+
+    /// Shows which crate is being proved.
+    pub fn look(&self, messages: &mut Messages) {
+        if let Some((name, since)) = &self.now {
+            messages.progress(&format!("rehearse: now {name} ({} s)", since.elapsed().as_secs()));
         }
     }
-}
 
-/// The next stage of a crate that is begun, by its log; its number is told where it is being proved.
-fn next(stage: Stage, log: &str, tell: impl FnOnce(usize)) -> Stage {
-    match stage {
-        Stage::Begun { .. } if log.contains(" proved (unchanged") => Stage::Done,
-        Stage::Begun { number, at } if !log.is_empty() || at.elapsed() > SETTLED => {
-            tell(number);
-            Stage::Told { at }
+    /// Tells that the crate that `rt` was at is proved.
+    pub fn proved(&mut self, messages: &mut Messages) {
+        if let Some((name, since)) = self.now.take() {
+            messages.say(&format!("rehearse: {name} proved ({} s)", since.elapsed().as_secs()));
         }
-        Stage::Told { .. } if !log.is_empty() => Stage::Done,
-        stage => stage,
     }
 }
 
-/// A log that was begun since a moment.
-fn log_since(path: &Path, moment: SystemTime) -> Option<String> {
-    let written = fs::metadata(path).and_then(|about| about.modified()).ok()?;
-    (written >= moment).then(|| fs::read_to_string(path).unwrap_or_default())
+/// The crate that a line of `rt` begins.
+fn begun(line: &str) -> Option<&str> {
+    let (_, name) = line.strip_prefix("rt: chose --jobs ")?.split_once(" for ")?;
+    Some(name.trim_end())
 }
 
-/// A crate and those that it depends on, in the order of the list.
-fn below(list: &str, name: &str) -> Vec<String> {
+/// A crate after those that it depends on, each after its own.
+fn in_order(list: &str, name: &str) -> Vec<String> {
     let lines = list.lines().filter_map(|line| line.split('#').next().unwrap_or_default().split_once(':'));
-    let lines: Vec<(&str, Vec<&str>)> =
-        lines.map(|(name, on)| (name.trim(), on.split_whitespace().collect())).collect();
-    let named: HashMap<&str, &Vec<&str>> = lines.iter().map(|(name, on)| (*name, on)).collect();
-    let (mut wanted, mut reached) = (vec![name], Vec::new());
-    while let Some(name) = wanted.pop() {
-        if named.contains_key(name) && !reached.contains(&name) {
-            reached.push(name);
-            wanted.extend(named[name]);
-        }
+    let uses: HashMap<&str, Vec<&str>> = lines
+        .filter_map(|(head, on)| Some((head.split_whitespace().next()?, on.split_whitespace().collect())))
+        .collect();
+    let mut order = Vec::new();
+    reach(&uses, name, &mut order);
+    order
+}
+
+/// Puts a crate into the order after those that it uses.
+fn reach(uses: &HashMap<&str, Vec<&str>>, name: &str, order: &mut Vec<String>) {
+    let Some(on) = uses.get(name) else { return };
+    if order.iter().any(|known| known == name) {
+        return;
     }
-    lines.iter().filter(|(name, _)| reached.contains(name)).map(|(name, _)| name.to_string()).collect()
+    on.iter().for_each(|below| reach(uses, below, order));
+    order.push(name.to_string());
 }
 
 #[cfg(test)]
 mod tests {
-    use super::below;
+    use super::{begun, in_order};
 
     #[test]
-    fn a_crate_depends_on_what_it_names_and_on_what_that_names() {
-        let list = "# floors\n\na:\nb: a\nc: a # d\nd : b c  io\ne: d\n";
-        assert_eq!(below(list, "d"), ["a", "b", "c", "d"]);
-        assert_eq!(below(list, "a"), ["a"]);
-        assert_eq!(below(list, "io"), Vec::<String>::new());
+    fn a_crate_comes_after_what_it_names_and_what_that_names() {
+        let list = "# floors\n\na:\nb: a\nc: a # d\nd staticlib: c b  io\ne: d\n";
+        assert_eq!(in_order(list, "d"), ["a", "c", "b", "d"]);
+        assert_eq!(in_order(list, "a"), ["a"]);
+        assert_eq!(in_order(list, "io"), Vec::<String>::new());
+    }
+
+    #[test]
+    fn rt_begins_a_crate_with_its_jobs() {
+        assert_eq!(begun("rt: chose --jobs 2 for laws\n"), Some("laws"));
+        assert_eq!(begun("rt: laws: begins with what a check kept\n"), None);
     }
 }

@@ -1,6 +1,6 @@
 //! Where the repository is, and what in it this command runs and builds: each by its path from the repository's root.
-use std::env;
 use std::path::{Path, PathBuf};
+use std::{env, fs, io};
 
 /// Names the root. The script sets it; without it the root is above the command.
 const HOME: &str = "DOZHUMEK_HOME";
@@ -13,8 +13,8 @@ pub const MANIFEST: &str = "rust/command/Cargo.toml";
 pub const BOUNDARY: &str = "boundary";
 pub const ARCHIVE: &str = "target/staticlib/libboundary.a";
 
-/// What the proved programs and the archive are built from.
-pub const PROVED: [&str; 2] = ["crates", "crates.txt"];
+/// The folders of a crate that it is proved and built from. Beside them rt has one of its own.
+const PARTS: [&str; 3] = ["src", "specs", "proofs"];
 
 /// What the command over the proved calls is built from.
 pub const LINKED: [&str; 8] = [
@@ -46,10 +46,26 @@ impl Program {
         }
     }
 
-    /// Where rt puts it.
+    /// Where it is kept and run.
     pub fn path(self) -> String {
         format!("target/bin/{}", self.name())
     }
+}
+
+/// Where rt writes what it builds of a crate: the product's name below the crate's own folder.
+pub fn written(krate: &str, product: &str) -> String {
+    let name = product.rsplit('/').next().unwrap_or(product);
+    format!("crates/{krate}/out/{name}")
+}
+
+/// What the proved programs and the archive are built from.
+pub fn proved(root: &Path) -> io::Result<Vec<String>> {
+    let mut crates: Vec<String> = fs::read_dir(root.join("crates"))?
+        .map(|entry| Ok(format!("crates/{}", entry?.file_name().to_string_lossy())))
+        .collect::<io::Result<_>>()?;
+    crates.sort();
+    let parts = crates.iter().flat_map(|krate| PARTS.iter().map(move |part| format!("{krate}/{part}")));
+    Ok(parts.chain(["crates.txt".to_string()]).collect())
 }
 
 /// The root of the repository: the folder with the list of crates.

@@ -3,7 +3,7 @@
 //! at a time.
 use crate::crates::Crates;
 use crate::failure::{Failure, UNBUILT};
-use crate::home::{self, Program, ARCHIVE, BOUNDARY, CALLS, LINKED, MANIFEST, PROVED};
+use crate::home::{self, Program, ARCHIVE, BOUNDARY, CALLS, LINKED, MANIFEST};
 use crate::messages::Messages;
 use crate::system;
 use std::env;
@@ -19,7 +19,7 @@ use std::time::{Duration, SystemTime};
 const LOG: &str = "target/front-door.log";
 const LOCK: &str = "target/front-door.lock";
 
-/// The time between two looks at how far a check is.
+/// The time between two looks at how far a build is.
 const PAUSE: Duration = Duration::from_millis(200);
 
 /// What cargo is not to hear from the environment: another archive, and other folders than the repository's.
@@ -32,6 +32,16 @@ pub struct Ready<'a> {
     undone: &'a str,
     lock: Option<File>,
     begun: bool,
+}
+
+/// What rt proves and builds: a product, what it is, why it is built, its crate, and rt's command in the crate's
+/// folder.
+struct Proof<'a> {
+    product: &'a str,
+    what: &'a str,
+    why: &'a str,
+    krate: &'a str,
+    verb: &'a str,
 }
 
 /// A build: when it began, and the files that it writes its log into and holds the lock by.
@@ -50,11 +60,11 @@ impl<'a> Ready<'a> {
     /// Sees to a proved program.
     pub fn program(&mut self, program: Program) -> Result<(), Failure> {
         let product = program.path();
-        let Some(why) = self.unbuilt(&product, &PROVED, &product)? else { return Ok(()) };
+        let Some(why) = self.unproved(&product, &product)? else { return Ok(()) };
         on_path("rt", "the Rattle toolchain that builds it", &product, &why)?;
         self.lock(&product, &why)?;
-        let Some(why) = self.unbuilt(&product, &PROVED, &product)? else { return Ok(()) };
-        self.prove(&product, "program", &why, &[["check", program.name()]])
+        let Some(why) = self.unproved(&product, &product)? else { return Ok(()) };
+        self.prove(Proof { product: &product, what: "program", why: &why, krate: program.name(), verb: "run" })
     }
 
     /// Sees to the command over the proved calls, and to the archive that it links. Its path from the root.
@@ -68,8 +78,7 @@ impl<'a> Ready<'a> {
         self.lock(&command, &why)?;
         let Some((stale, why)) = self.unlinked(&command)? else { return Ok(command) };
         if let Some(stale) = stale {
-            // A check proves as many crates at a time as there are processors; a library's proves one by one.
-            self.prove(ARCHIVE, "library", &stale, &[["check", BOUNDARY], ["staticlib", BOUNDARY]])?;
+            self.prove(Proof { product: ARCHIVE, what: "library", why: &stale, krate: BOUNDARY, verb: "lib" })?;
         }
         self.compile(&command, &why)?;
         Ok(command)
@@ -77,18 +86,24 @@ impl<'a> Ready<'a> {
 
     /// Why the archive has to be built, and why the command has to be; none where neither has.
     fn unlinked(&self, command: &str) -> Result<Option<(Option<String>, String)>, Failure> {
-        let stale = self.unbuilt(ARCHIVE, &PROVED, command)?;
+        let stale = self.unproved(ARCHIVE, command)?;
         let why = self.unbuilt(command, &LINKED, command)?;
         let relinked = stale.is_some().then(|| format!("has to be linked with a new {ARCHIVE}"));
         Ok(why.or(relinked).map(|why| (stale, why)))
     }
 
+    /// Why a product of rt has to be built; none where it is that of its sources.
+    fn unproved(&self, product: &str, asked: &str) -> Result<Option<String>, Failure> {
+        let sources = home::proved(self.root).map_err(|_| untold(asked))?;
+        self.unbuilt(product, &sources, asked)
+    }
+
     /// Why a product has to be built; none where it is that of its sources.
-    fn unbuilt(&self, product: &str, sources: &[&str], asked: &str) -> Result<Option<String>, Failure> {
+    fn unbuilt(&self, product: &str, sources: &[impl AsRef<Path>], asked: &str) -> Result<Option<String>, Failure> {
         if !is_there(&self.root.join(product)) {
             return Ok(Some("is not there".to_string()));
         }
-        let untold = |_| Failure::new(UNBUILT, format!("it cannot be told whether {asked} is that of the sources"));
+        let untold = |_| untold(asked);
         let built = fs::metadata(self.root.join(product)).and_then(|about| about.modified()).map_err(untold)?;
         for source in sources {
             if let Some(newer) = newer_than(built, &self.root.join(source)).map_err(untold)? {
@@ -131,15 +146,15 @@ impl<'a> Ready<'a> {
         Ok(Build { moment: moment.map_err(unwritten)?, log, lock })
     }
 
-    /// Proves and builds a product by runs of rt; the progress of a check is told.
-    fn prove(&mut self, product: &str, what: &str, why: &str, runs: &[[&str; 2]]) -> Result<(), Failure> {
-        let words: Vec<String> = runs.iter().map(|run| format!("rt {}", run.join(" "))).collect();
-        let mut build =
-            self.begin(&format!("{product} {why}: proving and building it first ({})", words.join(", ")))?;
+    /// Proves and builds a product by rt, and puts it into its place; how far rt is, is told.
+    fn prove(&mut self, proof: Proof) -> Result<(), Failure> {
+        let Proof { product, what, why, krate, verb } = proof;
+        let how = format!("rt {verb} in crates/{krate}");
+        let mut build = self.begin(&format!("{product} {why}: proving and building it first ({how})"))?;
         self.messages.say("rehearse: this may take minutes; it can be stopped (Ctrl-C), and goes on where it stopped");
-        let proved = runs.iter().all(|run| self.rt(run, &mut build).unwrap_or(false));
+        let proved = self.rt(krate, verb, &mut build).unwrap_or(false);
         self.messages.clear();
-        if !proved || !is_there(&self.root.join(product)) {
+        if !proved || self.place(krate, product).is_err() || !is_there(&self.root.join(product)) {
             let log = fs::read(self.root.join(LOG)).unwrap_or_default();
             let _ = io::stderr().write_all(&log);
             let undone = self.undone;
@@ -149,35 +164,38 @@ impl<'a> Ready<'a> {
         self.date_back(product, build.moment)
     }
 
-    /// Runs rt, and tells how far a check is. Whether all was proved.
-    fn rt(&mut self, words: &[&str; 2], build: &mut Build) -> io::Result<bool> {
-        let (mut child, said) = start(Command::new("rt").args(words).current_dir(self.root), &build.lock)?;
-        let mut crates = (words[0] == "check").then(|| Crates::of(self.root, words[1], build.moment));
-        if crates.is_none() {
-            self.messages.say(&format!("rehearse: all is proved, and now it is written (rt {})", words.join(" ")));
-        }
+    /// Runs rt in a crate's folder, and tells how far it is. Whether all was proved.
+    fn rt(&mut self, krate: &str, verb: &str, build: &mut Build) -> io::Result<bool> {
+        let folder = self.root.join("crates").join(krate);
+        let (mut child, said) = start(Command::new("rt").arg(verb).current_dir(folder), &build.lock)?;
+        let mut crates = Crates::of(self.root, krate);
         let lines = lines_of(said);
         loop {
             let line = lines.recv_timeout(PAUSE);
-            if let Some(crates) = &mut crates {
-                crates.look(self.messages);
-            }
+            crates.look(self.messages);
             match line {
-                Ok(line) => self.pass_on(&line, crates.is_some(), &mut build.log)?,
+                Ok(line) => {
+                    crates.hear(&String::from_utf8_lossy(&line), self.messages);
+                    build.log.write_all(&line)?;
+                }
                 Err(RecvTimeoutError::Timeout) => {}
-                Err(RecvTimeoutError::Disconnected) => return Ok(child.wait()?.success()),
+                Err(RecvTimeoutError::Disconnected) => break,
             }
         }
+        let proved = child.wait()?.success();
+        if proved {
+            crates.proved(self.messages);
+        }
+        Ok(proved)
     }
 
-    /// Keeps a line of rt in the log, and tells it where a check says that a crate is proved.
-    fn pass_on(&mut self, line: &[u8], told: bool, log: &mut File) -> io::Result<()> {
-        let text = String::from_utf8_lossy(line);
-        let name = text.strip_prefix("rt: ").and_then(|text| text.split_once(" proved ("));
-        if told && name.is_some_and(|(name, _)| !name.contains(' ')) {
-            self.messages.say(text.trim_end());
-        }
-        log.write_all(line)
+    /// Copies what rt wrote to where it is run or linked. What is there may be running: a new file takes its place.
+    fn place(&self, krate: &str, product: &str) -> io::Result<()> {
+        let (written, place) = (self.root.join(home::written(krate, product)), self.root.join(product));
+        let new = self.root.join(format!("{product}.new"));
+        fs::create_dir_all(place.parent().unwrap_or(self.root))?;
+        fs::copy(written, &new)?;
+        fs::rename(new, place)
     }
 
     /// Builds the command by cargo, with the repository's own archive and into its own folder, whatever the environment
@@ -204,12 +222,17 @@ impl<'a> Ready<'a> {
         self.date_back(command, build.moment)
     }
 
-    /// Dates a product by when its build began. rt and cargo leave alone what was built of sources that say what they
-    /// said before; what was written meanwhile is newer than the product.
+    /// Dates a product by when its build began: what was written meanwhile is newer than the product. cargo leaves
+    /// alone what was built of sources that say what they said before.
     fn date_back(&self, product: &str, moment: SystemTime) -> Result<(), Failure> {
         let dated = File::open(self.root.join(product)).and_then(|file| file.set_modified(moment));
         dated.map_err(|_| Failure::new(UNBUILT, format!("{product} cannot be dated")))
     }
+}
+
+/// What is said where it cannot be told whether something is that of its sources.
+fn untold(asked: &str) -> Failure {
+    Failure::new(UNBUILT, format!("it cannot be told whether {asked} is that of the sources"))
 }
 
 /// Whether a product is there: a library, or a program that can be run.
