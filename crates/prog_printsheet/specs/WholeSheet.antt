@@ -8,7 +8,8 @@ use Rattle.play_score.specs.declared.format.Format.TheVariants.{Sheet}
 use Rattle.play_score.specs.declared.print.Opening.{Opening}
 use Rattle.play_score.specs.Lines.{choice_bytes}
 use Rattle.play_score.specs.Playing.{said_and, LineOpened}
-use Rattle.play_score.specs.WholeScore.{Batch, InBatches, said_by, whole_score}
+use Rattle.play_score.specs.WholeScore.{Batch, InBatches, said_by}
+use Rattle.play_score.proofs.WholeScore.{whole_score}
 use Rattle.prog_printsheet.specs.SheetPrinted.{choice_in, stream_in, most_input, read_printout, printout}
 
 pub sheet_printed : (all : List ℕ) (batches : List Batch) →

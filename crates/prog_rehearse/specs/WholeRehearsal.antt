@@ -8,7 +8,8 @@ use Rattle.machine.specs.Rehearse.{most_read, rehearsed}
 use Rattle.play_score.specs.declared.format.Format.TheVariants.{Plain}
 use Rattle.play_score.specs.Lines.{on_output, score_printout}
 use Rattle.play_score.specs.PlainLines.{plain_printout}
-use Rattle.play_score.specs.WholeScore.{Batch, batch_text, InBatches, said_by, whole_score}
+use Rattle.play_score.specs.WholeScore.{Batch, batch_text, InBatches, said_by}
+use Rattle.play_score.proofs.WholeScore.{whole_score}
 
 -- batches that print the bytes that are read of an input, in plain lines
 abbrev pub Rehearsed : List ℕ → List Batch → Type 0
