@@ -11,11 +11,13 @@ use mir.Val.{Fits}
 use Rattle.machine.specs.declared.time.Point.{Point}
 use Rattle.machine.specs.declared.model.Written.{Written}
 use Rattle.machine.specs.Time.{tick}
-use Rattle.machine.specs.Rehearse.{outputs_text}
+use Rattle.machine.specs.Model.{most_parts}
+use Rattle.machine.specs.Rehearse.{answer_line, outputs_text}
 use Rattle.machine.specs.Writing.{WrittenAs}
 use Rattle.write_bytes.specs.Pieces.{put_then}
 use Rattle.words_store.specs.ModelIn.{model_in, part_count, stored_point}
 use Rattle.write_lines.specs.LineNumbers.{numbers_text}
+use Rattle.write_lines.specs.LentLines.{lent_answer}
 use Rattle.write_lines.proofs.Outputs.{committed_lent, lent_most, lent_size, lent_text, refused_lent}
 use Rattle.write_lines.proofs.LineBounds.{Bounded, no_room, numbers_most, numbers_size, room}
 use Rattle.write_lines.proofs.lent_line.write_spelled.Goals as goal
@@ -51,6 +53,11 @@ module _
         (length (lent_text ts ss now step rounds revisions) ≤ 21 * part_count ts + 105)
     size = (lent_size ts ss now step rounds revisions, lent_most ts ss now step rounds revisions few)
 
+    short : part_count ts ≤ most_parts → length (lent_text ts ss now step rounds revisions) ≤ 1024
+    short parts =
+        let line = size in
+        omega arith
+
 -- there is room for it where the two ways meet
 enough : (c : Joined-buf-parts_of) → length (lent_text c.args.table.now c.args.state.now c.point_of-now.result
     c.args.step c.args.rounds c.args.revisions) ≤ length c.args.buf.now
@@ -62,6 +69,13 @@ enough c =
       | else-buf-parts_of w ↦ omega
           arith
     ]
+
+-- it is the line of the call, whatever the ceiling
+same_line : (ts ss : List ℕ) (number step rounds revisions : ℕ) {now : Point} → number ≡ 0 → now ≡ stored_point ss →
+    (ceiling : ℕ) →
+    lent_text ts ss now step rounds revisions ≡ answer_line (lent_answer ts ss number step rounds revisions ceiling)
+same_line ts ss number step rounds revisions none same =
+    committed_lent ts ss number step rounds revisions none same
 
 -- a text that is written is written under each of its names
 written_line : {text before after : List ℕ} {w : Written} {line : ℕ → List ℕ} → ((ceiling : ℕ) → text ≡ line ceiling) →
@@ -89,11 +103,13 @@ overflow_add-length-then-buf-parts_of c =
 
 pub returns-then-buf-length : goal.returns-then-buf-length
 returns-then-buf-length c =
+    let most = short c.args.table.now c.args.state.now c.point_of-now.ensures c.type_inv.state
+    c.ranges.step c.ranges.rounds c.ranges.revisions c.requires.few_parts in
     let size = size c.args.table.now c.args.state.now c.point_of-now.ensures c.type_inv.state
     c.ranges.step c.ranges.rounds c.ranges.revisions in
-    let line = written_line (committed_lent c.args.table.now c.args.state.now c.args.number c.args.step c.args.rounds
+    let line = written_line (same_line c.args.table.now c.args.state.now c.args.number c.args.step c.args.rounds
     c.args.revisions c.if-number-ne0.false c.point_of-now.ensures)
-    (no_room 1024 _ c.args.buf.now _ (omega arith) (omega arith) (omega (arith, c.if-buf-length.true))) in
+    (no_room 1024 _ c.args.buf.now _ (omega arith) most (omega (arith, c.if-buf-length.true))) in
     record { written_as = line.0; length_bound = line.1 }
 
 pub put_numbers-at-requires : goal.put_numbers-at-requires
@@ -122,10 +138,10 @@ put_byte-requires c =
 
 pub returns : goal.returns
 returns c =
-    let size = size c.args.table.now c.args.state.now c.point_of-now.ensures c.type_inv.state
-    c.ranges.step c.ranges.rounds c.ranges.revisions in
+    let most = short c.args.table.now c.args.state.now c.point_of-now.ensures c.type_inv.state
+    c.ranges.step c.ranges.rounds c.ranges.revisions c.requires.few_parts in
     let put = put_then (put_then c.put_numbers-at.ensures c.put_outputs-at.ensures) c.put_byte.ensures in
-    let line = written_line (committed_lent c.args.table.now c.args.state.now c.args.number c.args.step c.args.rounds
+    let line = written_line (same_line c.args.table.now c.args.state.now c.args.number c.args.step c.args.rounds
     c.args.revisions c.if-number-ne0.false c.point_of-now.ensures)
-    (room 1024 put (omega arith) (enough (goal.at.returns c).Joined-buf-parts_of)) in
+    (room 1024 put most (enough (goal.at.returns c).Joined-buf-parts_of)) in
     record { written_as = line.0; length_bound = line.1 }
