@@ -1,4 +1,4 @@
-//! Links `libboundary.a`, which `rt staticlib boundary` writes into `target/staticlib` at the repository's
+//! Links `libboundary.a`, which `bash tests/library` puts into `target/staticlib` at the repository's
 //! root. `DOZHUMEK_LIB` names another folder that holds it.
 use std::env;
 use std::path::{absolute, PathBuf};
@@ -12,7 +12,7 @@ fn main() {
     let archive = folder.join("libboundary.a");
     println!("cargo:rerun-if-changed={}", archive.display());
     if !archive.is_file() {
-        let advice = "run `rt staticlib boundary` at the repository's root, or name its folder by DOZHUMEK_LIB";
+        let advice = "run `bash tests/library` at the repository's root, or name its folder by DOZHUMEK_LIB";
         println!("cargo::error={} is not there: {advice}", archive.display());
         return;
     }

@@ -2,7 +2,7 @@
 //! record its fields, or those of each of its cases. And the search for arrays of signals in them.
 
 use crate::failed;
-use crate::middle::{elements, parsed, type_of, Node, Type};
+use crate::middle::{parsed, type_of, Node, Type};
 use std::collections::{BTreeMap, BTreeSet};
 
 const SIGNAL: &str = "machine::signal::Signal";
@@ -15,32 +15,33 @@ pub struct Code {
     pub records: BTreeMap<String, Vec<Vec<Type>>>,
 }
 
-/// A function's result, parameters and locals, each with its type.
-pub fn places(item: &Node) -> Vec<(&'static str, Type)> {
-    let words = item.list();
-    if item.head() != "fnItem" || words.len() != 6 {
-        failed("the middle code has another form: a function");
-    }
-    let parameters = words[3].number() as usize;
+/// A function's result, parameters and locals, and the constants that it has references to, each with its type.
+pub fn places(function: &Node) -> Vec<(&'static str, Type)> {
+    let parameters = function.field("params").number() as usize;
     let kind = |number: usize| match number {
         0 => "result",
         _ if number <= parameters => "parameter",
         _ => "local",
     };
-    let locals = elements(&words[4], "l");
-    if locals.len() <= parameters || locals.iter().any(|local| local.head() != "local") {
+    let locals = function.field("locals").list();
+    if locals.len() <= parameters {
         failed("the middle code has another form: the places of a function");
     }
-    locals.iter().enumerate().map(|(number, local)| (kind(number), type_of(&local.list()[1]))).collect()
+    let held = locals.iter().enumerate().map(|(number, local)| (kind(number), type_of(local.field("ty"))));
+    let lent = function.field("body").named("LendStatic").into_iter().map(|words| match words.list() {
+        [_, of, _] => ("constant", type_of(of)),
+        _ => failed("the middle code has another form: a constant"),
+    });
+    held.chain(lent).collect()
 }
 
-/// The fields of a record's forms; none where the body is no record's.
-pub fn record(body: &Node) -> Option<Vec<Vec<Type>>> {
-    let fields = |list: &Node| elements(list, "t").into_iter().map(type_of).collect();
-    match body.head() {
-        "fields" => Some(vec![fields(&body.list()[1])]),
-        "variants" => Some(elements(&body.list()[1], "tt").into_iter().map(fields).collect()),
-        _ => None,
+/// The fields of a record's forms.
+pub fn record(shape: &Node) -> Vec<Vec<Type>> {
+    let fields = |list: &Node| list.list().iter().map(type_of).collect();
+    match shape.case() {
+        ("Fields", list) => vec![fields(list)],
+        ("Variants", lists) => lists.list().iter().map(fields).collect(),
+        (other, _) => failed(&format!("the middle code has another form: a record of {other}")),
     }
 }
 
@@ -51,38 +52,24 @@ pub fn read(files: &[String]) -> Code {
         let text = std::fs::read_to_string(file).unwrap_or_else(|_| failed(&format!("{file} cannot be read")));
         let name = file.rsplit('/').next().unwrap().trim_end_matches(".mir");
         code.crates.insert(name.to_string());
-        let root = parsed(&text);
-        if code.take_nodes(&root) == 0 {
-            failed(&format!("{file} has no function"));
-        }
-        // A list of some hundred thousand nodes, one in another, is left to the end of the program.
-        std::mem::forget(root);
+        code.take_functions(&parsed(&text));
+    }
+    if code.functions.is_empty() {
+        failed("the files have no function");
     }
     code
 }
 
 impl Code {
-    /// Takes the functions and records among a file's nodes; how many functions there are.
-    fn take_nodes(&mut self, root: &Node) -> usize {
-        let mut waiting = vec![root];
-        let mut functions = 0;
-        while let Some(node) = waiting.pop() {
-            let words = node.list();
-            match node.head() {
-                "fn-def" => {
-                    functions += 1;
-                    self.take_function(words[1].text(), places(&words[2]));
-                }
-                "pair" if words.len() == 3 => {
-                    if let Some(fields) = record(&words[2]) {
-                        self.take_record(words[1].text(), fields);
-                    }
-                }
-                _ => (),
+    /// Takes a file's functions, each with the records that it uses. A crate of laws alone has none.
+    fn take_functions(&mut self, root: &Node) {
+        for pair in root.list() {
+            let [name, function] = pair.list() else { failed("the middle code has another form: a function") };
+            self.take_function(name.text(), places(function));
+            for of in function.field("types").list() {
+                self.take_record(of.field("name").text(), record(of.field("shape")));
             }
-            waiting.extend(words);
         }
-        functions
     }
 
     /// Takes a function, which another file may have too.

@@ -1,6 +1,6 @@
-//! Searches the checker's own middle code for arrays. `rt mir CRATE` prints it, with the type of every result,
-//! parameter and local, inferred ones too, and the fields of every record that they use; tests/memory/run hands it in,
-//! in a file CRATE.mir for each crate.
+//! Searches the checker's own middle code for arrays. The kit keeps it in each built library, with the type of every
+//! result, parameter and local, inferred ones too, and the fields of every record that they use; tests/memory/run hands
+//! it in, in a file CRATE.mir for each crate.
 //!
 //!     arrays signals FILE.mir...      fails if an array or a slice of signals is anywhere: its elements are signals,
 //!                                     or hold one; but for an array of parts, as a model has it

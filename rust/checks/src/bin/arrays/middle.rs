@@ -1,15 +1,23 @@
-//! The middle code that `rt mir` prints, one expression of atoms, texts and lists, and the types in it.
+//! The middle code of a built library, as the kit keeps it in the file mir.json of the library: one value of JSON, and
+//! the types in it.
 
 use crate::failed;
 
+/// A value of JSON. Numbers are kept as they are spelled.
 pub enum Node {
-    Atom(String),
+    Word(String),
     Text(String),
     List(Vec<Node>),
+    Fields(Vec<(String, Node)>),
+}
+
+/// Says that the middle code is not as it is read here.
+fn other_form(what: &str) -> ! {
+    failed(&format!("the middle code has another form: {what}"))
 }
 
 impl Node {
-    /// A list's nodes; none of any other node.
+    /// A list's values; none of any other node.
     pub fn list(&self) -> &[Node] {
         match self {
             Node::List(nodes) => nodes,
@@ -17,77 +25,135 @@ impl Node {
         }
     }
 
-    /// A list's first atom.
-    pub fn head(&self) -> &str {
-        self.list().first().map_or("", Node::atom)
-    }
-
-    /// An atom's word.
-    pub fn atom(&self) -> &str {
-        match self {
-            Node::Atom(atom) => atom,
-            _ => "",
-        }
-    }
-
     /// A text's characters.
     pub fn text(&self) -> &str {
         match self {
             Node::Text(text) => text,
-            _ => "",
+            _ => other_form("a text is wanted"),
         }
     }
 
-    /// An atom's number.
+    /// A whole number.
     pub fn number(&self) -> u64 {
-        self.atom().parse().unwrap_or_else(|_| failed("the middle code has another form: a number is wanted"))
+        match self {
+            Node::Word(word) => word.parse().unwrap_or_else(|_| other_form("a number is wanted")),
+            _ => other_form("a number is wanted"),
+        }
+    }
+
+    /// A field of an object.
+    pub fn field(&self, name: &str) -> &Node {
+        let Node::Fields(fields) = self else { other_form(&format!("the field {name} is wanted")) };
+        let found = fields.iter().find(|(own, _)| own == name);
+        found.map_or_else(|| other_form(&format!("there is no field {name}")), |(_, node)| node)
+    }
+
+    /// All fields of a name, in any object inside.
+    pub fn named(&self, name: &str) -> Vec<&Node> {
+        let mut found = Vec::new();
+        match self {
+            Node::List(nodes) => nodes.iter().for_each(|node| found.extend(node.named(name))),
+            Node::Fields(fields) => fields.iter().for_each(|(own, node)| {
+                found.extend((own == name).then_some(node));
+                found.extend(node.named(name));
+            }),
+            Node::Word(_) | Node::Text(_) => {}
+        }
+        found
+    }
+
+    /// A case and what it holds: that of an object is its one field. A text holds nothing but itself.
+    pub fn case(&self) -> (&str, &Node) {
+        match self {
+            Node::Text(name) => (name, self),
+            Node::Fields(fields) if fields.len() == 1 => (&fields[0].0, &fields[0].1),
+            _ => other_form("a case is wanted"),
+        }
     }
 }
 
-/// The nodes that a text spells.
-pub fn parsed(code: &str) -> Node {
-    let mut open = vec![Vec::new()];
-    let mut rest = code.trim_start();
-    while let Some(first) = rest.chars().next() {
-        let end;
-        match first {
-            '(' => {
-                open.push(Vec::new());
-                end = 1;
+/// What is left to read.
+struct Reader<'a> {
+    rest: &'a str,
+}
+
+impl Reader<'_> {
+    /// Whether a sign comes next; then it is taken.
+    fn takes(&mut self, sign: char) -> bool {
+        self.rest = self.rest.trim_start();
+        let Some(rest) = self.rest.strip_prefix(sign) else { return false };
+        self.rest = rest;
+        true
+    }
+
+    /// One value.
+    fn value(&mut self) -> Node {
+        if self.takes('[') {
+            return Node::List(self.items(']', Reader::value));
+        }
+        if self.takes('{') {
+            return Node::Fields(self.items('}', Reader::named));
+        }
+        if self.takes('"') {
+            return Node::Text(self.text());
+        }
+        let end = self.rest.find(|c: char| c.is_whitespace() || ",]}".contains(c)).unwrap_or(self.rest.len());
+        let (word, rest) = self.rest.split_at(end);
+        if word.is_empty() {
+            other_form("a value is wanted");
+        }
+        self.rest = rest;
+        Node::Word(word.to_string())
+    }
+
+    /// A field of an object.
+    fn named(&mut self) -> (String, Node) {
+        let quoted = self.takes('"');
+        let name = self.text();
+        if !quoted || !self.takes(':') {
+            other_form("a field is wanted");
+        }
+        (name, self.value())
+    }
+
+    /// What stands between a bracket and its end.
+    fn items<T>(&mut self, end: char, item: fn(&mut Self) -> T) -> Vec<T> {
+        let mut items = Vec::new();
+        while !self.takes(end) {
+            if !items.is_empty() && !self.takes(',') {
+                other_form("a comma is wanted");
             }
-            ')' => {
-                let list = Node::List(open.pop().unwrap_or_default());
-                open.last_mut().unwrap_or_else(|| failed("the middle code has another form: a bracket")).push(list);
-                end = 1;
-            }
-            '"' => {
-                end = 2 + rest[1..].find('"').unwrap_or_else(|| failed("the middle code has another form: a text"));
-                open.last_mut().unwrap().push(Node::Text(rest[1..end - 1].to_string()));
-            }
-            _ => {
-                end = rest.find(|c: char| c.is_whitespace() || "()\"".contains(c)).unwrap_or(rest.len());
-                open.last_mut().unwrap().push(Node::Atom(rest[..end].to_string()));
+            items.push(item(self));
+        }
+        items
+    }
+
+    /// The characters of a text, after the quote that begins it. One that is spelled by a stroke stays so.
+    fn text(&mut self) -> String {
+        let mut text = String::new();
+        let mut signs = self.rest.char_indices();
+        while let Some((at, sign)) = signs.next() {
+            match sign {
+                '"' => {
+                    self.rest = &self.rest[at + 1..];
+                    return text;
+                }
+                '\\' => text.extend([Some(sign), signs.next().map(|(_, next)| next)].iter().flatten()),
+                _ => text.push(sign),
             }
         }
-        rest = rest[end..].trim_start();
+        other_form("a text does not end")
     }
-    if open.len() != 1 {
-        failed("the middle code has another form: a bracket");
-    }
-    Node::List(open.pop().unwrap())
 }
 
-/// The elements of a list that is spelled by `cons` and `nil` of some sort: (lcons A (lcons B lnil)).
-pub fn elements<'a>(mut node: &'a Node, sort: &str) -> Vec<&'a Node> {
-    let mut found = Vec::new();
-    while node.head() == format!("{sort}cons") && node.list().len() == 3 {
-        found.push(&node.list()[1]);
-        node = &node.list()[2];
+/// The value that a file spells.
+pub fn parsed(code: &str) -> Node {
+    let mut reader = Reader { rest: code };
+    let node = reader.value();
+    if !reader.rest.trim().is_empty() {
+        other_form("there is more than one value");
     }
-    if node.atom() != format!("{sort}nil") {
-        failed("the middle code has another form: a list");
-    }
-    found
+    node
 }
 
 #[derive(Clone, PartialEq, Eq, PartialOrd, Ord)]
@@ -104,23 +170,23 @@ pub enum Type {
 
 /// The type that a node spells.
 pub fn type_of(node: &Node) -> Type {
-    let words = node.list();
-    match (node.atom(), node.head(), words.len()) {
-        ("tyBool", _, _) => Type::Bool,
-        ("tyUnit", _, _) => Type::Unit,
-        ("tyPtr", _, _) => Type::Pointer,
-        (_, "tyInt", 2) => Type::Number(words[1].number()),
-        (_, "tyFloat", 2) => Type::Number(words[1].number()),
-        (_, "tyNamed", 2) if words[1].head() == "pair" => Type::Named(words[1].list()[1].text().to_string()),
-        (_, "tyRef", 4) => Type::Reference(Box::new(type_of(&words[3]))),
-        (_, "tyArray", 3) if words[2].head() == "lenLit" => {
-            Type::Array(Box::new(type_of(&words[1])), words[2].list()[1].number())
+    let (name, holds) = node.case();
+    let words = holds.list();
+    match (name, words.len()) {
+        ("Bool", _) => Type::Bool,
+        ("Unit", _) => Type::Unit,
+        ("Ptr", _) => Type::Pointer,
+        ("Int" | "Float", _) => Type::Number(holds.number()),
+        ("Named", 2) => Type::Named(words[0].field("name").text().to_string()),
+        ("Ref", 3) => Type::Reference(Box::new(type_of(&words[2]))),
+        ("Array", 2) if words[1].case().0 == "Lit" => {
+            Type::Array(Box::new(type_of(&words[0])), words[1].case().1.number())
         }
-        (_, "tyStruct", 3) if words[1].text() == "&[]" => match type_of(elements(&words[2], "t")[0]) {
-            Type::Reference(element) => Type::Slice(element),
-            _ => failed("the middle code has another form: a slice"),
+        ("Struct", 2) if words[0].text() == "&[]" => match words[1].list().first().map(type_of) {
+            Some(Type::Reference(element)) => Type::Slice(element),
+            _ => other_form("a slice"),
         },
-        (atom, head, _) => failed(&format!("the middle code has another form: a type {atom}{head}")),
+        _ => other_form(&format!("a type {name}")),
     }
 }
 
