@@ -5,6 +5,7 @@ use crate::files::Taken;
 use crate::home::Program;
 use crate::messages::Messages;
 use crate::output::Output;
+use crate::system;
 use std::io::{self, IsTerminal, Read, Write};
 use std::os::unix::process::ExitStatusExt;
 use std::path::Path;
@@ -19,7 +20,15 @@ struct Ended {
     said: String,
 }
 
-/// Rehearses, or prints a sheet, by the proved program.
+impl Ended {
+    /// Whether it could not write its lines.
+    fn unwritten(&self) -> bool {
+        self.status == DONE && !self.said.is_empty()
+    }
+}
+
+/// Rehearses, or prints a sheet, by the proved program. A proved program hears nothing of a reader that has gone: it
+/// says, as of a full disk, that it could not write.
 pub fn print(
     root: &Path,
     program: Program,
@@ -30,7 +39,7 @@ pub fn print(
     let numbers = arguments.numbers();
     let mut bytes = numbers.map(chosen).unwrap_or_default();
     bytes.extend(&taken.input.bytes);
-    let ended = match numbers {
+    let mut ended = match numbers {
         Some(numbers) if io::stdout().is_terminal() => headed(root, program, &bytes, &heading(numbers))?,
         _ => run(root, program, &bytes, Stdio::inherit())?,
     };
@@ -38,12 +47,15 @@ pub fn print(
         let sheet = &arguments.sheet;
         return Err(Failure::new(BAD, format!("--sheet {sheet}: the table has no part {part} (refused 26)")));
     }
+    if ended.unwritten() && system::reader_gone(1) {
+        ended = Ended { status: READER_GONE, said: String::new(), ..ended };
+    }
     remark(taken, ended.status, messages);
     if !ended.said.is_empty() {
         messages.say(&ended.said);
     }
     // A program that could not write its lines says so on standard error, and has no status to tell it by.
-    Ok(if ended.status == DONE && !ended.said.is_empty() { UNWRITTEN } else { ended.status })
+    Ok(if ended.unwritten() { UNWRITTEN } else { ended.status })
 }
 
 /// Saves a table by the proved program.

@@ -1,7 +1,7 @@
-//! What the standard library does not tell: which of the standard streams are closed, what the caller may read and
-//! write, the caller's other open files, and signals that are held back.
+//! What the standard library does not tell: which of the standard streams are closed, whether somebody still reads one,
+//! what the caller may read and write, the caller's other open files, and signals that are held back.
 use std::env;
-use std::ffi::{c_char, c_int, CString};
+use std::ffi::{c_char, c_int, c_short, c_ulong, CString};
 use std::fs::File;
 use std::io;
 use std::os::fd::BorrowedFd;
@@ -19,6 +19,9 @@ const READ: c_int = 4;
 /// The signals that end a command and can be held back: hangup, interrupt, termination, and a file beyond its limit.
 const ENDING: [c_int; 4] = [1, 2, 15, 25];
 
+/// What poll(2) tells of a pipe whose reader has gone.
+const ERROR: c_short = 8;
+
 /// How sigprocmask(2) is asked to add to the signals that are held back, and to set them.
 const BLOCK: c_int = 0;
 const SET: c_int = 2;
@@ -26,7 +29,16 @@ const SET: c_int = 2;
 /// A set of signals: the C library's has 1,024 bits.
 type Signals = [u64; 16];
 
+/// A file that poll(2) is asked about, what it is asked, and what it tells.
+#[repr(C)]
+struct Polled {
+    descriptor: c_int,
+    asked: c_short,
+    told: c_short,
+}
+
 extern "C" {
+    fn poll(files: *mut Polled, count: c_ulong, wait: c_int) -> c_int;
     fn access(path: *const c_char, mode: c_int) -> c_int;
     fn sigprocmask(how: c_int, set: *const Signals, old: *mut Signals) -> c_int;
 }
@@ -35,6 +47,14 @@ extern "C" {
 pub fn is_open(stream: u8) -> bool {
     let closed = env::var(CLOSED).unwrap_or_default();
     !closed.contains(char::from(b'0' + stream))
+}
+
+/// Whether a stream is a pipe whose reader has gone.
+pub fn reader_gone(stream: u8) -> bool {
+    let mut polled = Polled { descriptor: c_int::from(stream), asked: 0, told: 0 };
+    // SAFETY: the one file lives as long as the call, which does not wait.
+    let count = unsafe { poll(&mut polled, 1, 0) };
+    count == 1 && polled.told & ERROR != 0
 }
 
 /// Whether the caller may do something with a file.

@@ -151,4 +151,12 @@ fn a_reader_that_goes_ends_the_program() {
     root.answers("a long pipe and a reader that goes", &mut command, 141, "y\n", &behind("standard input", "4464"));
     let mut command = root.shell("\"$0\" --sheet 0,1,2 bytes | head -n 1; exit ${PIPESTATUS[0]}");
     root.answers("a reader of a sheet that goes", &mut command, 141, "y\n", "");
+    // Programs that go on, and then say that not all could be written.
+    let deaf = "trap '' PIPE; cat >/dev/null; yes 2>/dev/null; echo not all lines could be written >&2";
+    root.program(Program::Rehearse, deaf);
+    root.program(Program::PrintSheet, deaf);
+    let mut command = root.shell("\"$0\" bytes | head -n 1; exit ${PIPESTATUS[0]}");
+    root.answers("a reader that goes, unheard", &mut command, 141, "y\n", "");
+    let mut command = root.shell("\"$0\" --sheet 0,1,2 bytes | head -n 1; exit ${PIPESTATUS[0]}");
+    root.answers("a reader of a sheet that goes, unheard", &mut command, 141, "y\n", "");
 }

@@ -4,10 +4,12 @@
 //! with its name, one or more lines `# refused in: PLACE`, and the replacements that make it. A place is a fact that it
 //! breaks:
 //!
-//!     # refused in: FILE DECLARATION [ROW]    an answer, a proof or a law of the crate (.antt), and a row of it
-//!     # refused in: fn PATH [GOAL]            a goal of a function that the checker proves by itself, whether or not
-//!                                             the function has a proof file; PATH begins with the crate
-//!     # refused in: FILE GOAL                 the same, by the function's file (.rt)
+//! ```text
+//! # refused in: FILE DECLARATION [ROW]    an answer, a proof or a law of the crate (.antt), and a row of it
+//! # refused in: fn PATH [GOAL]            a goal of a function that the checker proves by itself, whether or not the
+//!                                         function has a proof file; PATH begins with the crate
+//! # refused in: FILE GOAL                 the same, by the function's file (.rt)
+//! ```
 //!
 //! `edits apply` sees that each edit is well formed, before `rt ci` starts: every text to be replaced is there exactly
 //! once, no two wrong programs of an edit change one function or name one place, no two of a crate have one name, and
