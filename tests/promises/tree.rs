@@ -40,8 +40,9 @@ impl Crate {
 /// The crates that crates.txt names, in its order.
 pub fn crates() -> Vec<Crate> {
     let list = fs::read_to_string("crates.txt").unwrap_or_default();
-    let names = list.lines().filter(|line| !line.starts_with('#')).filter_map(|line| line.split_once(':'));
-    names.map(|(name, _)| read_crate(name)).collect()
+    let heads = list.lines().filter(|line| !line.starts_with('#')).filter_map(|line| line.split_once(':'));
+    // After its name a static library is called one.
+    heads.filter_map(|(head, _)| head.split_whitespace().next()).map(read_crate).collect()
 }
 
 /// One crate with its files.
@@ -71,10 +72,17 @@ pub fn files_below(folder: &Path, ending: &str) -> Vec<File> {
     files
 }
 
-/// The paths in a folder, without those that git or a build keeps there.
+/// The paths in a folder, without those that git or a build keeps there: target of the repository and of the workspace,
+/// out of a crate.
 fn entries(folder: &Path) -> Vec<PathBuf> {
     let entries = fs::read_dir(folder).into_iter().flatten().flatten().map(|entry| entry.path());
-    entries.filter(|path| !path.ends_with(".git") && !path.ends_with("target")).collect()
+    let kept = |path: &PathBuf| [".git", "target"].iter().any(|name| path.ends_with(name)) || is_out(path);
+    entries.filter(|path| !kept(path)).collect()
+}
+
+/// Whether a path is the folder in which rt keeps what it makes of a crate. A function's proofs may have that name.
+fn is_out(path: &Path) -> bool {
+    path.ends_with("out") && path.with_file_name("src").is_dir()
 }
 
 /// Whether a line is a comment.
