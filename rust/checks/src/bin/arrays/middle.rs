@@ -116,7 +116,7 @@ impl Reader<'_> {
         (name, self.value())
     }
 
-    /// What stands between a bracket and its end.
+    /// What is between a bracket and its end.
     fn items<T>(&mut self, end: char, item: fn(&mut Self) -> T) -> Vec<T> {
         let mut items = Vec::new();
         while !self.takes(end) {

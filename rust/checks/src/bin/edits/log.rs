@@ -129,7 +129,7 @@ impl Log {
             open = error.is_some();
             errors.extend(error);
             fallen.extend(Fallen::read(line));
-            // A function's notes stand above its own line.
+            // A function's notes are above its own line.
             let Some(function) = function_told(line) else { continue };
             for goal in fallen.iter_mut().rev().take_while(|goal| goal.function.is_empty()) {
                 goal.function = function.to_string();
