@@ -76,6 +76,7 @@ impl Point {
     }
 
     // How this point compares with `other`.
+    #[tactic(auto, unfolding(crate::specs::Time::compared))]
     pub fn compare(self, other: Point) -> Comparison
         ensures { result ≡ compared self other }
     {
