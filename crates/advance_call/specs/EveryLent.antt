@@ -1,8 +1,8 @@
--- Demand 3 of the calls on lent words. `advance_into` (src/lib.rt) promises `AdvancedInto` of its words and outcome for
--- every argument; a chain of such calls is given at each call the state that the last committed one wrote, and enough
--- words for the next. Told of the models that the states mean, it is a chain of the machine's calls, so that
--- `whole_list` (wholelist's specs/Demand3.antt) speaks of it. Where the words spell a model, what `advance_sound_into`
--- promises is the same (`spelled_call`). Assumes nothing.
+-- Demand 3 of the calls on lent words. `advance_into` (src/lib.rt) promises `AdvancedInto` of its words and outcome
+-- for every argument; a chain of such calls is given at each call the state that the last committed one wrote, and
+-- enough words for the next. Told of the models that the states mean, it is a chain of the machine's calls, so that
+-- `whole_list` (advance_lists' proofs/Demand3.antt) speaks of it. Where the words spell a model, what
+-- `advance_sound_into` promises is the same (`spelled_call`). Assumes nothing.
 use Rattle.std.specs.Prelude.{ℕ, ◌≤◌, ◌≡◌, refl, true, false, cond, List, [], ◌∷◌, ◌⊎◌, length}
 use Rattle.std.proofs.Math.Path.{sym, ap, ap₂}
 use Rattle.std.proofs.Common.{◌∙◌, inl, inr, eqb-true, ne_eqb}

@@ -2,7 +2,7 @@
 -- its answer r, for every model m and wanted step w, and asks for nothing; a chain of calls (`Chain`, machine's
 -- specs/Calls.antt) asks of each answer that very promise, and that each call is given the model of the answer before
 -- it. So what a caller gets who hands each answer's model to the next call is a chain, one call at a time, and
--- `whole_list` (wholelist's specs/Demand3.antt) speaks of it. Assumes nothing.
+-- `whole_list` (advance_lists' proofs/Demand3.antt) speaks of it: `proofs/EveryList.antt`. Assumes nothing.
 use Rattle.std.specs.Prelude.{ℕ, refl, List, [], ◌∷◌}
 use Rattle.machine.specs.declared.model.Model.{Model}
 use Rattle.machine.specs.declared.model.Answer.{Answer}

@@ -27,7 +27,7 @@ mod search;
 // search. A call that is refused answers the model handed in; one that is barred, with the number and counts of 0.
 //
 // The contract is the machine's answer. It is the very promise that a chain of calls asks of each of its
-// answers, so that demand 3 holds of every list of these calls after a load: `specs/EveryList.antt`.
+// answers, so that demand 3 holds of every list of these calls after a load: `proofs/EveryList.antt`.
 //
 // The call is `advance_into` on words of its own: the model is put into them, and where a step is committed it takes
 // the new state back. So the rounds and trials of a call copy no model; what it costs besides them is the model handed

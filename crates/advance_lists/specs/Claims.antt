@@ -1,7 +1,7 @@
--- Document 01's third demand of every chain of calls from a sound model. A chain is retraced, call by call: a committed
--- call makes its step, a refused one nothing, so that the list's committed steps, made alone, lead to its last model
--- and through its points. The claim's parts are then laws of steps made alone, and the local counts are those of a last
--- model that is sound again. Assumes nothing.
+-- Document 01's third demand of every chain of calls from a sound model. A chain is retraced, call by call: a
+-- committed call makes its step, a refused one nothing, so that the list's committed steps, made alone, lead to its
+-- last model and through its points. The claim's parts (`proofs/Claims.antt`) are then laws of steps made alone, and
+-- the local counts are those of a last model that is sound again. Assumes nothing.
 use Rattle.std.specs.Prelude.{ℕ, ◌≡◌, refl, true, false, ◌⊎◌, List, [], ◌∷◌, eqb}
 use Rattle.std.proofs.Common.{ap, sym, subst, ◌∙◌, inl, inr, eqb-true, eq-eqb}
 use Rattle.std.proofs.lemmas.Bool.{eqb-false}

@@ -1,7 +1,7 @@
--- Document 01's third demand, of every stream that loads and every chain of calls from the model that it loads to,
--- whatever is in that model's unused places: the model is the fresh one of a table that fits, so it is sound, and it is
--- at the start point. That the calls of `advance` form such chains is in `advance_call`'s specs/EveryList.antt, above
--- the crate that has the call. Assumes nothing.
+-- What a model is that was just loaded, whatever is in its unused places: it is the fresh one of a table that fits, so
+-- it is sound, and it is at the start point. So document 01's third demand holds of every stream that loads and every
+-- chain of calls from the model that it loads to (`proofs/Demand3.antt`). That the calls of `advance` form such chains
+-- is in `advance_call`'s EveryList.antt, above the crate that has the call. Assumes nothing.
 use Rattle.std.specs.Prelude.{ℕ, ◌≡◌, true, List}
 use Rattle.std.proofs.Common.{ap, sym, subst, ◌∙◌}
 use Rattle.machine.specs.declared.model.Model.{Model}

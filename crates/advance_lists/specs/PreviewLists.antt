@@ -1,6 +1,7 @@
 -- Request 3: "Previews put anywhere into a list of advances alter none of its results", of every list of calls that
--- keep what they promise, so that document 01's third demand holds of the advances in it. The idea: a preview hands on
--- the model that it was given, so that what is after it begins where it began. Assumes nothing.
+-- keep what they promise, so that document 01's third demand holds of the advances in it (`proofs/PreviewLists.antt`).
+-- The idea: a preview hands on the model that it was given, so that what is after it begins where it began. Assumes
+-- nothing.
 use Rattle.std.specs.Prelude.{◌≡◌, refl, List, [], ◌∷◌}
 use Rattle.std.proofs.Common.{ap, ap₂, sym, subst, ◌∙◌}
 use Rattle.machine.specs.declared.model.Model.{Model}

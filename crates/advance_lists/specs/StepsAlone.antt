@@ -1,5 +1,6 @@
--- Steps made alone: the point where `steps_made` leaves the model; and that steps which all parts accept, where each is
--- made, lead through every pulse's points. By induction on the list of steps. Assumes nothing.
+-- Steps made alone: the point where `steps_made` leaves the model; and that steps which all parts accept, where each
+-- is made, lead through every pulse's points (k × P, 0); `proofs/StepsAlone.antt` has (k × P, 1). By induction on the
+-- list of steps. Assumes nothing.
 use Rattle.std.specs.Prelude.{ℕ, ◌+◌, ◌*◌, ◌≤◌, ◌<◌, ◌≡◌, refl, length}
 use Rattle.std.proofs.Common.{arith, ap, ◌∙◌}
 use mathlib.Core.List.{List, [], ◌∷◌, Memᴰ}

@@ -1,6 +1,6 @@
 -- The plateau ends of a part: the steps at which what it accepts can end. Where the longest step of at most h that it
--- accepts is not h itself, it is one of these, whatever h is; and there are at most 9 of them, 0 and 8 spans of a
--- drive. So rounds, which lower h from end to end, are few. Assumes nothing.
+-- accepts is not h itself, it is one of these, whatever h is; and there are at most 9 of them (`proofs/Ends.antt`), 0
+-- and 8 spans of a drive. So rounds, which lower h from end to end, are few. Assumes nothing.
 use Rattle.std.specs.Prelude.{ℕ, ◌-◌, ◌≤◌, ◌≡◌, refl, Bool, true, false, cond, ◌⊎◌, length}
 use Rattle.std.proofs.Common.{arith, inl, inr}
 use Rattle.std.proofs.Math.Logic.{⊎_map}

@@ -1,7 +1,7 @@
 -- One round (document 01, "One advance"): it gives at most h; where it gives h, all parts accept h; every step of at
 -- most h that all parts accept is at most what it gives; and where it lowers h, fewer of the parts' plateau ends lie
--- below, of which there are at most 9 a part: 0 and 8 spans. The idea: what a round gives is h, or the longest step of
--- some part, and that is h or an end. Assumes nothing.
+-- below, of which there are at most 9 a part (`proofs/Rounds.antt`): 0 and 8 spans. The idea: what a round gives is h,
+-- or the longest step of some part, and that is h or an end. Assumes nothing.
 use Prim.Native.Nat.{ℕ, zero, suc, ◌≤◌, ◌<◌, min}
 use native.Mathlib.Omega.{arith}
 use Rattle.std.proofs.Common.{◌∙◌}

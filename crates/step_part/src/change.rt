@@ -18,6 +18,7 @@ use machine::time::{LocalTicks, Ticks};
 use part_rules::kind::{has_mass, holds_number};
 
 // The side on which a detector sees its input; zero and an absent one keep the side `kept`.
+#[tactic(auto, using(crate::proofs::Sides::sides))]
 fn side_after(kept: Side, x: Signal) -> Side
     ensures { result ≡ side_after kept x }
 {
