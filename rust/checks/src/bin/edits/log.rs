@@ -1,8 +1,9 @@
 //! What the checker said of an edit.
 
 use crate::edit::Place;
-use std::fs;
-use std::path::Path;
+
+/// What a file of the crate has, as the edit leaves it.
+pub type Texts<'a> = &'a dyn Fn(&str) -> Option<String>;
 
 /// What an error says that only a proof's shape caused: a goal, a place on the way to one, or a fact there has another
 /// name or is gone.
@@ -50,8 +51,8 @@ impl Error {
     }
 
     /// The row that it is in: the last name before it with a sign of equality, but for those that `let` gives.
-    fn row(&self, folders: &[&Path]) -> Option<String> {
-        let text = folders.iter().find_map(|folder| fs::read_to_string(folder.join(&self.file)).ok())?;
+    fn row(&self, texts: Texts) -> Option<String> {
+        let text = texts(&self.file)?;
         let mut lines: Vec<String> = text.lines().take(self.line).map(str::to_string).collect();
         let last = lines.last_mut()?;
         *last = last.chars().take(self.column.saturating_sub(1)).collect();
@@ -138,10 +139,10 @@ impl Log {
         Log { errors, fallen }
     }
 
-    /// What is missing at a place, if anything is. The folders have the files of the log, the first before the others.
-    pub fn missing(&self, place: &Place, folders: &[&Path]) -> Option<String> {
+    /// What is missing at a place, if anything is.
+    pub fn missing(&self, place: &Place, texts: Texts) -> Option<String> {
         let shown = match place {
-            Place::Declaration { file, name, row } => self.declaration_shown(file, name, row.as_deref(), folders),
+            Place::Declaration { file, name, row } => self.declaration_shown(file, name, row.as_deref(), texts),
             Place::Function { name, goal: None } => self.goal_shown(|fallen| &fallen.function == name),
             Place::Function { name, goal: Some(goal) } => {
                 self.goal_shown(|fallen| &fallen.function == name && &fallen.goal == goal)
@@ -157,13 +158,13 @@ impl Log {
 
     /// What the log shows of a declaration. A proof that is one walk of the code is unfit from its first error on; the
     /// answers to a function's goals are each for themselves.
-    fn declaration_shown(&self, file: &str, name: &str, row: Option<&str>, folders: &[&Path]) -> Shown {
+    fn declaration_shown(&self, file: &str, name: &str, row: Option<&str>, texts: Texts) -> Shown {
         let in_file = || self.errors.iter().filter(|error| error.file == file);
         let mut walk = in_file().filter(|error| !error.in_answers() || error.declaration == name);
         if walk.next().is_some_and(Error::unfit) {
             return Shown::Unfit(file.to_string());
         }
-        let here = |e: &&Error| e.declaration == name && (row.is_none() || e.row(folders).as_deref() == row);
+        let here = |e: &&Error| e.declaration == name && (row.is_none() || e.row(texts).as_deref() == row);
         let mut own = in_file().filter(here).filter(|error| !error.follows() && !error.unfit());
         own.next().map_or(Shown::Nothing, |_| Shown::Refused)
     }

@@ -145,14 +145,15 @@ fn form_faults(named: &Named) -> Vec<String> {
 
 /// What an edit's log does not show.
 fn refusal_faults(named: &Named) -> Vec<String> {
-    let copy = PathBuf::from("target/must-fail").join(&named.krate).join(&named.label);
-    let own = PathBuf::from("crates").join(&named.krate);
-    let log = match fs::read_to_string(copy.join(".log")) {
-        Ok(text) => Log::read(&text),
-        Err(_) => return vec![named.fault("it left no log")],
+    let kept = PathBuf::from("target/must-fail").join(&named.krate).join(&named.label).join(".log");
+    let Ok(log) = fs::read_to_string(kept).map(|text| Log::read(&text)) else {
+        return vec![named.fault("it left no log")];
     };
+    let edited = applied(named).unwrap_or_default();
+    let own = |file: &str| fs::read_to_string(PathBuf::from("crates").join(&named.krate).join(file)).ok();
+    let texts = |file: &str| edited.get(file).cloned().or_else(|| own(file));
     let places = named.edit.programs.iter().flat_map(|p| &p.places);
-    places.filter_map(|place| log.missing(place, &[&copy, &own]).map(|what| named.fault(&what))).collect()
+    places.filter_map(|place| log.missing(place, &texts).map(|what| named.fault(&what))).collect()
 }
 
 /// The names that two wrong programs of a crate have.
