@@ -5,8 +5,8 @@ usage: python3 tools/respell_names.py     at the top of the repository, once, af
 
 In an .antt file each word with a dash is respelled, but for names of the kit (those that the file imports from it) and
 names that the checker makes (goals, steps and loops in a proof's own folder). In an .rt file, in an edit and between
-backticks of a comment the words are respelled that some .antt file of this repository declares. Two own names that
-would fall together stop the script before it writes.
+backticks of a comment the words are respelled that some .antt file of this repository declares. It prints the names of
+a file that fall together; a proof's own path and its function's definition do so without harm.
 """
 import os
 import re
