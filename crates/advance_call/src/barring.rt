@@ -9,7 +9,7 @@ ghost use Rattle.advance_call.specs.Barring.{barred_by};
 
 use crate::past::leads_past;
 use machine::time::{Point, Ticks};
-use refusals::{NOT_SOUND, PAST_LAST_TICK, WANTED_OUT_OF_RANGE, first_of, refusal};
+use refusals::numbers::{NOT_SOUND, PAST_LAST_TICK, WANTED_OUT_OF_RANGE, first_of, refusal};
 
 // Whether a wanted step is in its range.
 fn may_be_wanted(w: u64) -> bool

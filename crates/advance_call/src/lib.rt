@@ -13,7 +13,7 @@ ghost use Rattle.advance_call.specs.Into.{AdvancedInto, AdvancedSound, lent_mode
 use crate::barring::barred_number;
 use crate::search::searched_into;
 use machine::model::{Answer, Model, Outcome, PARTS};
-use refusals::{NOT_SOUND, TOO_SHORT};
+use refusals::numbers::{NOT_SOUND, TOO_SHORT};
 use sound_test::is_sound_in;
 use words_store::lookup::{STATE_ROOM, TABLE_ROOM, parts_of, point_of, state_words};
 use words_transfer::intake::put_fitting;

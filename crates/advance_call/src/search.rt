@@ -15,7 +15,7 @@ use ask_parts::rounds::least_in;
 use ask_parts::trials::any_objects_in;
 use machine::model::Outcome;
 use machine::time::Ticks;
-use refusals::{DUE_AT_LAST_MICROSTEP, NO_STEP_ACCEPTED};
+use refusals::numbers::{DUE_AT_LAST_MICROSTEP, NO_STEP_ACCEPTED};
 use step_parts::settling::settled_into;
 use step_parts::step::trial_into;
 use words_store::lookup::point_of;

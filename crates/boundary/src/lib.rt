@@ -17,7 +17,7 @@ use advance_call::advance_into;
 use load_call::load;
 use machine::model::{Model, Outcome, Written};
 use preview_call::preview_into;
-use refusals::NOT_SOUND;
+use refusals::numbers::NOT_SOUND;
 use save_call::save;
 use sheet_call::sheet;
 use words_transfer::intake::put_model;

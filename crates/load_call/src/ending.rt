@@ -16,7 +16,7 @@ use load_table::table::TableRead;
 use machine::model::{Loaded, Model, PARTS};
 use machine::time::Point;
 use order_place::place;
-use refusals::{LOOP, NO_PARTS, PERIOD_TOO_LONG, first_of, refusal};
+use refusals::numbers::{LOOP, NO_PARTS, PERIOD_TOO_LONG, first_of, refusal};
 use step_parts::start::started;
 
 // The refusal at an End after `count` parts, by whether every P fits, and how many parts could be placed.

@@ -13,7 +13,7 @@ use load_operands::refusal::port_refusal;
 use machine::model::PARTS;
 use machine::part::{Component, SPANS, Source};
 use part_rules::kind::{is_drive, kind_numbered};
-use refusals::NOT_THERE;
+use refusals::numbers::NOT_THERE;
 
 // Whether Begin was read, whether a span may follow, the default magnitude, and the parts: the first `count` places are
 // in use. Free in every progress that is answered: the places after them, and a component's own places for spans, which

@@ -19,7 +19,7 @@ use load_operands::operands::{
     PartOperands, PartRead, WireOperands, WireRead, part_operands, wire_operands,
 };
 use load_operands::refusal::{begin_refusal, part_refusal, span_refusal};
-use refusals::CUT;
+use refusals::numbers::CUT;
 
 // What a command comes to: its refusal's number, 0 meaning none, and the position and the progress after it; those of a
 // refusal are the command's own position and the progress before it. Free are the unused places of a progress

@@ -14,7 +14,7 @@ use part_rules::operand::operands_fit;
 use part_rules::port::ports_of;
 use part_rules::range::{is_positive, magnitude_known, preference_known};
 use part_rules::source::is_wired;
-use refusals::{
+use refusals::numbers::{
     ALREADY_WIRED, NOT_THERE, OUT_OF_PLACE, OUT_OF_RANGE, SPAN_NOT_RISING, TOO_MANY,
     UNKNOWN_COMMAND, first_of, refusal,
 };

@@ -5,7 +5,7 @@ ghost use Rattle.machine.specs.Score.{score_at};
 
 use crate::cursor::{ByteRead, Cursor, WordRead, byte, u32_at};
 use machine::model::Score;
-use refusals::CUT;
+use refusals::numbers::CUT;
 
 // What the score holds at position `at` of the stream `s`: its end, a wanted step (6), or a refusal:
 // 3 for a table's command (1 to 5), 2 for another byte, 1 for a command that the stream's end cuts.

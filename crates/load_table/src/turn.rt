@@ -16,7 +16,7 @@ use load_commands::table_command::{SpanResult, begin, part, span, wire};
 use load_operands::refusal::{BEGIN_BYTE, END_BYTE, PART_BYTE, SPAN_BYTE, command_refusal};
 use machine::model::PARTS;
 use machine::part::SPANS;
-use refusals::CUT;
+use refusals::numbers::CUT;
 
 // The Span at a position, after the progress and its rows.
 fn span_beside(s: &[u8], at: usize, progress: Progress, rows: [[u32; SPANS]; PARTS]) -> SpanResult

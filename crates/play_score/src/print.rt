@@ -16,7 +16,7 @@ ghost use Rattle.play_score.specs.Playing.{
 use crate::format::{CHOICE, Format, missing_of};
 use crate::play::play_batch;
 use load_call::load;
-use refusals::NOT_PRINTABLE;
+use refusals::numbers::NOT_PRINTABLE;
 use words_store::lookup::{STATE_ROOM, TABLE_ROOM};
 use words_transfer::intake::put_fitting;
 use write_lines::line::write_refused_at;

@@ -10,7 +10,7 @@ ghost use Rattle.prog_printsheet.specs.SheetPrinted.{most_input};
 use crate::choice::choice_of;
 use play_score::format::{CHOICE, Format};
 use play_score::print::{print_score, refuse};
-use refusals::CUT;
+use refusals::numbers::CUT;
 
 mod choice;
 

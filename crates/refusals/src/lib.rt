@@ -1,79 +1,130 @@
-// Refusals: the one list of their numbers, with the names of the binding's enum; a number where there is cause for it,
-// 0 meaning none; and the first of two. The order of tests is then the order of operands.
+// Refusals: each by its cause, with the numbers of the binding's enum; a refusal where there is cause for it, so that
+// the order of tests is the order of operands; and what a call that writes into a lent buffer returns when it does not.
 #![tactic(auto)]
 
-ghost use Rattle.std.specs.Prelude.{◌≡◌, cond, eqb};
+ghost use Rattle.std.specs.Prelude.{◌≡◌, cond};
+ghost use Rattle.refusals.specs.declared.Unwritten.TheVariants.{Refused};
+ghost use Rattle.refusals.specs.Numbers.{refusal_number};
+ghost use Rattle.refusals.specs.Unwritten.{unwritten_number, unwritten_length};
 
-// The stream is cut.
-pub const CUT: u64 = 1;
+pub mod numbers;
 
-// The command byte is unknown.
-pub const UNKNOWN_COMMAND: u64 = 2;
-
-// The command is out of place.
-pub const OUT_OF_PLACE: u64 = 3;
-
-// An operand is out of its range.
-pub const OUT_OF_RANGE: u64 = 5;
-
-// There are too many parts or spans.
-pub const TOO_MANY: u64 = 6;
-
-// A wire names what is not there.
-pub const NOT_THERE: u64 = 7;
-
-// The port is wired already.
-pub const ALREADY_WIRED: u64 = 8;
-
-// The table has no parts.
-pub const NO_PARTS: u64 = 9;
-
-// Some P is too long.
-pub const PERIOD_TOO_LONG: u64 = 10;
-
-// There is a loop.
-pub const LOOP: u64 = 11;
-
-// A span does not rise.
-pub const SPAN_NOT_RISING: u64 = 12;
-
-// The wanted step is out of its range.
-pub const WANTED_OUT_OF_RANGE: u64 = 20;
-
-// Some part is due at the last microstep.
-pub const DUE_AT_LAST_MICROSTEP: u64 = 21;
-
-// No step is accepted by all.
-pub const NO_STEP_ACCEPTED: u64 = 22;
-
-// The step may lead past the last tick.
-pub const PAST_LAST_TICK: u64 = 23;
-
-// The model is not sound, or the words spell none.
-pub const NOT_SOUND: u64 = 24;
-
-// A lent buffer is too short.
-pub const TOO_SHORT: u64 = 25;
-
-// The line cannot be printed.
-pub const NOT_PRINTABLE: u64 = 26;
-
-// A refusal's number where there is cause for it.
-pub fn refusal(cause: bool, number: u64) -> u64
-    ensures { result ≡ cond cause number 0 }
-{
-    if cause {
-        return number;
-    }
-    0
+// A refusal, by its cause. Each has its number.
+#[derive(Clone, Copy, Debug, PartialEq, Eq)]
+pub enum Refusal {
+    // The stream is cut.
+    Cut = 1,
+    // The command byte is unknown.
+    UnknownCommand = 2,
+    // The command is out of place.
+    OutOfPlace = 3,
+    // An operand is out of its range.
+    OutOfRange = 5,
+    // There are too many parts or spans.
+    TooMany = 6,
+    // A wire names what is not there.
+    NotThere = 7,
+    // The port is wired already.
+    AlreadyWired = 8,
+    // The table has no parts.
+    NoParts = 9,
+    // Some P is too long.
+    PeriodTooLong = 10,
+    // There is a loop.
+    Loop = 11,
+    // A span does not rise.
+    SpanNotRising = 12,
+    // The wanted step is out of its range.
+    WantedOutOfRange = 20,
+    // Some part is due at the last microstep.
+    DueAtLastMicrostep = 21,
+    // No step is accepted by all.
+    NoStepAccepted = 22,
+    // The step may lead past the last tick.
+    PastLastTick = 23,
+    // The model is not sound, or the words spell none.
+    NotSound = 24,
+    // A lent buffer is too short.
+    TooShort = 25,
+    // The line cannot be printed.
+    NotPrintable = 26,
 }
 
-// The first of two refusals, where there is one.
-pub fn first_of(first: u64, second: u64) -> u64
-    ensures { result ≡ cond (eqb first 0) second first }
-{
-    if first == 0 {
-        return second;
+impl Refusal {
+    // Its number.
+    pub fn number(self) -> u64
+        ensures { result ≡ refusal_number self }
+    {
+        self as u64
     }
-    first
+
+    // This refusal where there is cause for it.
+    pub fn when(self, cause: bool) -> Result<(), Refusal>
+        ensures { result ≡ cond cause (Err self) (Ok tt) }
+    {
+        if cause { Err(self) } else { Ok(()) }
+    }
+
+    // This refusal at a position of a stream.
+    pub fn at(self, position: usize) -> RefusedAt
+        ensures { result ≡ record { refusal = self; position = position } }
+    {
+        RefusedAt {
+            refusal: self,
+            position,
+        }
+    }
+}
+
+impl From<Refusal> for u64 {
+    ghost from_gives = { λ r n. n ≡ refusal_number r };
+
+    fn from(refusal: Refusal) -> u64 {
+        refusal.number()
+    }
+}
+
+// A refusal of a stream, and the position there.
+#[derive(Clone, Copy, Debug, PartialEq, Eq)]
+pub struct RefusedAt {
+    pub refusal: Refusal,
+    pub position: usize,
+}
+
+// Why a call that writes into a lent buffer wrote nothing: a refusal, or the buffer is too short, which needs so many
+// bytes.
+#[derive(Clone, Copy, Debug, PartialEq, Eq)]
+pub enum Unwritten {
+    Refused(Refusal),
+    Short(usize),
+}
+
+impl Unwritten {
+    // Its number.
+    pub fn number(self) -> u64
+        ensures { result ≡ unwritten_number self }
+    {
+        match self {
+            Unwritten::Refused(refusal) => refusal.number(),
+            Unwritten::Short(_) => Refusal::TooShort.number(),
+        }
+    }
+
+    // How many bytes the buffer needs where it is too short, else 0.
+    pub fn needed(self) -> usize
+        ensures { result ≡ unwritten_length self }
+    {
+        match self {
+            Unwritten::Refused(_) => 0,
+            Unwritten::Short(needed) => needed,
+        }
+    }
+}
+
+impl From<Refusal> for Unwritten {
+    ghost from_gives = { λ r u. u ≡ Refused r };
+
+    fn from(refusal: Refusal) -> Unwritten {
+        Unwritten::Refused(refusal)
+    }
 }

@@ -12,7 +12,7 @@ ghost use Rattle.save_call.specs.SavedInto.{SavedInto};
 
 use crate::sweep::{lengths_of, put_table};
 use machine::model::Written;
-use refusals::{NOT_SOUND, TOO_SHORT};
+use refusals::numbers::{NOT_SOUND, TOO_SHORT};
 use sound_test::is_sound_in;
 
 mod sweep;

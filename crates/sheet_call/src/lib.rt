@@ -10,7 +10,7 @@ ghost use Rattle.sheet_call.specs.SheetInto.{SheetInto, lent_sheet_refusal, outc
 
 use crate::row::{counts_fit, put_refusal_row, put_step_row};
 use machine::model::{Outcome, Written};
-use refusals::{NOT_PRINTABLE, NOT_SOUND, TOO_SHORT};
+use refusals::numbers::{NOT_PRINTABLE, NOT_SOUND, TOO_SHORT};
 use sound_test::is_sound_in;
 use words_store::lookup::{output_at, parts_of, point_of};
 

@@ -11,7 +11,7 @@ ghost use Rattle.words_transfer.specs.PutInto.{PutInto};
 
 use machine::model::{Model, PARTS};
 use machine::part::{Component, Kind, SPANS, Source};
-use refusals::{NOT_SOUND, TOO_SHORT};
+use refusals::numbers::{NOT_SOUND, TOO_SHORT};
 use words_codec::fields::{encode_kind, encode_source};
 use words_store::lookup::{state_words, table_words};
 use words_store::update::{put_point, put_state, word_of};

@@ -14,7 +14,7 @@ use crate::length::output_length;
 use crate::line::{numbers_length, put_numbers, write_refused};
 use crate::text::put_output;
 use machine::model::Written;
-use refusals::{NOT_SOUND, TOO_SHORT};
+use refusals::numbers::{NOT_SOUND, TOO_SHORT};
 use words_store::form::spelled;
 use words_store::lookup::{output_at, parts_of, point_of};
 use write_bytes::put::put_byte;

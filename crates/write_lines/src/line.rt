@@ -10,7 +10,7 @@ ghost use Rattle.write_lines.specs.LineNumbers.{numbers_text};
 use crate::length::digits_of;
 use crate::text::put_decimal;
 use machine::model::Written;
-use refusals::TOO_SHORT;
+use refusals::numbers::TOO_SHORT;
 use write_bytes::put::{put_byte, put_text};
 
 // `refused N`, which begins the line of every refusal.
