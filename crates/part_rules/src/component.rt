@@ -16,43 +16,26 @@ use machine::part::{Component, Kind, SPANS};
 fn span_room(k: Kind) -> usize
     ensures { result ≡ cond (is_drive k) most_spans 0 }
 {
-    if is_drive(k) {
-        return SPANS;
-    }
-    0
+    if is_drive(k) { SPANS } else { 0 }
 }
 
 // Whether there are as many spans as the component says, no more than its kind may have, and they rise.
+#[tactic(auto, unfolding(machine::specs::Sound::spans_fit, machine::specs::Model::trimmed_component))]
 fn spans_fit(c: Component) -> bool
     ensures { result ≡ spans_fit (trimmed_component c) }
 {
-    let kind = c.kind;
-    if c.span_count > span_room(kind) {
-        return false;
-    }
-    let spans = c.spans;
-    spans_rise(spans, c.span_count)
+    c.span_count <= span_room(c.kind) && spans_rise(&c.spans[..c.span_count])
 }
 
 // Whether loading accepts this component, without the places that no span is in, in a table of so many parts.
+#[tactic(auto, unfolding(machine::specs::Sound::component_fits, machine::specs::Model::trimmed_component))]
 pub fn component_fits(c: Component, parts: usize) -> bool
     ensures { result ≡ component_fits parts (trimmed_component c) }
 {
-    if !preference_known(c.preference) {
-        return false;
-    }
-    let kind = c.kind;
-    if !operands_fit(kind, c.a, c.b, c.p) {
-        return false;
-    }
-    if !spans_fit(c) {
-        return false;
-    }
-    let ports = ports_of(kind);
-    let port0 = c.port0;
-    if !source_fits(parts, ports, 0, port0) {
-        return false;
-    }
-    let port1 = c.port1;
-    source_fits(parts, ports, 1, port1)
+    let ports = ports_of(c.kind);
+    preference_known(c.preference)
+        && operands_fit(c.kind, c.a, c.b, c.p)
+        && spans_fit(c)
+        && source_fits(parts, ports, 0, c.port0)
+        && source_fits(parts, ports, 1, c.port1)
 }

@@ -27,9 +27,6 @@ const KINDS: [Kind; KIND_COUNT] = [
     Kind::Clapper,
 ];
 
-// The drive's number.
-const DRIVE: u8 = 11;
-
 // What is found at a number: the kind that has it, or that no kind has, which is refused with 5.
 #[derive(Clone, Copy)]
 pub enum KindFound {
@@ -81,50 +78,26 @@ pub fn number_of(k: Kind) -> u8
 }
 
 // Whether a kind is the drive, which spans may follow.
+#[tactic(auto, unfolding(machine::specs::Load::is_drive))]
 pub fn is_drive(k: Kind) -> bool
     ensures { result ≡ is_drive k }
 {
-    number_of(k) == DRIVE
+    matches!(k, Kind::Drive)
 }
 
 // Whether a kind holds a number, which a step integrates.
 pub fn holds_number(k: Kind) -> bool
     ensures { result ≡ integrates k }
 {
-    match k {
-        Kind::Constant => false,
-        Kind::Gain => false,
-        Kind::Adder => false,
-        Kind::Square => false,
-        Kind::Pulse => false,
-        Kind::Delay => false,
-        Kind::Integrator => true,
-        Kind::ResetIntegrator => true,
-        Kind::Detector => false,
-        Kind::Hold => false,
-        Kind::Sampler => false,
-        Kind::Drive => true,
-        Kind::Clapper => true,
-    }
+    matches!(
+        k,
+        Kind::Integrator | Kind::ResetIntegrator | Kind::Drive | Kind::Clapper
+    )
 }
 
 // Whether a kind has mass, and so holds a speed, which moves its number.
 pub fn has_mass(k: Kind) -> bool
     ensures { result ≡ has_mass k }
 {
-    match k {
-        Kind::Constant => false,
-        Kind::Gain => false,
-        Kind::Adder => false,
-        Kind::Square => false,
-        Kind::Pulse => false,
-        Kind::Delay => false,
-        Kind::Integrator => false,
-        Kind::ResetIntegrator => false,
-        Kind::Detector => false,
-        Kind::Hold => false,
-        Kind::Sampler => false,
-        Kind::Drive => false,
-        Kind::Clapper => true,
-    }
+    matches!(k, Kind::Clapper)
 }

@@ -13,99 +13,58 @@ use machine::part::Kind;
 fn names_a(k: Kind) -> bool
     ensures { result ≡ names_a k }
 {
-    match k {
-        Kind::Constant => true,
-        Kind::Gain => true,
-        Kind::Adder => false,
-        Kind::Square => true,
-        Kind::Pulse => true,
-        Kind::Delay => false,
-        Kind::Integrator => true,
-        Kind::ResetIntegrator => true,
-        Kind::Detector => false,
-        Kind::Hold => false,
-        Kind::Sampler => false,
-        Kind::Drive => true,
-        Kind::Clapper => true, // its position at the start
-    }
+    matches!(
+        k,
+        Kind::Constant
+            | Kind::Gain
+            | Kind::Square
+            | Kind::Pulse
+            | Kind::Integrator
+            | Kind::ResetIntegrator
+            | Kind::Drive
+            | Kind::Clapper
+    )
 }
 
 // Whether a kind names the operand b.
 fn names_b(k: Kind) -> bool
     ensures { result ≡ names_b k }
 {
-    match k {
-        Kind::Constant => false,
-        Kind::Gain => false,
-        Kind::Adder => false,
-        Kind::Square => true,
-        Kind::Pulse => false,
-        Kind::Delay => false,
-        Kind::Integrator => false,
-        Kind::ResetIntegrator => false,
-        Kind::Detector => false,
-        Kind::Hold => false,
-        Kind::Sampler => false,
-        Kind::Drive => false,
-        Kind::Clapper => true, // its speed at the start
-    }
+    matches!(k, Kind::Square | Kind::Clapper)
 }
 
 // Whether a kind names the operand p.
 fn names_p(k: Kind) -> bool
     ensures { result ≡ names_p k }
 {
-    match k {
-        Kind::Constant => false,
-        Kind::Gain => false,
-        Kind::Adder => false,
-        Kind::Square => true,
-        Kind::Pulse => true,
-        Kind::Delay => false,
-        Kind::Integrator => false,
-        Kind::ResetIntegrator => false,
-        Kind::Detector => true,
-        Kind::Hold => false,
-        Kind::Sampler => false,
-        Kind::Drive => false,
-        Kind::Clapper => false,
-    }
+    matches!(k, Kind::Square | Kind::Pulse | Kind::Detector)
 }
 
 // Whether a number is a value where the kind names it, and 0 where it does not: an operand a or b, or a speed.
 fn operand_fits(named: bool, v: i64) -> bool
     ensures { result ≡ cond named (is_value v) (is_zero v) }
 {
-    if named {
-        return is_value(v);
-    }
-    v == 0
+    if named { is_value(v) } else { v == 0 }
 }
 
 // Whether an operand p is in its range where it is named, and 0 where it is not.
+// One function for both types would take the range's test as a closure, and be no shorter than the two.
 fn parameter_fits(named: bool, p: u32) -> bool
     ensures { result ≡ cond named (is_positive p) (eqb p 0) }
 {
-    if named {
-        return is_positive(p);
-    }
-    p == 0
+    if named { is_positive(p) } else { p == 0 }
 }
 
 // Whether the operands are those that a part of this kind may have.
+#[tactic(auto, unfolding(machine::specs::Kind::operands_fit))]
 pub fn operands_fit(k: Kind, a: i64, b: i64, p: u32) -> bool
     ensures { result ≡ operands_fit k a b p }
 {
-    if !operand_fits(names_a(k), a) {
-        return false;
-    }
-    if !operand_fits(names_b(k), b) {
-        return false;
-    }
-    parameter_fits(names_p(k), p)
+    operand_fits(names_a(k), a) && operand_fits(names_b(k), b) && parameter_fits(names_p(k), p)
 }
 
 // Whether the speed is one that a part of this kind may have.
+#[tactic(auto, unfolding(machine::specs::Sound::speed_fits))]
 pub fn speed_fits(k: Kind, speed: i64) -> bool
     ensures { result ≡ speed_fits k speed }
 {

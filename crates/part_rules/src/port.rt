@@ -9,19 +9,15 @@ pub fn ports_of(k: Kind) -> u8
     ensures { result ≡ ports k }
 {
     match k {
-        Kind::Constant => 0,
-        Kind::Gain => 1,
-        Kind::Adder => 2,
-        Kind::Square => 0,
-        Kind::Pulse => 0,
-        Kind::Delay => 1,
-        Kind::Integrator => 1,
-        Kind::ResetIntegrator => 2,
-        Kind::Detector => 1,
-        Kind::Hold => 1,
-        Kind::Sampler => 2,
-        Kind::Drive => 1,
-        Kind::Clapper => 1,
+        Kind::Constant | Kind::Square | Kind::Pulse => 0,
+        Kind::Gain
+        | Kind::Delay
+        | Kind::Integrator
+        | Kind::Detector
+        | Kind::Hold
+        | Kind::Drive
+        | Kind::Clapper => 1,
+        Kind::Adder | Kind::ResetIntegrator | Kind::Sampler => 2,
     }
 }
 
@@ -29,40 +25,13 @@ pub fn ports_of(k: Kind) -> u8
 pub fn direct0_of(k: Kind) -> bool
     ensures { result ≡ direct0 k }
 {
-    match k {
-        Kind::Constant => false,
-        Kind::Gain => true,
-        Kind::Adder => true,
-        Kind::Square => false,
-        Kind::Pulse => false,
-        Kind::Delay => false,
-        Kind::Integrator => false,
-        Kind::ResetIntegrator => false,
-        Kind::Detector => false,
-        Kind::Hold => true,
-        Kind::Sampler => true,
-        Kind::Drive => false,
-        Kind::Clapper => false,
-    }
+    matches!(k, Kind::Gain | Kind::Adder | Kind::Hold | Kind::Sampler)
 }
 
 // Whether a kind's port 1 is direct.
+// One function with the port as a number would be the same two lists, with a choice between them.
 pub fn direct1_of(k: Kind) -> bool
     ensures { result ≡ direct1 k }
 {
-    match k {
-        Kind::Constant => false,
-        Kind::Gain => false,
-        Kind::Adder => true,
-        Kind::Square => false,
-        Kind::Pulse => false,
-        Kind::Delay => false,
-        Kind::Integrator => false,
-        Kind::ResetIntegrator => true,
-        Kind::Detector => false,
-        Kind::Hold => false,
-        Kind::Sampler => true,
-        Kind::Drive => false,
-        Kind::Clapper => false,
-    }
+    matches!(k, Kind::Adder | Kind::ResetIntegrator | Kind::Sampler)
 }

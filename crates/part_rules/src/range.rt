@@ -8,11 +8,8 @@ ghost use Rattle.machine.specs.Time.{magnitude_known};
 
 use machine::signal::Signal;
 
-// The smallest value.
-const SMALLEST_VALUE: i64 = -1_000_000_000;
-
-// The largest value.
-const LARGEST_VALUE: i64 = 1_000_000_000;
+// How far a value may lie from 0.
+const LARGEST_VALUE: u64 = 1_000_000_000;
 
 // The largest operand p, and the largest span.
 pub(crate) const LARGEST_POSITIVE: u32 = 1_000_000_000;
@@ -20,20 +17,19 @@ pub(crate) const LARGEST_POSITIVE: u32 = 1_000_000_000;
 // The last magnitude.
 const LAST_MAGNITUDE: u8 = 15;
 
-// The preference that means none.
+// The preference that means none. It is no Option: a component's preference is document 01's byte, FFh for none.
 pub(crate) const NO_PREFERENCE: u8 = 255;
 
 // Whether a number is a value.
+#[tactic(auto, unfolding(machine::specs::Signal::is_value))]
 pub fn is_value(v: i64) -> bool
     ensures { result ≡ is_value v }
 {
-    if v < SMALLEST_VALUE {
-        return false;
-    }
-    v <= LARGEST_VALUE
+    v.unsigned_abs() <= LARGEST_VALUE
 }
 
 // Whether a signal is absent, or its number a value.
+#[tactic(auto, unfolding(machine::specs::Signal::is_signal))]
 pub fn is_signal(x: Signal) -> bool
     ensures { result ≡ is_signal x }
 {
@@ -44,16 +40,15 @@ pub fn is_signal(x: Signal) -> bool
 }
 
 // Whether a number is in the range of the operand p, and of a span.
+#[tactic(auto, unfolding(machine::specs::Kind::is_positive))]
 pub fn is_positive(p: u32) -> bool
     ensures { result ≡ is_positive p }
 {
-    if p < 1 {
-        return false;
-    }
-    p <= LARGEST_POSITIVE
+    (1..=LARGEST_POSITIVE).contains(&p)
 }
 
 // Whether a number is a magnitude.
+#[tactic(auto, unfolding(machine::specs::Time::magnitude_known))]
 pub fn magnitude_known(e: u8) -> bool
     ensures { result ≡ magnitude_known e }
 {
@@ -61,11 +56,9 @@ pub fn magnitude_known(e: u8) -> bool
 }
 
 // Whether a number is a preference: a magnitude, or none.
+#[tactic(auto, unfolding(machine::specs::Load::preference_known))]
 pub fn preference_known(q: u8) -> bool
     ensures { result ≡ preference_known q }
 {
-    if magnitude_known(q) {
-        return true;
-    }
-    q == NO_PREFERENCE
+    magnitude_known(q) || q == NO_PREFERENCE
 }

@@ -6,60 +6,36 @@ ghost use Rattle.machine.specs.Time.{larger, last_magnitude, last_tick, ratio_of
 use crate::range::NO_PREFERENCE;
 use machine::time::Point;
 
-// The powers of ten up to the last magnitude.
-const POWERS: [u64; 16] = [
-    1,
-    10,
-    100,
-    1_000,
-    10_000,
-    100_000,
-    1_000_000,
-    10_000_000,
-    100_000_000,
-    1_000_000_000,
-    10_000_000_000,
-    100_000_000_000,
-    1_000_000_000_000,
-    10_000_000_000_000,
-    100_000_000_000_000,
-    1_000_000_000_000_000,
-];
-
 // The larger of a magnitude and a preference, where there is one.
+#[tactic(auto, unfolding(machine::specs::Time::larger))]
 pub fn larger_of(e: u8, preference: u8) -> u8
     ensures { result ≡ larger e preference }
 {
     if preference == NO_PREFERENCE {
-        return e;
+        e
+    } else {
+        e.max(preference)
     }
-    if e < preference {
-        return preference;
-    }
-    e
 }
 
 // The ratio of a part with this preference, by the master's magnitude.
+#[tactic(auto, unfolding(machine::specs::Time::ratio_of))]
 pub fn ratio_of(magnitude: u8, preference: u8) -> u64
     requires { magnitude ≤ last_magnitude }
     ensures { result ≡ ratio_of magnitude preference }
 {
     if preference == NO_PREFERENCE {
-        return 1;
+        1
+    } else {
+        10u64.pow(u32::from(magnitude.saturating_sub(preference)))
     }
-    if magnitude < preference {
-        return 1;
-    }
-    let apart = (magnitude - preference) as usize;
-    POWERS[apart]
 }
 
-// Whether p × ratio is at most the last tick. Nothing is multiplied, since the product may not fit a word.
+// Whether p × ratio is at most the last tick, which a product that no word holds is not.
 pub fn period_fits(p: u32, ratio: u64) -> bool
     ensures { result ≡ leb (p * ratio) last_tick }
 {
-    if p == 0 {
-        return true;
-    }
-    ratio <= Point::LAST.t.0 / (p as u64)
+    u64::from(p)
+        .checked_mul(ratio)
+        .is_some_and(|period| period <= Point::LAST.t.0)
 }

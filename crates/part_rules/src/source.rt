@@ -6,17 +6,13 @@ ghost use Rattle.machine.specs.Sound.{source_fits};
 use machine::part::Source;
 
 // Whether loading could have wired this source to the port, of a part with so many ports, in a table of so many parts.
+#[tactic(auto, unfolding(machine::specs::Sound::source_fits))]
 pub(crate) fn source_fits(parts: usize, ports: u8, port: u8, s: Source) -> bool
     ensures { result ≡ source_fits parts ports port s }
 {
     match s {
         Source::Unwired => true,
-        Source::From(k) => {
-            if port >= ports {
-                return false;
-            }
-            (k as usize) < parts
-        }
+        Source::From(k) => port < ports && (k as usize) < parts,
     }
 }
 
@@ -24,8 +20,5 @@ pub(crate) fn source_fits(parts: usize, ports: u8, port: u8, s: Source) -> bool
 pub fn is_wired(s: Source) -> bool
     ensures { result ≡ wired s }
 {
-    match s {
-        Source::Unwired => false,
-        Source::From(_) => true,
-    }
+    matches!(s, Source::From(_))
 }
