@@ -2,3 +2,4 @@
 pub mod Numbers
 pub mod Unwritten
 pub mod FirstRefusal
+pub mod Told

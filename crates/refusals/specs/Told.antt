@@ -1,0 +1,49 @@
+-- What a refusal where there is cause for it tells, and when a call that writes returned its length. Assumes nothing.
+use Rattle.std.specs.Prelude.{ℕ, ◌≡◌, refl, Bool, true, false, cond, Result, Ok, Err}
+use Rattle.std.proofs.Common.{arith}
+use Rattle.refusals.specs.declared.Refusal.{Refusal}
+use Rattle.refusals.specs.declared.Refusal.TheVariants.{Cut, UnknownCommand, OutOfPlace, OutOfRange, TooMany}
+use Rattle.refusals.specs.declared.Refusal.TheVariants.{NotThere, AlreadyWired, NoParts, PeriodTooLong, Loop}
+use Rattle.refusals.specs.declared.Refusal.TheVariants.{SpanNotRising, WantedOutOfRange, DueAtLastMicrostep}
+use Rattle.refusals.specs.declared.Refusal.TheVariants.{NoStepAccepted, PastLastTick, NotSound, TooShort}
+use Rattle.refusals.specs.declared.Refusal.TheVariants.{NotPrintable}
+use Rattle.refusals.specs.declared.Unwritten.{Unwritten}
+use Rattle.refusals.specs.declared.Unwritten.TheVariants as unwritten
+use Rattle.refusals.specs.Numbers.{refusal_number}
+use Rattle.refusals.specs.Unwritten.{unwritten_number, written_of}
+
+-- a refusal where there is cause for it, and the cause
+pub no_cause : {cause : Bool} {r : Refusal} {u : Unit {0}} → cond cause (Err r) (Ok tt) ≡ Ok u → cause ≡ false
+no_cause {cause = true} e = grind arith
+no_cause {cause = false} e = refl
+
+pub some_cause : {cause : Bool} {r s : Refusal} → cond cause (Err r) (Ok tt) ≡ Err s → (cause ≡ true) × (s ≡ r)
+some_cause {cause = true} e = grind arith
+some_cause {cause = false} e = grind arith
+
+-- no refusal's number is 0
+pub some_number : (r : Refusal) → refusal_number r ≡ 0 → ⊥
+some_number Cut e = omega arith
+some_number UnknownCommand e = omega arith
+some_number OutOfPlace e = omega arith
+some_number OutOfRange e = omega arith
+some_number TooMany e = omega arith
+some_number NotThere e = omega arith
+some_number AlreadyWired e = omega arith
+some_number NoParts e = omega arith
+some_number PeriodTooLong e = omega arith
+some_number Loop e = omega arith
+some_number SpanNotRising e = omega arith
+some_number WantedOutOfRange e = omega arith
+some_number DueAtLastMicrostep e = omega arith
+some_number NoStepAccepted e = omega arith
+some_number PastLastTick e = omega arith
+some_number NotSound e = omega arith
+some_number TooShort e = omega arith
+some_number NotPrintable e = omega arith
+
+-- a writing call whose number is 0 returned its length
+pub told_length : (r : Result ℕ Unwritten) → (written_of r).number ≡ 0 → r ≡ Ok (written_of r).length
+told_length (Ok length) none = refl
+told_length (Err (unwritten.Refused r)) none = absurd (some_number r none)
+told_length (Err (unwritten.Short needed)) none = absurd (omega arith)
