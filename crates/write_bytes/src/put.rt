@@ -12,17 +12,14 @@ pub fn put_byte(line: &mut [u8], at: usize, b: u8) -> usize
     at + 1
 }
 
-// A text as it is.
+// A text as it is, copied over a part of the buffer.
+#[tactic(auto, using(std::proofs::lemmas::Slice::overwrites))]
 pub fn put_text(line: &mut [u8], at: usize, text: &[u8]) -> usize
     requires { at + length text.now ≤ length line.old }
     ensures { Put (length text.now) text.now at line.old
         line.new result }
 {
-    let mut next = at;
-    let mut i = 0;
-    while i < text.len() {
-        next = put_byte(line, next, text[i]);
-        i += 1;
-    }
-    next
+    let end = at + text.len();
+    line[at..end].copy_from_slice(text);
+    end
 }
