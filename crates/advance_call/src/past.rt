@@ -4,14 +4,12 @@
 ghost use Rattle.std.specs.Prelude.{◌≡◌, not};
 ghost use Rattle.machine.specs.Time.{in_time, led_to};
 
-use machine::time::{Point, Stepped, Ticks};
+use machine::time::{Point, Ticks};
 
 // Whether a step of `h` from the point `now` leads to no point of the time, whatever they are.
+#[tactic(auto, unfolding(machine::specs::Time::stepped))]
 pub(crate) fn leads_past(now: Point, h: Ticks) -> bool
     ensures { result ≡ not (in_time (led_to now h.0)) }
 {
-    match now.step(h) {
-        Stepped::To(_) => false,
-        Stepped::Past => true,
-    }
+    now.step(h).is_none()
 }

@@ -9,8 +9,8 @@ use Rattle.std.proofs.Math.Nat.{mul-mod_left}
 use Rattle.std.proofs.lemmas.Bool.{false≢true}
 use mathlib.Core.List.{List, [], ◌∷◌, Memᴰ}
 use Rattle.machine.specs.declared.time.Point.{Point}
-use Rattle.machine.specs.declared.time.Comparison.{Comparison}
-use Rattle.machine.specs.declared.time.Comparison.TheVariants.{Earlier, Same, Later}
+use Rattle.std.specs.declared.cmp.Ordering.{Ordering}
+use Rattle.std.specs.declared.cmp.Ordering.TheVariants.{Less, Equal, Greater}
 use Rattle.machine.specs.Time.{point, tick, led_to, compared}
 use Rattle.machine.specs.Kind.{positive_multiple, at_multiple}
 use Rattle.machine.specs.Accept.{next_multiple}
@@ -98,14 +98,14 @@ reached_point P k p (h ∷ hs) w before past =
     before_or_there (inl b) later = Memᴰ.tail (later b)
     before_or_there (inr e) later = Memᴰ.head (sym e)
 
--- whether a comparison is `Earlier`
-abbrev is_earlier : Comparison → Bool
-is_earlier Earlier = true
-is_earlier Same = false
-is_earlier Later = false
+-- whether a comparison is `Less`
+abbrev is_earlier : Ordering → Bool
+is_earlier Less = true
+is_earlier Equal = false
+is_earlier Greater = false
 
 -- a point that is earlier than another is so by its tick, or at the same tick by its microstep
-earlier_by : (q p : Point) → compared q p ≡ Earlier → (tick q < tick p) ⊎ ((tick q ≡ tick p) × (q.n < p.n))
+earlier_by : (q p : Point) → compared q p ≡ Less → (tick q < tick p) ⊎ ((tick q ≡ tick p) × (q.n < p.n))
 unfolding compared
 earlier_by q p e = by_tick (either (ltb (tick q) (tick p))) (either (ltb (tick p) (tick q)))
     (either (ltb q.n p.n)) (either (ltb p.n q.n))
@@ -128,7 +128,7 @@ earlier_by q p e = by_tick (either (ltb (tick q) (tick p))) (either (ltb (tick p
 -- steps that wait, from before k × P, or from (k × P, 0), to a point later than (k × P, 0) lead through (k × P, 1)
 pub passed_point : (P k : ℕ) (p : Point) (hs : List ℕ) → Waits P p hs → (tick p < k * P) ⊎ (p ≡ point (k * P) 0) →
     0 < k * P →
-    compared (point (k * P) 0) (point_after p hs) ≡ Earlier → Memᴰ (point (k * P) 1) (points_after p hs)
+    compared (point (k * P) 0) (point_after p hs) ≡ Less → Memᴰ (point (k * P) 1) (points_after p hs)
 unfolding point_after points_after
 passed_point P k p [] w at up past = absurd (not_later at (earlier_by (point (k * P) 0) p past))
   where

@@ -1,12 +1,11 @@
 -- The refusal numbers of commands as the code asks for them: by the counts, operands and sources that document 01's
 -- tests depend on. Assumes nothing.
-use Rattle.std.specs.Prelude.{ℕ, ◌≡◌, refl, Bool, true, false, cond, not, ◌&&◌, eqb, leb, ltb}
+use Rattle.std.specs.Prelude.{ℕ, ◌≡◌, refl, Bool, true, false, cond, not, ◌&&◌, eqb, leb, ltb, Err}
 use Rattle.machine.specs.declared.part.Kind.{Kind}
 use Rattle.machine.specs.declared.part.Source.{Source}
 use Rattle.machine.specs.Kind.{kind_known, kind_of, ports, is_positive, operands_fit}
 use Rattle.machine.specs.Model.{most_parts, most_spans}
 use Rattle.machine.specs.Load.{begin_byte, span_byte, want_byte, known_command, preference_known, signed, wired}
-use Rattle.part_rules.specs.declared.kind.KindFound.TheVariants.{Unknown}
 use Rattle.part_rules.specs.KindMeant.{found_number}
 use Rattle.load_operands.specs.declared.operands.PartOperands.{PartOperands}
 
@@ -17,7 +16,7 @@ operands_number o =
     cond (kind_known o.kind)
     (cond (preference_known o.preference && operands_fit (kind_of o.kind) (signed o.a) (signed o.b) o.p)
     0 5)
-    (found_number Unknown)
+    (found_number (Err (record { 0 = o.kind })))
 
 -- which is document 01's one test: "operand outside its range, or kind or preference unknown"
 pub operands_judged : (o : PartOperands) →

@@ -9,7 +9,6 @@ use crate::cursor::signed_of;
 use crate::operands::PartOperands;
 use machine::model::PARTS;
 use machine::part::{Kind, SPANS, Source};
-use part_rules::kind::{KindFound, kind_of};
 use part_rules::operand::operands_fit;
 use part_rules::port::ports_of;
 use part_rules::range::{is_positive, magnitude_known, preference_known};
@@ -47,7 +46,7 @@ pub fn begin_refusal(e: u8) -> u64
 fn operands_refusal(o: PartOperands) -> u64
     ensures { result ≡ operands_number o }
 {
-    let KindFound::Known(kind) = kind_of(o.kind) else {
+    let Ok(kind) = Kind::try_from(o.kind) else {
         return OUT_OF_RANGE;
     };
     if !preference_known(o.preference) {

@@ -5,7 +5,7 @@ use mathlib.Core.List.{List, Memᴰ}
 use lib.ListN.{length}
 use borrow.Author.Tests.{lt-ltb}
 use Rattle.machine.specs.declared.time.Point.{Point}
-use Rattle.machine.specs.declared.time.Comparison.TheVariants.{Earlier}
+use Rattle.std.specs.declared.cmp.Ordering.TheVariants.{Less}
 use Rattle.machine.specs.declared.part.Kind.TheVariants.{Pulse}
 use Rattle.machine.specs.declared.model.Model.{Model}
 use Rattle.machine.specs.Time.{point, tick, compared}
@@ -17,7 +17,7 @@ use Rattle.machine.specs.ListRows.{pulse_period, ListRows}
 use Rattle.machine.proofs.Computing.{computing}
 
 -- a point of a smaller tick is earlier
-earlier : (p q : Point) → tick p < tick q → compared p q ≡ Earlier
+earlier : (p q : Point) → tick p < tick q → compared p q ≡ Less
 unfolding compared
 earlier p q less = rw (lt-ltb (tick p) (tick q) less) refl
 

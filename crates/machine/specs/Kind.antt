@@ -2,7 +2,7 @@
 -- at a point; what sides and marks become. Document 01's own terms, a mark, a side and a direct port, are explained
 -- where they are defined. Assumes nothing.
 use Rattle.std.specs.Prelude.{ℕ, zero, suc, ◌-◌, ◌*◌, ◌/◌, ◌%◌, Bool, true, false, cond, ◌&&◌, List, [], ◌∷◌, get_or}
-use Rattle.std.specs.Prelude.{eqb, leb, ltb, ℤ, pos, negsuc}
+use Rattle.std.specs.Prelude.{eqb, leb, ltb, ℤ, pos, negsuc, ◌≡◌, Result, Ok, Err}
 use Rattle.machine.specs.declared.time.Point.{Point}
 use Rattle.machine.specs.declared.signal.Signal.{Signal}
 use Rattle.machine.specs.declared.signal.Signal.TheVariants.{Absent, Value}
@@ -10,6 +10,7 @@ use Rattle.machine.specs.declared.part.Kind.{Kind}
 use Rattle.machine.specs.declared.part.Kind.TheVariants.{Constant, Gain, Adder, Square, Pulse, Delay, Integrator}
 use Rattle.machine.specs.declared.part.Kind.TheVariants.{ResetIntegrator, Detector, Hold, Sampler, Drive}
 use Rattle.machine.specs.declared.part.Kind.TheVariants.{Clapper}
+use Rattle.machine.specs.declared.part.UnknownKind.{UnknownKind}
 use Rattle.machine.specs.declared.part.Side.{Side}
 use Rattle.machine.specs.declared.part.Side.TheVariants.{Unset, Negative, Positive}
 use Rattle.machine.specs.declared.part.Mark.{Mark}
@@ -47,6 +48,11 @@ kind_known k = ltb k 13
 -- the kind with this number
 unfoldable pub kind_of : ℕ → Kind
 kind_of k = get_or kinds k Constant
+
+-- what is found at a number: the kind that has it, or that no kind has
+abbrev pub KindFound : ℕ → Result Kind UnknownKind → Type 0
+KindFound k (Ok found) = (kind_known k ≡ true) × (found ≡ kind_of k)
+KindFound k (Err unknown) = (kind_known k ≡ false) × (unknown ≡ record { 0 = k })
 
 -- "A kind has the ports that its line names or reads, and no others": how many; they count from 0
 abbrev pub ports : Kind → ℕ

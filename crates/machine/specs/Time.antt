@@ -1,12 +1,11 @@
 -- Document 01, "Time": points, their order, where a step leads, magnitudes and ratios, local counts.
 -- A point (t, n) is the declared struct `Point`: the tick t and the microstep n. Assumes nothing.
 use Rattle.std.specs.Prelude.{ℕ, ◌+◌, ◌-◌, ◌/◌, ◌^◌, max, Bool, cond, ◌&&◌, List, [], ◌∷◌, eqb, leb, ltb}
+use Rattle.std.specs.Prelude.{Option, Some, None}
 use Rattle.machine.specs.declared.time.LocalTicks.{LocalTicks}
 use Rattle.machine.specs.declared.time.Point.{Point}
-use Rattle.machine.specs.declared.time.Comparison.{Comparison}
-use Rattle.machine.specs.declared.time.Comparison.TheVariants.{Earlier, Same, Later}
-use Rattle.machine.specs.declared.time.Stepped.{Stepped}
-use Rattle.machine.specs.declared.time.Stepped.TheVariants.{To, Past}
+use Rattle.std.specs.declared.cmp.Ordering.{Ordering}
+use Rattle.std.specs.declared.cmp.Ordering.TheVariants.{Less, Equal, Greater}
 
 -- "The tick t runs from 0 to 10^18 .."
 abbrev pub last_tick : ℕ
@@ -33,12 +32,12 @@ abbrev pub last : Point
 last = point last_tick last_microstep
 
 -- "Points order by t, then n"
-unfoldable pub compared : Point → Point → Comparison
+unfoldable pub compared : Point → Point → Ordering
 compared p q =
-    cond (ltb (tick p) (tick q)) Earlier
-    (cond (ltb (tick q) (tick p)) Later
-    (cond (ltb p.n q.n) Earlier
-    (cond (ltb q.n p.n) Later Same)))
+    cond (ltb (tick p) (tick q)) Less
+    (cond (ltb (tick q) (tick p)) Greater
+    (cond (ltb p.n q.n) Less
+    (cond (ltb q.n p.n) Greater Equal)))
 
 -- "A step of h ≥ 1 leads to (t + h, 0), a step of 0 to (t, n + 1)"
 unfoldable pub led_to : Point → ℕ → Point
@@ -48,9 +47,9 @@ led_to p h = cond (eqb h 0) (point (tick p) (p.n + 1)) (point (tick p + h) 0)
 unfoldable pub in_time : Point → Bool
 in_time p = leb (tick p) last_tick && leb p.n last_microstep
 
--- the point that a step of h leads to, or `Past` where that is no point of the time
-unfoldable pub stepped : Point → ℕ → Stepped
-stepped p h = cond (in_time (led_to p h)) (To (led_to p h)) Past
+-- the point that a step of h leads to, or `None` where that is no point of the time
+unfoldable pub stepped : Point → ℕ → Option Point
+stepped p h = cond (in_time (led_to p h)) (Some (led_to p h)) None
 
 -- "a default magnitude e (0 to 15 ..)"
 abbrev pub last_magnitude : ℕ

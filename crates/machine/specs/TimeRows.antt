@@ -1,9 +1,9 @@
 -- Document 01, "Time", number by number: points and steps at both ends of the time, magnitudes, ratios, local counts.
 -- Each row computes a definition at its ends, so that a number that is off by one makes a row false. Assumes nothing.
 use Rattle.std.specs.Prelude.{ℕ, ◌≡◌, true, false, [], ◌∷◌}
-use Rattle.machine.specs.declared.time.Comparison.TheVariants.{Earlier, Same, Later}
+use Rattle.std.specs.declared.cmp.Ordering.TheVariants.{Less, Equal, Greater}
 use Rattle.machine.specs.declared.time.LocalTicks.{LocalTicks}
-use Rattle.machine.specs.declared.time.Stepped.TheVariants.{To, Past}
+use Rattle.std.specs.Prelude.{Some, None}
 use Rattle.machine.specs.declared.part.Component.{Component}
 use Rattle.machine.specs.Time.{point, start, last, compared, stepped, in_time, magnitude_known, master_magnitude}
 use Rattle.machine.specs.Time.{ratio_of, local_count, gained}
@@ -40,16 +40,16 @@ pub record TimeRows : Type 0 where
       (in_time (point 0 1000) ≡ false)
   -- "Points order by t, then n"
   pub order :
-      (compared (point 1 9) (point 2 0) ≡ Earlier) × (compared (point 2 0) (point 1 9) ≡ Later) ×
-      (compared (point 2 3) (point 2 4) ≡ Earlier) × (compared (point 2 4) (point 2 3) ≡ Later) ×
-      (compared (point 2 3) (point 2 3) ≡ Same)
+      (compared (point 1 9) (point 2 0) ≡ Less) × (compared (point 2 0) (point 1 9) ≡ Greater) ×
+      (compared (point 2 3) (point 2 4) ≡ Less) × (compared (point 2 4) (point 2 3) ≡ Greater) ×
+      (compared (point 2 3) (point 2 3) ≡ Equal)
   -- "A step of h ≥ 1 leads to (t + h, 0), a step of 0 to (t, n + 1)"
-  pub steps : (stepped (point 4 2) 3 ≡ To (point 7 0)) × (stepped (point 4 2) 0 ≡ To (point 4 3))
+  pub steps : (stepped (point 4 2) 3 ≡ Some (point 7 0)) × (stepped (point 4 2) 0 ≡ Some (point 4 3))
   -- up to the last tick and the last microstep, and not past them
   pub last_steps :
-      (stepped (point 999_999_999_999_999_999 5) 1 ≡ To (point 1_000_000_000_000_000_000 0)) ×
-      (stepped (point 999_999_999_999_999_999 5) 2 ≡ Past) × (stepped (point 7 998) 0 ≡ To (point 7 999)) ×
-      (stepped (point 7 999) 0 ≡ Past)
+      (stepped (point 999_999_999_999_999_999 5) 1 ≡ Some (point 1_000_000_000_000_000_000 0)) ×
+      (stepped (point 999_999_999_999_999_999 5) 2 ≡ None) × (stepped (point 7 998) 0 ≡ Some (point 7 999)) ×
+      (stepped (point 7 999) 0 ≡ None)
   -- "a default magnitude e (0 to 15 ..)"
   pub magnitudes : (magnitude_known 0 ≡ true) × (magnitude_known 15 ≡ true) × (magnitude_known 16 ≡ false)
   -- "The master's magnitude is the largest of all these": the default, or a preference wherever it is; "FFh means none"

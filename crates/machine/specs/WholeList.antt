@@ -3,7 +3,7 @@
 -- demand's own. It speaks of any list, so that it can be false of one. Assumes nothing.
 use Rattle.std.specs.Prelude.{ℕ, ◌+◌, ◌*◌, ◌/◌, ◌≤◌, ◌<◌, ◌≡◌, length}
 use mathlib.Core.List.{List, [], ◌∷◌, Memᴰ}
-use Rattle.machine.specs.declared.time.Comparison.TheVariants.{Earlier}
+use Rattle.std.specs.declared.cmp.Ordering.TheVariants.{Less}
 use Rattle.machine.specs.declared.part.Kind.TheVariants.{Pulse}
 use Rattle.machine.specs.declared.model.Model.{Model}
 use Rattle.machine.specs.declared.model.Answer.{Answer}
@@ -77,6 +77,6 @@ pub record WholeList (m : Model) (cs : List Call) : Type 0 where
   pub passed :
       (i k : ℕ) → i < length (trimmed m).parts → (part_at (trimmed m).parts i).component.kind ≡ Pulse →
       tick m.point < k * period (part_at (trimmed m).parts i) →
-      compared (point (k * period (part_at (trimmed m).parts i)) 0) (last_model m cs).point ≡ Earlier →
+      compared (point (k * period (part_at (trimmed m).parts i)) 0) (last_model m cs).point ≡ Less →
       Memᴰ (point (k * period (part_at (trimmed m).parts i)) 1) (visited m cs)
   pub calls : All OfCall cs

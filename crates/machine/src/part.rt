@@ -1,5 +1,8 @@
 // A part: its component, which the table fixed, its ratio, and its state, which a step changes.
 // `specs/Kind.antt` gives document 01's number, or values, for each case of each enum here.
+ghost use Rattle.std.specs.Prelude.{◌≡◌};
+ghost use Rattle.machine.specs.Kind.{KindFound, kind_number};
+
 use crate::signal::Signal;
 use crate::time::LocalTicks;
 
@@ -7,7 +10,7 @@ use crate::time::LocalTicks;
 pub const SPANS: usize = 8;
 
 // The kinds of part, in the order of their numbers.
-#[derive(Clone, Copy)]
+#[derive(Clone, Copy, Debug, PartialEq, Eq)]
 pub enum Kind {
     Constant,
     Gain,
@@ -24,8 +27,46 @@ pub enum Kind {
     Clapper,
 }
 
+// A number that no kind has.
+#[derive(Clone, Copy, Debug, PartialEq, Eq)]
+pub struct UnknownKind(pub u8);
+
+impl From<Kind> for u8 {
+    ghost from_gives = { λ k n. n ≡ kind_number k };
+
+    fn from(kind: Kind) -> u8 {
+        kind as u8
+    }
+}
+
+impl TryFrom<u8> for Kind {
+    type Error = UnknownKind;
+
+    ghost try_from_gives = { KindFound };
+
+    #[tactic(auto, unfolding(crate::specs::Kind::kind_known, crate::specs::Kind::kind_of))]
+    fn try_from(number: u8) -> Result<Kind, UnknownKind> {
+        match number {
+            0 => Ok(Kind::Constant),
+            1 => Ok(Kind::Gain),
+            2 => Ok(Kind::Adder),
+            3 => Ok(Kind::Square),
+            4 => Ok(Kind::Pulse),
+            5 => Ok(Kind::Delay),
+            6 => Ok(Kind::Integrator),
+            7 => Ok(Kind::ResetIntegrator),
+            8 => Ok(Kind::Detector),
+            9 => Ok(Kind::Hold),
+            10 => Ok(Kind::Sampler),
+            11 => Ok(Kind::Drive),
+            12 => Ok(Kind::Clapper),
+            _ => Err(UnknownKind(number)),
+        }
+    }
+}
+
 // What a port is wired to: nothing, or the output of the part with this number.
-#[derive(Clone, Copy)]
+#[derive(Clone, Copy, Debug, PartialEq, Eq)]
 pub enum Source {
     Unwired,
     From(u16),
@@ -33,7 +74,7 @@ pub enum Source {
 
 // The side of zero on which a zero-crossing detector last saw its input; zero itself is on neither.
 // Document 01 has negative and not negative, and request 1 made the second positive.
-#[derive(Clone, Copy)]
+#[derive(Clone, Copy, Debug, PartialEq, Eq)]
 pub enum Side {
     Unset,
     Negative,
@@ -41,7 +82,7 @@ pub enum Side {
 }
 
 // A zero-crossing detector's pending mark: none, 1 or -1.
-#[derive(Clone, Copy)]
+#[derive(Clone, Copy, Debug, PartialEq, Eq)]
 pub enum Mark {
     Clear,
     Rising,

@@ -6,36 +6,23 @@
 //
 // Its contracts cite `specs/Time.antt`.
 ghost use Rattle.std.specs.Prelude.{◌≡◌};
-ghost use Rattle.machine.specs.Time.{compared, last, local_count, start, stepped};
+ghost use Rattle.machine.specs.Time.{compared, in_time, last, local_count, start, stepped};
+
+use std::cmp::Ordering;
 
 // A count of master ticks.
-#[derive(Clone, Copy)]
+#[derive(Clone, Copy, Debug, PartialEq, Eq, PartialOrd, Ord)]
 pub struct Ticks(pub u64);
 
 // A count of a part's local ticks.
-#[derive(Clone, Copy)]
+#[derive(Clone, Copy, Debug, PartialEq, Eq, PartialOrd, Ord)]
 pub struct LocalTicks(pub u64);
 
-// A point of superdense time: the tick t and the microstep n.
-#[derive(Clone, Copy)]
+// A point of superdense time: the tick t and the microstep n. Points order by t, then n.
+#[derive(Clone, Copy, Debug, PartialEq, Eq, PartialOrd, Ord)]
 pub struct Point {
     pub t: Ticks,
     pub n: u64,
-}
-
-// How one point compares with another, in the order by t, then n.
-#[derive(Clone, Copy)]
-pub enum Comparison {
-    Earlier,
-    Same,
-    Later,
-}
-
-// Where a step leads: to a point of the time, or to none (`Past`).
-#[derive(Clone, Copy)]
-pub enum Stepped {
-    To(Point),
-    Past,
 }
 
 impl Ticks {
@@ -77,57 +64,37 @@ impl Point {
 
     // How this point compares with `other`.
     #[tactic(auto, unfolding(crate::specs::Time::compared))]
-    pub fn compare(self, other: Point) -> Comparison
+    pub fn compare(self, other: Point) -> Ordering
         ensures { result ≡ compared self other }
     {
-        if self.t.0 < other.t.0 {
-            return Comparison::Earlier;
-        }
-        if other.t.0 < self.t.0 {
-            return Comparison::Later;
-        }
-        if self.n < other.n {
-            return Comparison::Earlier;
-        }
-        if other.n < self.n {
-            return Comparison::Later;
-        }
-        Comparison::Same
+        self.cmp(&other)
+    }
+
+    // Whether it is a point of the time.
+    #[tactic(auto, unfolding(crate::specs::Time::in_time))]
+    pub fn is_in_time(self) -> bool
+        ensures { result ≡ in_time self }
+    {
+        self.t <= Point::LAST.t && self.n <= Point::LAST.n
     }
 
     // The point that a step of `h` leads to, where that is a point of the time: a step of 0 leads to none from
     // the last microstep of a tick on, and another step to none that is later than the last point.
-    pub fn step(self, h: Ticks) -> Stepped
+    #[tactic(auto, unfolding(crate::specs::Time::stepped, crate::specs::Time::in_time, crate::specs::Time::led_to))]
+    pub fn step(self, h: Ticks) -> Option<Point>
         ensures { result ≡ stepped self h.0 }
     {
-        let t = self.t.0;
-        let n = self.n;
-        if t > Point::LAST.t.0 {
-            return Stepped::Past;
-        }
-        if h.0 > Point::LAST.t.0 {
-            return Stepped::Past;
-        }
-        if h.0 == 0 {
-            let end = Point {
-                t: Ticks(t),
-                n: Point::LAST.n,
-            };
-            let Comparison::Earlier = self.compare(end) else {
-                return Stepped::Past;
-            };
-            return Stepped::To(Point {
-                t: Ticks(t),
-                n: n + 1,
-            });
-        }
-        let to = Point {
-            t: Ticks(t + h.0),
-            n: 0,
+        let to = if h.0 == 0 {
+            Point {
+                t: self.t,
+                n: self.n.checked_add(1)?,
+            }
+        } else {
+            Point {
+                t: Ticks(self.t.0.checked_add(h.0)?),
+                n: 0,
+            }
         };
-        let Comparison::Later = to.compare(Point::last()) else {
-            return Stepped::To(to);
-        };
-        Stepped::Past
+        if to.is_in_time() { Some(to) } else { None }
     }
 }

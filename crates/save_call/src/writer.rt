@@ -12,7 +12,6 @@ ghost use Rattle.save_call.specs.LentTable.{SourceInByte, part_text, wires_text}
 
 use load_operands::refusal::{BEGIN_BYTE, PART_BYTE, SPAN_BYTE, WIRE_BYTE};
 use machine::part::{Component, Kind, SPANS, Source};
-use part_rules::kind::number_of;
 use words_codec::word::encode_signed;
 use write_bytes::put::put_byte;
 
@@ -43,7 +42,7 @@ fn put_kind(out: &mut [u8], at: usize, kind: Kind, preference: u8) -> usize
         out.new result }
 {
     let next = put_byte(out, at, PART_BYTE);
-    let next = put_byte(out, next, number_of(kind));
+    let next = put_byte(out, next, u8::from(kind));
     put_byte(out, next, preference)
 }
 

@@ -5,7 +5,7 @@ use Rattle.std.specs.Prelude.{ℕ, ◌+◌, ◌≤◌, ◌<◌, ◌≡◌, refl,
 use Rattle.std.proofs.Common.{sym, subst, ◌∙◌}
 use Rattle.std.proofs.Math.Path.{ap}
 use Rattle.machine.specs.declared.time.Point.{Point}
-use Rattle.machine.specs.declared.time.Stepped.TheVariants.{To, Past}
+use Rattle.std.specs.Prelude.{Some, None}
 use Rattle.machine.specs.declared.model.Model.{Model}
 use Rattle.machine.specs.Time.{last_microstep, last_tick, led_to, stepped, tick}
 use Rattle.machine.specs.Model.{trimmed, with_parts}
@@ -29,12 +29,12 @@ module _
     (reads : from ≡ stored_point os)
     (within : tick (model_in ts os).point + h ≤ last_tick)
     (before : h ≡ 0 → (model_in ts os).point.n < last_microstep) where
-  pub lent_never_past : stepped from h ≡ Past → ⊥
+  pub lent_never_past : stepped from h ≡ None → ⊥
   unfolding model_in
   lent_never_past past = never_past (model_in ts os).point h within before
       (ap (λ (p : Point). stepped p h) (sym reads) ∙ past)
 
-  pub lent_leads_to : (to : Point) → stepped from h ≡ To to → to ≡ led_to (model_in ts os).point h
+  pub lent_leads_to : (to : Point) → stepped from h ≡ Some to → to ≡ led_to (model_in ts os).point h
   unfolding model_in
   lent_leads_to to leads = leads_to (model_in ts os).point to h within before
       (ap (λ (p : Point). stepped p h) (sym reads) ∙ leads)

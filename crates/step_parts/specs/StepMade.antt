@@ -3,7 +3,7 @@
 use Rattle.std.specs.Prelude.{ℕ, ◌+◌, ◌≤◌, ◌<◌, ◌≡◌, refl, Bool, true, false, List, map, eqb, length}
 use Rattle.std.proofs.Common.{arith, sym, ap, subst, ◌∙◌, eqb-true, le-leb}
 use Rattle.machine.specs.declared.time.Point.{Point}
-use Rattle.machine.specs.declared.time.Stepped.TheVariants.{To, Past}
+use Rattle.std.specs.Prelude.{Some, None}
 use Rattle.machine.specs.declared.part.Part.{Part}
 use Rattle.machine.specs.declared.model.Model.{Model}
 use Rattle.machine.specs.Time.{in_time, last_microstep, last_tick, led_to, stepped, tick}
@@ -73,21 +73,21 @@ moved_is m a now ps moves = ap (λ (x : Model). with_parts x now x.parts) moves.
 
 -- a step within the time leads to a point of it
 leads_by : (b : Bool) (p : Point) (h : ℕ) → eqb h 0 ≡ b → tick p + h ≤ last_tick → (h ≡ 0 → p.n < last_microstep) →
-    stepped p h ≡ To (led_to p h)
+    stepped p h ≡ Some (led_to p h)
 unfolding stepped in_time led_to
 leads_by true p h e within before =
     let zero = before (eqb-true h 0 e) in
     simp (e, le-leb (tick p) last_tick (omega arith), le-leb (p.n + 1) last_microstep (omega arith))
 leads_by false p h e within before = simp (e, le-leb (tick p + h) last_tick within)
 
-leads : (p : Point) (h : ℕ) → tick p + h ≤ last_tick → (h ≡ 0 → p.n < last_microstep) → stepped p h ≡ To (led_to p h)
+leads : (p : Point) (h : ℕ) → tick p + h ≤ last_tick → (h ≡ 0 → p.n < last_microstep) → stepped p h ≡ Some (led_to p h)
 leads p h within before = leads_by (eqb h 0) p h refl within before
 
 -- so it is not past the time, and where it leads is the definition's point
-pub never_past : (p : Point) (h : ℕ) → tick p + h ≤ last_tick → (h ≡ 0 → p.n < last_microstep) → stepped p h ≡ Past → ⊥
+pub never_past : (p : Point) (h : ℕ) → tick p + h ≤ last_tick → (h ≡ 0 → p.n < last_microstep) → stepped p h ≡ None → ⊥
 never_past p h within before past = let e = leads p h within before in let z : ◌≡◌ {A = ℕ} 0 1 = cc in omega arith
 
-pub leads_to : (p q : Point) (h : ℕ) → tick p + h ≤ last_tick → (h ≡ 0 → p.n < last_microstep) → stepped p h ≡ To q →
+pub leads_to : (p q : Point) (h : ℕ) → tick p + h ≤ last_tick → (h ≡ 0 → p.n < last_microstep) → stepped p h ≡ Some q →
     q ≡ led_to p h
 leads_to p q h within before to = let e = leads p h within before in cc
 

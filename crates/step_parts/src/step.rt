@@ -9,7 +9,7 @@ ghost use Rattle.step_parts.specs.StepInto.{Steppable, TrialInto};
 
 use crate::filling::filled_into;
 use crate::moving::moved_into;
-use machine::time::{Stepped, Ticks};
+use machine::time::Ticks;
 use words_store::lookup::point_of;
 use words_store::update::put_point;
 
@@ -22,7 +22,7 @@ pub fn trial_into(table: &[u64], old: &[u64], h: Ticks, new: &mut [u64])
     ensures { TrialInto table.now old.now h.0 new.old new.new }
 {
     let from = point_of(old);
-    let Stepped::To(to) = from.step(h) else {
+    let Some(to) = from.step(h) else {
         return;
     };
     moved_into(table, old, h, new);

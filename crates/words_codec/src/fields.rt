@@ -9,13 +9,12 @@ ghost use Rattle.words_codec.specs.Sized.{FitsSource};
 use crate::word::decode_signed;
 use machine::part::{Kind, Mark, Side, Source};
 use machine::signal::Signal;
-use part_rules::kind::number_of;
 
 // The number of a kind.
 pub fn encode_kind(k: Kind) -> u64
     ensures { result ≡ kind_number k }
 {
-    number_of(k) as u64
+    k as u64
 }
 
 // The kind that has a number, the constant where none has. A match and no table: a table is copied to be read.

@@ -2,20 +2,18 @@
 -- a signed operand passed through a word stays the same.
 use mir.Syntax.{w64}
 use mir.ValLaws.{to_z-of_z}
-use Rattle.part_rules.specs.KindMeant.{kind_cases}
 use Rattle.load_operands.specs.Refusals.{operands_number}
 use Rattle.refusals.specs.FirstRefusal.{cond_not}
 use Rattle.load_operands.proofs.refusal.operands_refusal.Goals as goal
 
 pub returns-in_default : goal.returns-in_default
 unfolding operands_number
-returns-in_default c = let unknown = rw c.in_default.is at (kind_cases c.kind_of.ensures) in
-    rw unknown
+returns-in_default c = rw c.in_default.ensures.0
 
 pub returns-then-not-preference_known : goal.returns-then-not-preference_known
 unfolding operands_number
 returns-then-not-preference_known c =
-    let known = rw c.in-Known.is at (kind_cases c.kind_of.ensures) in
+    let known = c.in-Ok.ensures in
     rw (
       known.0,
       ← c.preference_known.ensures,
@@ -32,7 +30,7 @@ returns c =
       to_z-of_z w64 a.result (record { sfits = a.type_inv }),
       to_z-of_z w64 b.result (record { sfits = b.type_inv }),
     ) at c.operands_fit-fit.ensures in
-    let known = rw c.in-Known.is at (kind_cases c.kind_of.ensures) in
+    let known = c.in-Ok.ensures in
     rw (
       known.0,
       ← c.preference_known.ensures,
