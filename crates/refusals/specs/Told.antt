@@ -12,14 +12,17 @@ use Rattle.refusals.specs.declared.Unwritten.TheVariants as unwritten
 use Rattle.refusals.specs.Numbers.{refusal_number}
 use Rattle.refusals.specs.Unwritten.{unwritten_number, written_of}
 
--- a refusal where there is cause for it, and the cause
-pub no_cause : {cause : Bool} {r : Refusal} {u : Unit {0}} → cond cause (Err r) (Ok tt) ≡ Ok u → cause ≡ false
-no_cause {cause = true} e = grind arith
-no_cause {cause = false} e = refl
+-- a refusal where there is cause for it, and none
+abbrev pub refused_when : Bool → Refusal → Result (Unit {0}) Refusal
+refused_when cause r = cond cause (Err r) (Ok tt)
 
-pub some_cause : {cause : Bool} {r s : Refusal} → cond cause (Err r) (Ok tt) ≡ Err s → (cause ≡ true) × (s ≡ r)
-some_cause {cause = true} e = grind arith
-some_cause {cause = false} e = grind arith
+pub no_cause : (cause : Bool) (r : Refusal) {u : Unit {0}} → refused_when cause r ≡ Ok u → cause ≡ false
+no_cause true r e = grind arith
+no_cause false r e = refl
+
+pub some_cause : (cause : Bool) (r : Refusal) {s : Refusal} → refused_when cause r ≡ Err s → (cause ≡ true) × (s ≡ r)
+some_cause true r e = grind arith
+some_cause false r e = grind arith
 
 -- no refusal's number is 0
 pub some_number : (r : Refusal) → refusal_number r ≡ 0 → ⊥
