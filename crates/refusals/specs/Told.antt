@@ -10,7 +10,7 @@ use Rattle.refusals.specs.declared.Refusal.TheVariants.{NotPrintable}
 use Rattle.refusals.specs.declared.Unwritten.{Unwritten}
 use Rattle.refusals.specs.declared.Unwritten.TheVariants as unwritten
 use Rattle.refusals.specs.Numbers.{refusal_number}
-use Rattle.refusals.specs.Unwritten.{unwritten_number, written_of}
+use Rattle.refusals.specs.Unwritten.{written_of}
 
 -- a refusal where there is cause for it, and none
 abbrev pub refused_when : Bool → Refusal → Result (Unit {0}) Refusal
