@@ -14,7 +14,6 @@ ghost use Rattle.play_score.specs.Playing.{
 use crate::format::{Format, LINE, put_answer, put_refused_at};
 use advance_call::advance_sound_into;
 use load_operands::score::score_at;
-use machine::model::Score;
 
 // What playing came to: whether the score ended; the position of the next command; how many bytes the lines in the
 // buffer take; and whether the rehearsal is now in the other state.
@@ -82,19 +81,26 @@ fn play_command(
         CommandPlayed stream.now at table.now old.now format
         left lines.old used lines.new result }
 {
-    let s = score_at(stream, at);
-    match s {
-        Score::End => Played {
+    match score_at(stream, at) {
+        Ok(None) => Played {
             ended: true,
             at: at,
             used: used,
             moved: false,
         },
-        Score::Wanted(wanted, next) => {
-            play_wanted(table, old, wanted, next, format, new, lines, used)
-        }
-        Score::Refused(number, position) => {
-            let last = put_refused_at(number, position, lines, used);
+        Ok(Some(wanted)) => play_wanted(
+            table,
+            old,
+            wanted.step,
+            wanted.next,
+            format,
+            new,
+            lines,
+            used,
+        ),
+        Err(refused) => {
+            let number = refused.refusal.number();
+            let last = put_refused_at(number, refused.position, lines, used);
             Played {
                 ended: true,
                 at: at,

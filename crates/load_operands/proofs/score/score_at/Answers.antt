@@ -10,7 +10,8 @@ use Rattle.load_operands.specs.declared.cursor.Cursor.{Cursor}
 use Rattle.load_operands.specs.Operands.{Behind, ReadAt, byte_cases, cut_number, cut_scores, read_behind}
 use Rattle.load_operands.specs.Operands.{word_cases}
 use Rattle.load_operands.proofs.score.score_at.Goals as goal
-use Rattle.load_operands.proofs.score.score_at.Goals.{In-Got}
+use Rattle.load_operands.proofs.score.score_at.Goals.{In-Got, in_default-b-via-then-b-lt1}
+use Rattle.load_operands.proofs.score.score_at.Goals.{in_default-b-via-else-b-lt1+else-b-lt6}
 
 -- where the byte b is read at a position, the stream goes on there
 module _ (bs : List ℕ) (at b : ℕ) (behind : Cursor) (read : Behind bs at 1 behind × (b ≡ byte_at bs at)) where
@@ -64,27 +65,31 @@ returns-in_default-u32_at c =
     let read = byte_read (goal.at.returns-in_default-u32_at c).In-Got in
     let behind = read.0 in
     let short = word_cases c.in_default-u32_at.ensures in
-    cut _ _ _ _ read c.in-6.is (omega arith)
+    rw c.at.ensures (cut _ _ _ _ read c.in-6.is (omega arith))
 
 pub returns-in-Got-u32_at : goal.returns-in-Got-u32_at
 returns-in-Got-u32_at c =
     let read = byte_read (goal.at.returns-in-Got-u32_at c).In-Got in
-    whole _ _ _ _ read _ _ c.in-6.is
-    (read_behind word_at _ _ 1 4 _ _ _ read.0 (word_cases c.in-Got-u32_at.ensures))
+    rw c.from.ensures
+    (whole _ _ _ _ read _ _ c.in-6.is
+    (read_behind word_at _ _ 1 4 _ _ _ read.0 (word_cases c.in-Got-u32_at.ensures)))
 
 pub returns-in-1-to-5 : goal.returns-in-1-to-5
 returns-in-1-to-5 c =
-    out_of_place _ _ _ _ (byte_read (goal.at.returns-in-1-to-5 c).In-Got) (omega arith) (omega arith)
+    rw c.at-in-1-to-5.ensures
+    (out_of_place _ _ _ _ (byte_read (goal.at.returns-in-1-to-5 c).In-Got) (omega arith) (omega arith))
 
 pub returns-in_default-b : goal.returns-in_default-b
 unfolding known_command
 returns-in_default-b c =
-    let below : c.in-Got.b < 1 = omega arith in
-    unknown _ _ _ _ (byte_read (goal.at.returns-in_default-b c).In-Got) (simp (lt-leb 1 _ below))
-
-pub returns-in_default-b-2 : goal.returns-in_default-b-2
-unfolding known_command
-returns-in_default-b-2 c =
-    let low : 1 ≤ c.in-Got.b = omega arith in
-    let above : 6 < c.in-Got.b = omega arith in
-    unknown _ _ _ _ (byte_read (goal.at.returns-in_default-b-2 c).In-Got) (simp (le-leb 1 _ low, lt-leb _ _ above))
+    let none : known_command c.in-Got.b ≡ false =
+    elim c.in_default-b.branch [
+      | in_default-b-via-then-b-lt1 w ↦
+          let below : c.in-Got.b < 1 = omega arith in
+          simp (lt-leb 1 _ below)
+      | in_default-b-via-else-b-lt1+else-b-lt6 w ↦
+          let low : 1 ≤ c.in-Got.b = omega arith in
+          let above : 6 < c.in-Got.b = omega arith in
+          simp (le-leb 1 _ low, lt-leb _ _ above)
+    ] in
+    rw c.at-in_default-b.ensures (unknown _ _ _ _ (byte_read (goal.at.returns-in_default-b c).In-Got) none)
