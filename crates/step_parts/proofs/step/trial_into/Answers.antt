@@ -21,7 +21,7 @@ returns-in_default c =
 pub filled_into-requires-clause-fillable : goal.filled_into-requires-clause-fillable
 filled_into-requires-clause-fillable c =
     let args = c.args in
-    lent_fillable args.table.now args.old.now c.moved_into.new.new c.put_point.new.state c.in-To.to args.h.0
+    lent_fillable args.table.now args.old.now c.moved_into.new.new c.put_point.new.state c.in-Some.to args.h.0
     c.moved_into.ensures.moved
     c.put_point.ensures
     c.requires.steppable.sounds
@@ -36,7 +36,7 @@ returns c =
     let filled = c.filled_into.new.new in
     let n = part_count ts in
     let h = c.args.h.0 in
-    let to = c.in-To.to in
+    let to = c.in-Some.to in
     let put = c.put_point.ensures in
     let by_move = c.moved_into.ensures in
     let by_fill = c.filled_into.ensures in
@@ -44,7 +44,7 @@ returns c =
     lent_leads_to ts old c.point_of-from.result h c.point_of-from.ensures c.requires.steppable.in_time
     c.requires.microstep_left
     to
-    (sym c.step.ensures ∙ c.in-To.is) in
+    (sym c.step.ensures ∙ c.in-Some.is) in
     record {
       shown = lent_shown ts old moved pointed to h by_move.moved put filled by_fill.filled led;
       form = λ j low. by_fill.behind.form j ((behind_pointed n to moved pointed put).form j (by_move.form j low));
