@@ -3,7 +3,7 @@
 // stream, and `#` begins a comment.
 #![tactic(auto)]
 
-ghost use Rattle.std.specs.Prelude.{◌≤◌, length};
+ghost use Rattle.std.specs.Prelude.{◌≤◌, length, IfSome};
 
 use crate::print::print_loaded;
 use load_call::load;
@@ -13,146 +13,52 @@ mod print;
 // The most bytes of a stream.
 const ROOM: usize = 1024;
 
-// What is no digit's value.
-const NONE: u8 = 16;
-
-// What a line spells so far: whether it spells a stream, how many bytes, and the first digit of the next one.
-#[derive(Clone, Copy)]
-struct Spelled {
-    found: bool,
-    count: usize,
-    high: u8,
+// A hexadecimal digit's value. Letters are digits in upper case alone.
+fn digit(c: u8) -> Option<u8>
+    ensures { IfSome result (λ d. d ≤ 15) }
+{
+    match c {
+        b'0'..=b'9' => Some(c - b'0'),
+        b'A'..=b'F' => Some(c - b'A' + 10),
+        _ => None,
+    }
 }
 
-// A hexadecimal digit's value.
-fn digit(c: u8) -> u8
-    ensures { result ≤ 16 }
-{
-    if c < b'0' {
-        return NONE;
-    }
-    if c <= b'9' {
-        return c - b'0';
-    }
-    if c < b'A' {
-        return NONE;
-    }
-    if c <= b'F' {
-        return c - b'A' + 10;
-    }
-    NONE
+// Whether a text spells a stream.
+fn spells_any(text: &[u8]) -> bool {
+    text.iter().any(|&c| c == b'-' || digit(c).is_some())
 }
 
-// Where the line ends that begins at `from`.
-fn line_end(text: &[u8], from: usize) -> usize
-    requires { from ≤ length text.now }
-    ensures { (from ≤ result) × (result ≤ length text.now) }
+// How many bytes a text spells, two digits each, which are put at the start of `bytes`. A last digit alone is passed
+// over, and so is what there is no room for.
+fn spell(text: &[u8], bytes: &mut [u8]) -> usize
+    ensures { result ≤ length bytes.new }
 {
-    let mut at = from;
-    while at < text.len() {
-        if text[at] == b'\n' {
-            break;
-        }
-        at += 1;
-    }
-    at
-}
-
-// What a line spells with one digit more; a byte that has both digits is put after the others.
-fn with_digit(s: Spelled, d: u8, bytes: &mut [u8]) -> Spelled
-    requires count_within { s.count ≤ length bytes.old }
-    requires is_digit { d ≤ 15 }
-    ensures { result.count ≤ length bytes.new }
-{
-    let at = s.count;
-    if s.high >= NONE {
-        return Spelled {
-            found: true,
-            count: at,
-            high: d,
+    let mut digits = text.iter().filter_map(|&c| digit(c));
+    for (at, byte) in bytes.iter_mut().enumerate() {
+        let (Some(high), Some(low)) = (digits.next(), digits.next()) else {
+            return at;
         };
+        *byte = high * 16 + low;
     }
-    if at >= bytes.len() {
-        return Spelled {
-            found: true,
-            count: at,
-            high: NONE,
-        };
-    }
-    bytes[at] = s.high * 16 + d;
-    Spelled {
-        found: true,
-        count: at + 1,
-        high: NONE,
+    bytes.len()
+}
+
+// The stream that a line spells, loaded and printed.
+fn judge(rt: &impl Print, line: &[u8]) {
+    let text = line.split(|&c| c == b'#').next().unwrap_or(line);
+    if spells_any(text) {
+        let mut bytes = [0u8; ROOM];
+        let n = spell(text, &mut bytes);
+        print_loaded(rt, load(&bytes[..n]));
     }
 }
 
-// What a line spells with one character more.
-fn with_character(s: Spelled, c: u8, bytes: &mut [u8]) -> Spelled
-    requires { s.count ≤ length bytes.old }
-    ensures { result.count ≤ length bytes.new }
-{
-    if c == b'-' {
-        return Spelled {
-            found: true,
-            count: s.count,
-            high: s.high,
-        };
-    }
-    let d = digit(c);
-    if d >= NONE {
-        return s;
-    }
-    with_digit(s, d, bytes)
-}
-
-// The bytes that a line spells, put at the start of `bytes`.
-fn spell(text: &[u8], from: usize, to: usize, bytes: &mut [u8]) -> Spelled
-    requires { to ≤ length text.now }
-    ensures { result.count ≤ length bytes.new }
-{
-    let mut s = Spelled {
-        found: false,
-        count: 0,
-        high: NONE,
-    };
-    let mut at = from;
-    while at < to {
-        let c = text[at];
-        if c == b'#' {
-            return s;
-        }
-        s = with_character(s, c, bytes);
-        at += 1;
-    }
-    s
-}
-
-// The stream of one line, loaded and printed.
-fn judge(text: &[u8], from: usize, to: usize)
-    requires { to ≤ length text.now }
-{
-    let mut bytes = [0u8; ROOM];
-    let s = spell(text, from, to, &mut bytes);
-    if s.found {
-        let n = s.count;
-        print_loaded(load(&bytes[..n]));
-    }
-}
-
-// The stream of each line.
-fn judge_all(text: &[u8]) {
-    let mut from: usize = 0;
-    while from < text.len() {
-        let to = line_end(text, from);
-        judge(text, from, to);
-        from = to + 1;
-    }
-}
-
-// All that the first 65,536 bytes of standard input spell.
-fn main() {
+// All that the first 65,536 bytes of standard input spell, line by line.
+fn main(rt: HostRuntime) {
     let mut input = io::large_buffer();
     let n = io::read_full(0, &mut input);
-    judge_all(&input[..n]);
+    for line in input[..n].split(|&c| c == b'\n') {
+        judge(&rt, line);
+    }
 }
