@@ -18,7 +18,7 @@ use Rattle.machine.specs.declared.part.Source.TheVariants.{Unwired, From}
 use Rattle.machine.specs.Table.{source_placed}
 use Rattle.laws.specs.Bools.{either, and_left}
 use Rattle.order_place.specs.declared.Direct.{Direct}
-use Rattle.order_place.specs.declared.FoundPart.TheVariants.{At, Nothing}
+use Rattle.std.specs.Prelude.{Some, None}
 use Rattle.laws.specs.WordMarks.{FirstMark, marks_of, none_behind, wider}
 use Rattle.order_place.specs.Direct.{both_placed, found_as, lowest_among}
 
@@ -114,11 +114,11 @@ found_marked candidates marks k t (d ∷ ds) e =
     by_test (inr h) later = later (rw h at e)
 
 -- the code's answer says what is found: a part, or none
-pub found_at : (o : Option ℕ) (k : ℕ) → found_as o ≡ At k → o ≡ some k
+pub found_at : (o : Option ℕ) (k : ℕ) → found_as o ≡ Some k → o ≡ some k
 found_at none k e = let z : ◌≡◌ {A = ℕ} 0 1 = cc in absurd (omega arith)
 found_at (some j) k e = cc
 
-pub found_nothing : (o : Option ℕ) → found_as o ≡ Nothing → o ≡ none
+pub found_nothing : (o : Option ℕ) → found_as o ≡ None → o ≡ none
 found_nothing none e = refl
 found_nothing (some j) e = let z : ◌≡◌ {A = ℕ} 0 1 = cc in absurd (omega arith)
 

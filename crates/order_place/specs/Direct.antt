@@ -1,14 +1,13 @@
 -- The direct sources of a part, and the lowest part that is ready by them. Assumes nothing.
 use Rattle.std.specs.Prelude.{ℕ, suc, Bool, true, false, cond, ◌&&◌, List, [], ◌∷◌, get_or}
-use Rattle.std.proofs.Math.Option.{Option, some, none}
+use Rattle.std.specs.Prelude.{Option, Some, None}
+use Rattle.std.proofs.Math.Option as math
 use Rattle.machine.specs.declared.part.Source.{Source}
 use Rattle.machine.specs.declared.part.Source.TheVariants.{Unwired}
 use Rattle.machine.specs.declared.part.Component.{Component}
 use Rattle.machine.specs.Kind.{direct0, direct1}
 use Rattle.machine.specs.Table.{source_placed}
 use Rattle.order_place.specs.declared.Direct.{Direct}
-use Rattle.order_place.specs.declared.FoundPart.{FoundPart}
-use Rattle.order_place.specs.declared.FoundPart.TheVariants.{At, Nothing}
 
 -- what a port is wired to if it is direct, else nothing
 abbrev pub direct_source : Bool → Source → Source
@@ -32,13 +31,13 @@ both_placed marks d = source_placed marks d.port0 && source_placed marks d.port1
 
 -- the lowest candidate whose direct sources are placed, from number k on, ds being the direct sources of the parts from
 -- k on
-unfoldable pub lowest_among : (candidates marks : List Bool) → ℕ → List Direct → Option ℕ
-lowest_among candidates marks k [] = none
+unfoldable pub lowest_among : (candidates marks : List Bool) → ℕ → List Direct → math.Option ℕ
+lowest_among candidates marks k [] = math.none
 lowest_among candidates marks k (d ∷ ds) =
     let rest = lowest_among candidates marks (suc k) ds in
-    cond (get_or candidates k false && both_placed marks d) (some k) rest
+    cond (get_or candidates k false && both_placed marks d) (math.some k) rest
 
 -- what is found, as the code answers it
-abbrev pub found_as : Option ℕ → FoundPart
-found_as none = Nothing
-found_as (some k) = At k
+abbrev pub found_as : math.Option ℕ → Option ℕ
+found_as math.none = None
+found_as (math.some k) = Some k

@@ -16,7 +16,8 @@ use machine::model::PARTS;
 use machine::part::{Component, Source};
 use part_rules::port::{direct0_of, direct1_of};
 
-// The parts placed, in order. Of `order` the first `count` places are in use, and 0 is in the others.
+// The parts placed, in order. Of `order` the first `count` places are in use, and 0 is in the others: a model holds
+// its order so, with no heap.
 #[derive(Clone, Copy)]
 pub struct Placed {
     pub order: [u16; PARTS],
@@ -30,13 +31,6 @@ pub struct Direct {
     pub port1: Source,
 }
 
-// What is found: a part, by its number, or nothing.
-#[derive(Clone, Copy)]
-enum FoundPart {
-    At(u32),
-    Nothing,
-}
-
 // What a port is wired to if it is direct, else nothing.
 fn if_direct(direct: bool, source: Source) -> Source
     ensures { result ≡ direct_source direct source }
@@ -45,17 +39,13 @@ fn if_direct(direct: bool, source: Source) -> Source
 }
 
 // The direct sources of a part.
+#[tactic(auto, unfolding(crate::specs::Direct::direct_of))]
 pub fn direct_sources(part: Component) -> Direct
     ensures { result ≡ direct_of part }
 {
-    let kind = part.kind;
-    let port0 = part.port0;
-    let port1 = part.port1;
-    let direct0 = if_direct(direct0_of(kind), port0);
-    let direct1 = if_direct(direct1_of(kind), port1);
     Direct {
-        port0: direct0,
-        port1: direct1,
+        port0: if_direct(direct0_of(part.kind), part.port0),
+        port1: if_direct(direct1_of(part.kind), part.port1),
     }
 }
 
@@ -63,18 +53,7 @@ pub fn direct_sources(part: Component) -> Direct
 fn all_direct(parts: [Component; PARTS]) -> [Direct; PARTS]
     ensures { result ≡ map direct_of parts }
 {
-    let none = Direct {
-        port0: Source::Unwired,
-        port1: Source::Unwired,
-    };
-    let mut all = [none; PARTS];
-    let mut i = 0;
-    while i < PARTS {
-        let part = parts[i];
-        all[i] = direct_sources(part);
-        i += 1;
-    }
-    all
+    parts.map(direct_sources)
 }
 
 // Whether the source is placed: its mark is clear.
@@ -83,41 +62,32 @@ fn source_placed(marks: u32, source: Source) -> bool
 {
     match source {
         Source::Unwired => true,
-        Source::From(k) => {
-            if k >= 32 {
-                return true;
-            }
-            (marks >> k) % 2 == 0
-        }
+        Source::From(k) => k >= 32 || (marks >> k) % 2 == 0,
     }
 }
 
 // Whether both direct sources are placed.
+#[tactic(auto, unfolding(crate::specs::Direct::both_placed))]
 fn ready(marks: u32, direct: Direct) -> bool
     ensures { result ≡ both_placed (marks_of 32 marks) direct }
 {
-    let port0 = direct.port0;
-    let port1 = direct.port1;
-    if !source_placed(marks, port0) {
-        return false;
-    }
-    source_placed(marks, port1)
+    source_placed(marks, direct.port0) && source_placed(marks, direct.port1)
 }
 
-// The lowest marked part whose direct sources are placed.
-fn lowest(direct: [Direct; PARTS], marks: u32) -> FoundPart
-    ensures { result ≡ found_as (lowest_among (marks_of 32 marks) (marks_of 32 marks) 0 direct) }
+// The lowest marked part whose direct sources are placed. No loop over a range: document 01 has the marks in a word,
+// of which trailing zeros give the next.
+fn lowest(direct: &[Direct; PARTS], marks: u32) -> Option<u32>
+    ensures { result ≡ found_as (lowest_among (marks_of 32 marks) (marks_of 32 marks) 0 direct.now) }
 {
     let mut candidates = marks;
     while candidates != 0 {
-        let k = u32::trailing_zeros(candidates);
-        let part = direct[k as usize];
-        if ready(marks, part) {
-            return FoundPart::At(k);
+        let k = candidates.trailing_zeros();
+        if ready(marks, direct[k as usize]) {
+            return Some(k);
         }
         candidates -= 1 << k;
     }
-    FoundPart::Nothing
+    None
 }
 
 // The marks of so many parts, all of them unplaced.
@@ -129,17 +99,18 @@ fn all_marked(count: usize) -> u32
 }
 
 // The first `count` parts in the order in which they are placed: the lowest marked part whose direct
-// sources are placed goes next, until there is none.
+// sources are placed goes next, until there is none. The place is the count of marks that are gone, as document 01 has
+// it, and so no counter of its own.
 pub fn place(parts: [Component; PARTS], count: usize) -> Placed
     requires { count ≤ most_parts }
     ensures { InOrder parts count result }
 {
     let direct = all_direct(parts);
-    let mut order = [0u16; PARTS];
+    let mut order = [0; PARTS];
     let mut marks = all_marked(count);
     loop {
-        let done = count - u32::count_ones(marks) as usize;
-        let FoundPart::At(k) = lowest(direct, marks) else {
+        let done = count - marks.count_ones() as usize;
+        let Some(k) = lowest(&direct, marks) else {
             return Placed { order, count: done };
         };
         order[done] = k as u16;

@@ -11,14 +11,14 @@ use lib.Seq.{length-take-le}
 use lib.Count.{ones, ones-le}
 use Rattle.machine.specs.Model.{most_parts}
 use Rattle.order_place.specs.declared.Direct.{Direct}
-use Rattle.order_place.specs.declared.FoundPart.TheVariants.{At}
+use Rattle.std.specs.Prelude.{Some}
 use Rattle.laws.specs.WordMarks.{Cleared, mark_cleared, marks_of, one_mark}
 use Rattle.order_place.specs.Direct.{direct_of, found_as, lowest_among}
 use Rattle.laws.specs.ListLaws.{take_map}
 use Rattle.order_place.proofs.Candidates.{found_at, found_marked, found_nothing, lowest_word}
 use Rattle.order_place.proofs.PlacedPartway.{ended, started, turned}
 use Rattle.order_place.proofs.place.Goals as goal
-use Rattle.order_place.proofs.place.Goals.{After-all_direct-direct, At-loop-k, In-At}
+use Rattle.order_place.proofs.place.Goals.{After-all_direct-direct, At-loop-k, In-Some}
 
 -- a turn that finds the part k: its mark can be cleared, and there is a place for it
 record PlacingTurn (count : ℕ) (direct : List Direct) (w k : ℕ) : Type 0 where
@@ -30,7 +30,7 @@ record PlacingTurn (count : ℕ) (direct : List Direct) (w k : ℕ) : Type 0 whe
 
 -- the code's answer says that it is such a turn
 turn : (count : ℕ) (direct : List Direct) (w k : ℕ) → count ≤ most_parts → w < 2 ^ count →
-    found_as (lowest_among (marks_of 32 w) (marks_of 32 w) 0 direct) ≡ At k → PlacingTurn count direct w k
+    found_as (lowest_among (marks_of 32 w) (marks_of 32 w) 0 direct) ≡ Some k → PlacingTurn count direct w k
 turn count direct w k few fits answer =
     let marks = marks_of count w in
     let found = sym (lowest_word count w direct few fits) ∙ found_at _ k answer in
@@ -57,18 +57,12 @@ few_ones c =
     ones-le c.args.count c.loop-k.marks c.loop-k.invariant.fits
 
 -- the turn, where the code has found a part
-turn_of : (c : In-At) →
+turn_of : (c : In-Some) →
     PlacingTurn c.args.count c.all_direct-direct.result c.loop-k.marks
-    c.in-At.k
+    c.in-Some.k
 turn_of c =
-    turn c.args.count c.all_direct-direct.result c.loop-k.marks c.in-At.k
-    c.requires c.loop-k.invariant.fits (sym c.lowest.ensures ∙ c.in-At.is)
-
-pub all_direct-direct-requires : goal.all_direct-direct-requires
-all_direct-direct-requires c = tt
-
-pub all_marked-marks-requires : goal.all_marked-marks-requires
-all_marked-marks-requires c = c.requires
+    turn c.args.count c.all_direct-direct.result c.loop-k.marks c.in-Some.k
+    c.requires c.loop-k.invariant.fits (sym c.lowest.ensures ∙ c.in-Some.is)
 
 pub loop-k-init : goal.loop-k-init
 loop-k-init c =
@@ -80,15 +74,8 @@ loop-k-init c =
     (length-take-le count c.args.parts (omega (arith, c.requires))) in
     rw c.all_marked-marks.ensures (started count direct counted)
 
-pub overflow_cast-done : goal.overflow_cast-done
-overflow_cast-done c =
-    omega (arith, few_ones (goal.at.overflow_cast-done c).At-loop-k, c.requires)
-
 pub overflow_sub-done : goal.overflow_sub-done
 overflow_sub-done c = few_ones (goal.at.overflow_sub-done c).At-loop-k
-
-pub lowest-requires : goal.lowest-requires
-lowest-requires c = tt
 
 pub returns-in_default : goal.returns-in_default
 returns-in_default c =
@@ -102,31 +89,28 @@ returns-in_default c =
     c.loop-k.invariant nothing
 
 pub overflow_cast-order : goal.overflow_cast-order
-overflow_cast-order c = omega (arith, (turn_of (goal.at.overflow_cast-order c).In-At).below)
-
-pub offset_bounds-order-done : goal.offset_bounds-order-done
-offset_bounds-order-done c = omega (arith, (turn_of (goal.at.offset_bounds-order-done c).In-At).room)
+overflow_cast-order c = omega (arith, (turn_of (goal.at.overflow_cast-order c).In-Some).below)
 
 pub bounds-order-done : goal.bounds-order-done
-bounds-order-done c = (turn_of (goal.at.bounds-order-done c).In-At).room
+bounds-order-done c = (turn_of (goal.at.bounds-order-done c).In-Some).room
 
 pub overflow_shl-marks : goal.overflow_shl-marks
-overflow_shl-marks c = (turn_of (goal.at.overflow_shl-marks c).In-At).below
+overflow_shl-marks c = (turn_of (goal.at.overflow_shl-marks c).In-Some).below
 
 pub overflow_sub-marks : goal.overflow_sub-marks
 overflow_sub-marks c =
-    let it = turn_of (goal.at.overflow_sub-marks c).In-At in
+    let it = turn_of (goal.at.overflow_sub-marks c).In-Some in
     omega (arith, it.shifted, it.rest.fits)
 
 pub loop-k-smaller : goal.loop-k-smaller
 loop-k-smaller c =
-    let it = turn_of (goal.at.loop-k-smaller c).In-At in
+    let it = turn_of (goal.at.loop-k-smaller c).In-Some in
     rw it.shifted (omega (arith, it.rest.fewer))
 
 pub loop-k-preserved : goal.loop-k-preserved
 loop-k-preserved c =
     let count = c.args.count in
-    rw (turn_of (goal.at.loop-k-preserved c).In-At).shifted
+    rw (turn_of (goal.at.loop-k-preserved c).In-Some).shifted
     (turned count (take count c.all_direct-direct.result) c.loop-k.order c.loop-k.marks
-    c.in-At.k
-    c.requires c.loop-k.invariant (turn_of (goal.at.loop-k-preserved c).In-At).found)
+    c.in-Some.k
+    c.requires c.loop-k.invariant (turn_of (goal.at.loop-k-preserved c).In-Some).found)
