@@ -19,7 +19,7 @@ pub fn kind_numbered(number: u8) -> Kind
 pub fn is_drive(k: Kind) -> bool
     ensures { result ≡ is_drive k }
 {
-    matches!(k, Kind::Drive)
+    k == Kind::Drive
 }
 
 // Whether a kind holds a number, which a step integrates.
@@ -36,5 +36,5 @@ pub fn holds_number(k: Kind) -> bool
 pub fn has_mass(k: Kind) -> bool
     ensures { result ≡ has_mass k }
 {
-    matches!(k, Kind::Clapper)
+    k == Kind::Clapper
 }

@@ -20,5 +20,5 @@ pub(crate) fn source_fits(parts: usize, ports: u8, port: u8, s: Source) -> bool
 pub fn is_wired(s: Source) -> bool
     ensures { result ≡ wired s }
 {
-    matches!(s, Source::From(_))
+    s != Source::Unwired
 }
