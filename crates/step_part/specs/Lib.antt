@@ -1,5 +1,3 @@
--- The ranges that the functions on one part ask for, the local ticks that a step adds, and states with one field
--- changed.
+-- The ranges that the functions on one part ask for, and the local ticks that a step adds.
 pub mod Gain
 pub mod PartRanges
-pub mod States

@@ -12,16 +12,11 @@ use machine::time::LocalTicks;
 pub(crate) fn clamped(v: i64) -> i64
     ensures { result ≡ clamp v }
 {
-    if 1_000_000_000 < v {
-        return 1_000_000_000;
-    }
-    if v < -1_000_000_000 {
-        return -1_000_000_000;
-    }
-    v
+    v.clamp(-1_000_000_000, 1_000_000_000)
 }
 
 // A gain's output.
+#[tactic(auto, unfolding(machine::specs::Signal::product))]
 pub(crate) fn product_of(a: i64, x: Signal) -> Signal
     requires a_value { is_value a ≡ true }
     requires x_value { is_signal x ≡ true }
@@ -34,24 +29,23 @@ pub(crate) fn product_of(a: i64, x: Signal) -> Signal
 }
 
 // An adder's output.
+#[tactic(auto, unfolding(machine::specs::Signal::total))]
 pub(crate) fn total_of(x: Signal, y: Signal) -> Signal
     requires x_value { is_signal x ≡ true }
     requires y_value { is_signal y ≡ true }
     ensures { result ≡ total x y }
 {
-    match x {
-        Signal::Absent => match y {
-            Signal::Absent => Signal::Absent,
-            Signal::Value(w) => Signal::Value(clamped(w)),
-        },
-        Signal::Value(v) => match y {
-            Signal::Absent => Signal::Value(clamped(v)),
-            Signal::Value(w) => Signal::Value(clamped(v + w)),
-        },
+    match (x, y) {
+        (Signal::Absent, Signal::Absent) => Signal::Absent,
+        (Signal::Value(v), Signal::Absent) | (Signal::Absent, Signal::Value(v)) => Signal::Value(
+            clamped(v),
+        ),
+        (Signal::Value(v), Signal::Value(w)) => Signal::Value(clamped(v + w)),
     }
 }
 
 // What a held number becomes over `d` local ticks.
+#[tactic(auto, unfolding(machine::specs::Signal::integral))]
 pub(crate) fn integral_of(held: i64, x: Signal, d: LocalTicks) -> i64
     requires held_value { is_value held ≡ true }
     requires x_value { is_signal x ≡ true }

@@ -1,14 +1,11 @@
 // What a step changes of a part: its local count, speed and held number as the step is made, its
 // stored output, and what it takes once the outputs are there.
 //
-// Its contracts cite `machine`'s `specs/Kind.antt` and `specs/Step.antt`, and this crate's
-// `specs/States.antt`.
+// Its contracts cite `machine`'s `specs/Kind.antt` and `specs/Step.antt`.
 ghost use Rattle.std.specs.Prelude.{◌≡◌, cond, true, ◌-◌, ◌≤◌};
 ghost use Rattle.machine.specs.Signal.{integral, is_signal, is_value};
 ghost use Rattle.machine.specs.Kind.{mark_between, side_after};
-ghost use Rattle.machine.specs.Model.{with_state};
 ghost use Rattle.machine.specs.Step.{gain_of, moved, settled, settled_as};
-ghost use Rattle.step_part.specs.States.{with_held, with_mark, with_signal};
 ghost use Rattle.step_part.specs.PartRanges.{PartFits, StepFits};
 
 use crate::arithmetic::{integral_of, integrated_of};
@@ -18,92 +15,26 @@ use machine::time::{LocalTicks, Ticks};
 use part_rules::kind::{has_mass, holds_number};
 
 // The side on which a detector sees its input; zero and an absent one keep the side `kept`.
-#[tactic(auto, using(crate::proofs::Sides::sides))]
+#[tactic(auto, unfolding(machine::specs::Kind::side_after))]
 fn side_after(kept: Side, x: Signal) -> Side
     ensures { result ≡ side_after kept x }
 {
-    let Signal::Value(v) = x else {
-        return kept;
-    };
-    if v < 0 {
-        return Side::Negative;
+    match x {
+        Signal::Value(v) if v < 0 => Side::Negative,
+        Signal::Value(v) if 0 < v => Side::Positive,
+        _ => kept,
     }
-    if 0 < v {
-        return Side::Positive;
-    }
-    kept
 }
 
 // The mark that a detector sets, by its sides before and after.
 fn mark_between(before: Side, after: Side) -> Mark
     ensures { result ≡ mark_between before after }
 {
-    match before {
-        Side::Unset => Mark::Clear,
-        Side::Negative => match after {
-            Side::Unset => Mark::Clear,
-            Side::Negative => Mark::Clear,
-            Side::Positive => Mark::Rising,
-        },
-        Side::Positive => match after {
-            Side::Unset => Mark::Clear,
-            Side::Negative => Mark::Falling,
-            Side::Positive => Mark::Clear,
-        },
+    match (before, after) {
+        (Side::Negative, Side::Positive) => Mark::Rising,
+        (Side::Positive, Side::Negative) => Mark::Falling,
+        _ => Mark::Clear,
     }
-}
-
-// The state with another held number.
-fn with_held(mut s: State, held: i64) -> State
-    ensures { result ≡ with_held s held }
-{
-    s.held = held;
-    s
-}
-
-// The state with another held signal.
-fn with_signal(s: State, signal: Signal) -> State
-    ensures { result ≡ with_signal s signal }
-{
-    let local = s.local;
-    let output = s.output;
-    let side = s.side;
-    let mark = s.mark;
-    State {
-        local,
-        held: s.held,
-        speed: s.speed,
-        signal,
-        output,
-        side,
-        mark,
-    }
-}
-
-// The state with another side and mark.
-fn with_mark(s: State, side: Side, mark: Mark) -> State
-    ensures { result ≡ with_mark s side mark }
-{
-    let local = s.local;
-    let signal = s.signal;
-    let output = s.output;
-    State {
-        local,
-        held: s.held,
-        speed: s.speed,
-        signal,
-        output,
-        side,
-        mark,
-    }
-}
-
-// The part in another state.
-fn with_state(mut p: Part, s: State) -> Part
-    ensures { result ≡ with_state p s }
-{
-    p.state = s;
-    p
 }
 
 // The local ticks d that a step adds, by the local count `end` that it leads to.
@@ -111,8 +42,7 @@ pub fn gain_of(p: Part, end: LocalTicks) -> LocalTicks
     requires { p.state.local.0 ≤ end.0 }
     ensures { result.0 ≡ end.0 - p.state.local.0 }
 {
-    let s = p.state;
-    LocalTicks(end.0 - s.local.0)
+    LocalTicks(end.0 - p.state.local.0)
 }
 
 // A held number or a speed after `d` local ticks: moved by `x` where it moves.
@@ -122,20 +52,14 @@ fn number_after(moves: bool, v: i64, x: Signal, d: LocalTicks) -> i64
     requires d_bound { d.0 ≤ 1_000_000_000 }
     ensures { result ≡ cond moves (integral v x d.0) v }
 {
-    if moves {
-        return integral_of(v, x, d);
-    }
-    v
+    if moves { integral_of(v, x, d) } else { v }
 }
 
 // What a held number integrates: the new speed of a part with mass, the reading `x` of port 0 of another.
 fn rate_of(mass: bool, speed: i64, x: Signal) -> Signal
     ensures { result ≡ cond mass (Signal.Value speed) x }
 {
-    if mass {
-        return Signal::Value(speed);
-    }
-    x
+    if mass { Signal::Value(speed) } else { x }
 }
 
 // The part moved by a step of `h` from the tick `t`: its local count, its speed and its held number.
@@ -148,44 +72,55 @@ pub fn moved_part(p: Part, t: Ticks, h: Ticks, x: Signal) -> Part
 {
     let end = Ticks(t.0 + h.0);
     let d = gain_of(p, end.local(p.ratio));
-    let c = p.component;
-    let kind = c.kind;
-    let mut s = p.state;
+    let kind = p.component.kind;
     let mass = has_mass(kind);
-    let old_speed = s.speed;
-    let speed = number_after(mass, old_speed, x, d);
-    let held = number_after(holds_number(kind), s.held, rate_of(mass, speed, x), d);
-    let count = s.local.0 + d.0;
-    s.local.0 = count;
-    s.held = held;
-    s.speed = speed;
-    with_state(p, s)
+    let speed = number_after(mass, p.state.speed, x, d);
+    let held = number_after(holds_number(kind), p.state.held, rate_of(mass, speed, x), d);
+    let local = LocalTicks(p.state.local.0 + d.0);
+    Part {
+        state: State {
+            local,
+            held,
+            speed,
+            ..p.state
+        },
+        ..p
+    }
 }
 
 // The state that a part of the kind takes once the outputs are there; `x` is the reading of port 0.
+#[tactic(auto, unfolding(machine::specs::Step::settled_as, machine::specs::Kind::mark_after))]
 fn settled_state(kind: Kind, x: Signal, s: State) -> State
     ensures { result ≡ settled_as kind x s }
 {
-    let output = s.output;
-    let side = s.side;
     match kind {
-        Kind::ResetIntegrator => with_held(s, integrated_of(output)),
+        Kind::ResetIntegrator => State {
+            held: integrated_of(s.output),
+            ..s
+        },
         Kind::Detector => {
-            let after = side_after(side, x);
-            with_mark(s, after, mark_between(side, after))
+            let side = side_after(s.side, x);
+            State {
+                side,
+                mark: mark_between(s.side, side),
+                ..s
+            }
         }
-        Kind::Hold => with_signal(s, output),
+        Kind::Hold => State {
+            signal: s.output,
+            ..s
+        },
         _ => s,
     }
 }
 
 // The part once the outputs at the new point are there.
+#[tactic(auto, unfolding(machine::specs::Step::settled))]
 pub fn settled_part(p: Part, x: Signal) -> Part
     ensures { result ≡ settled x p }
 {
-    let c = p.component;
-    let s = p.state;
-    let kind = c.kind;
-    let next = settled_state(kind, x, s);
-    with_state(p, next)
+    Part {
+        state: settled_state(p.component.kind, x, p.state),
+        ..p
+    }
 }

@@ -8,7 +8,7 @@ ghost use Rattle.step_part.specs.PartRanges.{PartFits};
 
 use crate::arithmetic::{product_of, total_of};
 use crate::wave::{period_of, pulse_of, square_of};
-use machine::part::{Kind, Mark, Part};
+use machine::part::{Component, Kind, Mark, Part, State};
 use machine::signal::Signal;
 use machine::time::Point;
 
@@ -36,10 +36,7 @@ fn sampled_of(x: Signal, y: Signal) -> Signal
 fn delayed(now: Point, before: Signal) -> Signal
     ensures { result ≡ cond (ltb 0 now.n) before Signal.Absent }
 {
-    if 0 < now.n {
-        return before;
-    }
-    Signal::Absent
+    if 0 < now.n { before } else { Signal::Absent }
 }
 
 // What a detector shows of its mark.
@@ -56,21 +53,16 @@ fn mark_signal_of(mark: Mark) -> Signal
 // The part's output at the point `now`: `x` and `y` are the readings of ports 0 and 1 there, and
 // `before` that of port 0 at the point before. A reading that the output does not depend on, of a port that is not
 // direct, may be anything.
+#[tactic(auto, unfolding(machine::specs::Kind::output, machine::specs::Kind::output_as))]
 pub fn output_of(p: Part, now: Point, x: Signal, y: Signal, before: Signal) -> Signal
     requires part_fits { PartFits p }
     requires x_value { direct0 p.component.kind ≡ true → is_signal x ≡ true }
     requires y_value { direct1 p.component.kind ≡ true → is_signal y ≡ true }
     ensures { result ≡ output p now x y before }
 {
-    let c = p.component;
-    let s = p.state;
-    let kind = c.kind;
-    let mark = s.mark;
-    let signal = s.signal;
-    let a = c.a;
-    let b = c.b;
-    let held = s.held;
-    let period = period_of(c.p, p.ratio);
+    let Component { kind, a, b, .. } = p.component;
+    let State { held, mark, .. } = p.state;
+    let period = period_of(p.component.p, p.ratio);
     match kind {
         Kind::Constant => Signal::Value(a),
         Kind::Gain => product_of(a, x),
@@ -78,12 +70,10 @@ pub fn output_of(p: Part, now: Point, x: Signal, y: Signal, before: Signal) -> S
         Kind::Square => Signal::Value(square_of(a, b, period, now)),
         Kind::Pulse => pulse_of(a, period, now),
         Kind::Delay => delayed(now, before),
-        Kind::Integrator => Signal::Value(held),
         Kind::ResetIntegrator => first_present_of(y, Signal::Value(held)),
         Kind::Detector => mark_signal_of(mark),
-        Kind::Hold => first_present_of(x, signal),
+        Kind::Hold => first_present_of(x, p.state.signal),
         Kind::Sampler => sampled_of(x, y),
-        Kind::Drive => Signal::Value(held),
-        Kind::Clapper => Signal::Value(held),
+        Kind::Integrator | Kind::Drive | Kind::Clapper => Signal::Value(held),
     }
 }

@@ -19,29 +19,23 @@ pub fn period_of(p: u32, ratio: u64) -> Ticks
 }
 
 // Whether `t` is a positive multiple of the period.
+#[tactic(auto, unfolding(machine::specs::Kind::positive_multiple))]
 fn multiple_of(period: Ticks, t: Ticks) -> bool
     ensures { result ≡ positive_multiple period.0 t.0 }
 {
-    if t.0 == 0 {
-        return false;
-    }
-    if period.0 == 0 {
-        return false;
-    }
-    t.0 % period.0 == 0
+    t.0 != 0 && t.0.is_multiple_of(period.0)
 }
 
 // Whether the point is (k × P, 0) with k ≥ 1.
+#[tactic(auto, unfolding(machine::specs::Kind::at_multiple))]
 pub fn at_multiple_of(period: Ticks, now: Point) -> bool
     ensures { result ≡ at_multiple period.0 now }
 {
-    if now.n != 0 {
-        return false;
-    }
-    multiple_of(period, now.t)
+    now.n == 0 && multiple_of(period, now.t)
 }
 
 // How many half waves of a square lie before the point.
+#[tactic(auto, unfolding(machine::specs::Kind::half_waves))]
 fn half_waves_of(period: Ticks, now: Point) -> u64
     ensures { result ≡ half_waves period.0 now }
 {
@@ -49,30 +43,32 @@ fn half_waves_of(period: Ticks, now: Point) -> u64
         return 0;
     }
     if at_multiple_of(period, now) {
-        return now.t.0 / period.0 - 1;
+        now.t.0 / period.0 - 1
+    } else {
+        now.t.0 / period.0
     }
-    now.t.0 / period.0
 }
 
 // A square's output.
+#[tactic(auto, unfolding(machine::specs::Kind::square))]
 pub(crate) fn square_of(a: i64, b: i64, period: Ticks, now: Point) -> i64
     ensures { result ≡ square a b period.0 now }
 {
     if half_waves_of(period, now) % 2 == 0 {
-        return a;
+        a
+    } else {
+        b
     }
-    b
 }
 
 // A pulse's output.
+#[tactic(auto, unfolding(machine::specs::Kind::pulse))]
 pub(crate) fn pulse_of(a: i64, period: Ticks, now: Point) -> Signal
     ensures { result ≡ pulse a period.0 now }
 {
-    if now.n != 1 {
-        return Signal::Absent;
+    if now.n == 1 && multiple_of(period, now.t) {
+        Signal::Value(a)
+    } else {
+        Signal::Absent
     }
-    if multiple_of(period, now.t) {
-        return Signal::Value(a);
-    }
-    Signal::Absent
 }

@@ -1,20 +1,20 @@
--- `clamped` is `clamp`: the code's two tests are those of `clamp_above`, `clamp_below` and `clamp_between`. A signed
--- local holds bits, which are read back as the number itself, since it fits.
-use mathlib.Core.Path.{◌∙◌}
-use mir.Syntax.{w64}
-use mir.ValLaws.{to_z-of_z}
-use Rattle.laws.specs.Signed.{clamp_above, clamp_below, clamp_between}
+-- `clamped` is `clamp`: std's `clamp` of a number to the two ends is the definition, by cases on its sign.
+use Rattle.std.specs.Prelude.{ℤ, pos, negsuc, ◌≡◌}
+use Rattle.std.proofs.Common.{arith, ap, ◌∙◌}
+use Rattle.std.proofs.lemmas.Bool.Decides.{nat_tests}
+use Rattle.std.proofs.lemmas.Int.{to_z-of_z}
+use Rattle.std.specs.Int.{w64, int_max, int_min}
+use Rattle.machine.specs.Signal.{clamp}
 use Rattle.step_part.proofs.arithmetic.clamped.Goals as goal
 
-pub returns-then-v-gt1000000000 : goal.returns-then-v-gt1000000000
-returns-then-v-gt1000000000 c =
-    clamp_above c.args.v (rw (to_z-of_z w64 c.args.v c.ranges.v) at c.if-v-gt1000000000.true)
-
-pub returns-then-v-ltminus1000000000 : goal.returns-then-v-ltminus1000000000
-returns-then-v-ltminus1000000000 c =
-    clamp_below c.args.v (rw (to_z-of_z w64 c.args.v c.ranges.v) at c.if-v-ltminus1000000000.true)
+-- the number that std names is the definition's
+clamp_is : (v : ℤ) → int_max (negsuc 999_999_999) (int_min v (pos 1_000_000_000)) ≡ clamp v
+unfolding clamp
+clamp_is (pos n) = grind (arith, nat_tests)
+clamp_is (negsuc n) = grind (arith, nat_tests)
 
 pub returns : goal.returns
 returns c =
-    let back = to_z-of_z w64 c.args.v c.ranges.v in
-    back ∙ clamp_between c.args.v (rw back at c.if-v-gt1000000000.false) (rw back at c.if-v-ltminus1000000000.false)
+    to_z-of_z w64 c.clamp.result (record { sfits = c.clamp.type_inv }) ∙ c.clamp.ensures.value ∙
+    ap (λ (v : ℤ). int_max (negsuc 999_999_999) (int_min v (pos 1_000_000_000))) (to_z-of_z w64 c.args.v c.ranges.v) ∙
+    clamp_is c.args.v

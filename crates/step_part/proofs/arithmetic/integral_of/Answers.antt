@@ -1,10 +1,8 @@
--- `integral_of` is `integral`: d is at most 10^9, so the product fits, and so does the sum with a held value. An absent
--- signal counts as 0, which leaves the held number.
+-- `integral_of` is `integral`: d is at most 10^9, so the product fits, and so does the sum with a held value.
 use Rattle.std.specs.Prelude.{ℕ, ℤ, ◌≤◌, ◌≡◌, pos, nat_abs, ◌+ℤ◌, ◌*ℤ◌}
 use Rattle.std.proofs.Common.{arith}
 use Rattle.std.proofs.lemmas.Int.{to_z-of_z}
 use Rattle.std.specs.Int.{w64}
-use lib.IntN.{+ℤ_idr, zero-*ℤ}
 use mir.Val.{SFits, to_z}
 use mir.ValLaws.{to_z_pos}
 use Rattle.machine.specs.Signal.{integral, largest_value}
@@ -39,18 +37,6 @@ overflow_add-held c =
       to_z-of_z w64 held c.ranges.held,
     )
     both.1
-
-pub returns-in-Absent : goal.returns-in-Absent
-unfolding integral
-returns-in-Absent c =
-    rw (
-      to_z-of_z w64 c.clamped.result (record { sfits = c.clamped.type_inv }),
-      c.clamped.ensures,
-      to_z-of_z w64 c.args.held c.ranges.held,
-      c.in-Absent.is,
-      zero-*ℤ (pos c.args.d.0),
-      +ℤ_idr c.args.held,
-    )
 
 pub returns-in-Value : goal.returns-in-Value
 unfolding integral

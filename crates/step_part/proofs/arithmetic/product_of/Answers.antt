@@ -13,10 +13,6 @@ overflow_mul-a c =
     rw (to_z-of_z w64 a c.ranges.a, to_z-of_z w64 v (record { sfits = omega arith }))
     (product_fits a v (value_most a c.requires.a_value) (signal_most c.args.x v c.in-Value.is c.requires.x_value))
 
-pub returns-in-Absent : goal.returns-in-Absent
-unfolding product
-returns-in-Absent c = simp c.in-Absent.is
-
 pub returns-in-Value : goal.returns-in-Value
 unfolding product
 returns-in-Value c =

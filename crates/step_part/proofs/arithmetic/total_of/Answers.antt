@@ -1,4 +1,4 @@
--- `total_of` is `total`, by its four cases. The sum of two values fits, and what is clamped is the sum itself.
+-- `total_of` is `total`, by its cases. The sum of two values fits, and what is clamped is the sum itself.
 use Rattle.std.specs.Prelude.{ℤ, ◌≡◌, true, ◌+ℤ◌}
 use Rattle.std.proofs.Common.{arith}
 use Rattle.std.proofs.lemmas.Int.{to_z-of_z}
@@ -17,52 +17,21 @@ sum_of x y v w e f p q = sum_fits v w (signal_most x v e p) (omega (arith, signa
 
 pub overflow_add-v : goal.overflow_add-v
 overflow_add-v c =
-    let v = c.in-Value.v in
-    let w = c.in-Value-y-2.w in
-    rw (to_z-of_z w64 v (record { sfits = omega arith }), to_z-of_z w64 w (record { sfits = omega arith }))
-    (sum_of c.args.x c.args.y v w c.in-Value.is c.in-Value-y-2.is c.requires.x_value c.requires.y_value)
+    let at = c.in-Value-Value in
+    rw (to_z-of_z w64 at.v (record { sfits = omega arith }), to_z-of_z w64 at.w (record { sfits = omega arith }))
+    (sum_of c.args.x c.args.y at.v at.w at.is-0 at.is-1 c.requires.x_value c.requires.y_value)
 
-pub returns-in-Absent-y : goal.returns-in-Absent-y
+pub returns-in-Value-Value : goal.returns-in-Value-Value
 unfolding total
-returns-in-Absent-y c = simp (c.in-Absent.is, c.in-Absent-y.is)
-
-pub returns-in-Value-y : goal.returns-in-Value-y
-unfolding total
-returns-in-Value-y c =
-    let w = c.in-Value-y.w in
+returns-in-Value-Value c =
+    let at = c.in-Value-Value in
+    let fits = sum_of c.args.x c.args.y at.v at.w at.is-0 at.is-1 c.requires.x_value c.requires.y_value in
     rw (
       to_z-of_z w64 c.clamped.result (record { sfits = c.clamped.type_inv }),
       c.clamped.ensures,
-      to_z-of_z w64 w (record { sfits = omega arith }),
-      c.in-Absent.is,
-      c.in-Value-y.is,
-    )
-
-pub returns-in-Absent-y-2 : goal.returns-in-Absent-y-2
-unfolding total
-returns-in-Absent-y-2 c =
-    let v = c.in-Value.v in
-    rw (
-      to_z-of_z w64 c.clamped-in-Absent-y-2.result (record { sfits = c.clamped-in-Absent-y-2.type_inv }),
-      c.clamped-in-Absent-y-2.ensures,
-      to_z-of_z w64 v (record { sfits = omega arith }),
-      c.in-Value.is,
-      c.in-Absent-y-2.is,
-    )
-
-pub returns-in-Value-y-2 : goal.returns-in-Value-y-2
-unfolding total
-returns-in-Value-y-2 c =
-    let v = c.in-Value.v in
-    let w = c.in-Value-y-2.w in
-    let fits =
-    sum_of c.args.x c.args.y v w c.in-Value.is c.in-Value-y-2.is c.requires.x_value c.requires.y_value in
-    rw (
-      to_z-of_z w64 c.clamped-in-Value-y-2.result (record { sfits = c.clamped-in-Value-y-2.type_inv }),
-      c.clamped-in-Value-y-2.ensures,
-      to_z-of_z w64 v (record { sfits = omega arith }),
-      to_z-of_z w64 w (record { sfits = omega arith }),
+      to_z-of_z w64 at.v (record { sfits = omega arith }),
+      to_z-of_z w64 at.w (record { sfits = omega arith }),
       to_z-of_z w64 _ fits,
-      c.in-Value.is,
-      c.in-Value-y-2.is,
+      at.is-0,
+      at.is-1,
     )

@@ -1,18 +1,14 @@
 -- `moved_part` is `moved`: the gain is added to the local count, which is then the count that the step leads to, and so
 -- fits. The speed and the held number are the definition's, the second by the new speed where the part has mass.
 use Prim.Native.Nat.{ℕ, ◌+◌}
-use native.Mathlib.Nat.{div-le_self}
-use native.Mathlib.Omega.{arith}
 use mathlib.Core.Path.{◌≡◌, sym, ◌∙◌}
 use mathlib.Core.Bool.{Bool, true, cond}
 use lib.IntN.{ℤ}
 use mir.Syntax.{w64}
-use mir.Val.{Fits}
 use mir.ValLaws.{to_z-of_z}
 use Rattle.machine.specs.declared.signal.Signal.{Signal}
 use Rattle.machine.specs.declared.signal.Signal.TheVariants.{Value}
 use Rattle.machine.specs.declared.part.Part.{Part}
-use Rattle.machine.specs.Time.{gained, local_count}
 use Rattle.machine.specs.Signal.{integral, is_signal}
 use Rattle.machine.specs.Kind.{has_mass, integrates}
 use Rattle.machine.specs.Model.{with_state}
@@ -20,13 +16,7 @@ use Rattle.machine.specs.Step.{gain_of, moved, moved_held, moved_speed, rate}
 use Rattle.laws.specs.Bools.{cond_cases}
 use Rattle.laws.specs.Signed.{integral_value, value_back}
 use Rattle.step_part.specs.Gain.{gain_to}
-use Rattle.step_part.specs.PartRanges.{StepFits}
 use Rattle.step_part.proofs.change.moved_part.Goals as goal
-
--- the local count with the gain added fits
-count_fits : (t h d : ℕ) (p : Part) → StepFits t h p → d ≡ gain_of t h p → Fits w64 (p.state.local.0 + d)
-unfolding gain_of gained local_count
-count_fits t h d p fit e = omega (arith, div-le_self (t + h) p.ratio)
 
 -- the part moved by d is the definition's where d is the gain, and its held number and speed are the definition's
 moved_by : (t h d : ℕ) (x : Signal) (p : Part) (held speed : ℤ) → d ≡ gain_of t h p → held ≡ moved_held p x d →
@@ -106,7 +96,7 @@ returns c =
     held_of args.p args.x d mass c.holds_number.ensures (speed_back ∙ is_speed) c.rate_of.ensures
     (value_back args.p.state.held c.requires.part_fits.held)
     held.ensures in
-    rw (c.with_state.ensures, to_z-of_z w64 held.result (record { sfits = held.type_inv }), speed_back)
+    rw (to_z-of_z w64 held.result (record { sfits = held.type_inv }), speed_back)
     (moved_by args.t.0 args.h.0 d args.x args.p held.result speed.result
     (gain_to args.t.0 args.h.0 d c.local.result args.p c.local.ensures c.gain_of-d.ensures)
     is_held

@@ -1,2 +1,0 @@
--- Lemmas for the goals of functions.
-pub mod Sides
