@@ -16,25 +16,22 @@ use step_part::change::gain_of;
 use step_part::wave::period_of;
 
 // The longest step of at most `h` from the tick `t` up to the next multiple of the period.
+#[tactic(auto, unfolding(machine::specs::Accept::next_multiple))]
 fn up_to_multiple(period: Ticks, t: Ticks, h: Ticks) -> Ticks
     requires { 0 < period.0 }
     ensures { result.0 ≡ min h.0 (next_multiple period.0 t.0 - t.0) }
 {
-    let left = period.0 - t.0 % period.0;
-    if h.0 < left {
-        return h;
-    }
-    Ticks(left)
+    Ticks(h.0.min(period.0 - t.0 % period.0))
 }
 
 // The last step from the tick `t` that adds `v` local ticks, `v` being a span, or 0, as the table's plain number.
+#[tactic(auto, unfolding(machine::specs::Accept::last_adding))]
 fn last_adding(ratio: u64, t: Ticks, v: u64) -> Ticks
     requires ratio_nonzero { 0 < ratio }
     requires ratio_bound { (v + 1) * ratio ≤ last_tick }
     ensures { result.0 ≡ last_adding ratio t.0 v }
 {
-    let h = (v + 1) * ratio - 1 - t.0 % ratio;
-    Ticks(h)
+    Ticks((v + 1) * ratio - 1 - t.0 % ratio)
 }
 
 // A drive's longest step of at most `h` from the tick `t`.
@@ -44,13 +41,12 @@ pub fn longest_of_drive(p: Part, t: Ticks, h: Ticks) -> Ticks
 {
     let end = Ticks(t.0 + h.0);
     let d = gain_of(p, end.local(p.ratio));
-    let c = p.component;
-    let spans = c.spans;
-    if allowed(spans, c.span_count, d) {
-        return h;
+    let spans = &p.component.spans[..p.component.span_count];
+    if allowed(spans, d) {
+        h
+    } else {
+        last_adding(p.ratio, t, largest_below(spans, d))
     }
-    let v = largest_below(spans, c.span_count, d);
-    last_adding(p.ratio, t, v)
 }
 
 // The longest step of at most `h` that the part accepts at the point `now`, where its port 0 reads `x`.
@@ -61,13 +57,9 @@ pub fn longest_of(p: Part, now: Point, x: Signal, h: Ticks) -> Ticks
     if due_of(p, now, x) {
         return Ticks(0);
     }
-    let c = p.component;
-    let kind = c.kind;
-    let t = now.t;
-    match kind {
-        Kind::Square => up_to_multiple(period_of(c.p, p.ratio), t, h),
-        Kind::Pulse => up_to_multiple(period_of(c.p, p.ratio), t, h),
-        Kind::Drive => longest_of_drive(p, t, h),
+    match p.component.kind {
+        Kind::Square | Kind::Pulse => up_to_multiple(period_of(p.component.p, p.ratio), now.t, h),
+        Kind::Drive => longest_of_drive(p, now.t, h),
         _ => h,
     }
 }
