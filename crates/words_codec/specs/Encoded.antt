@@ -8,6 +8,7 @@ use Rattle.machine.specs.declared.part.Side.{Side}
 use Rattle.machine.specs.declared.part.Side.TheVariants.{Unset, Negative, Positive}
 use Rattle.machine.specs.declared.part.Mark.{Mark}
 use Rattle.machine.specs.declared.part.Mark.TheVariants.{Clear, Rising, Falling}
+use Rattle.words_codec.specs.Words.{encode_signed}
 
 -- a port: 0 unwired, k + 1 from part k
 abbrev pub encode_source : Source → ℕ
@@ -29,3 +30,8 @@ encode_mark Falling = 2
 abbrev pub encode_presence : Signal → ℕ
 encode_presence Absent = 0
 encode_presence (Value v) = 1
+
+-- its value's word, 0 where it is absent
+abbrev pub encode_value : Signal → ℕ
+encode_value Absent = 0
+encode_value (Value v) = encode_signed v

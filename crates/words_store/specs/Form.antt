@@ -3,8 +3,6 @@
 -- words after a part's count of spans; `specs/Free.antt` names them. Assumes nothing.
 use Rattle.std.specs.Prelude.{ℕ, zero, suc, ◌+◌, min, Bool, true, ◌&&◌, List, [], ◌∷◌, length, replicate, leb}
 use Rattle.machine.specs.Model.{most_parts, most_spans}
-use Rattle.words_store.specs.declared.form.Run.{Run}
-use Rattle.words_store.specs.declared.form.Run.TheVariants.{Operands, Spans, Wires, State}
 use Rattle.words_store.specs.Layout.{in_table, span_count_field, spans_field, port0_field}
 use Rattle.words_store.specs.ModelIn.{slot, part_count, table_words, state_words}
 
@@ -36,13 +34,6 @@ wire_limits = 65536 ∷ 65536 ∷ any_word ∷ 65535 ∷ []
 -- value; side and mark
 abbrev pub state_limits : List ℕ
 state_limits = any_word ∷ any_word ∷ any_word ∷ 1 ∷ any_word ∷ 1 ∷ any_word ∷ 2 ∷ 2 ∷ []
-
--- the limits of each run of a part's words; of the spans, those of all places
-abbrev pub run_limits : Run → List ℕ
-run_limits Operands = operand_limits
-run_limits Spans = replicate most_spans any_32
-run_limits Wires = wire_limits
-run_limits State = state_limits
 
 -- the words from k on are at most the limits
 unfoldable pub words_within : List ℕ → ℕ → List ℕ → Bool

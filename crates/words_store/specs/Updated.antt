@@ -8,16 +8,9 @@ use Rattle.std.proofs.Math.Logic.{inl, inr}
 use Rattle.std.proofs.lemmas.List.{length-replicate}
 use Rattle.std.proofs.lemmas.Bool.{eqb-false}
 use Rattle.machine.specs.declared.time.Point.{Point}
-use Rattle.machine.specs.declared.signal.Signal.{Signal}
-use Rattle.machine.specs.declared.signal.Signal.TheVariants.{Absent, Value}
-use Rattle.machine.specs.declared.part.Side.{Side}
-use Rattle.machine.specs.declared.part.Side.TheVariants.{Unset, Negative, Positive}
-use Rattle.machine.specs.declared.part.Mark.{Mark}
-use Rattle.machine.specs.declared.part.Mark.TheVariants.{Clear, Rising, Falling}
 use Rattle.machine.specs.declared.part.State.{State}
 use Rattle.laws.specs.Bools.{either}
 use Rattle.words_codec.specs.Words.{decode_signed}
-use Rattle.words_codec.specs.Encoded.{encode_presence, encode_side, encode_mark}
 use Rattle.words_codec.specs.Decoded.{decode_side, decode_mark, decode_signal}
 use Rattle.words_store.specs.Layout.{header, state_record, in_table, in_state, span_count_field, spans_field}
 use Rattle.words_store.specs.Layout.{port0_field, local_field, held_field, speed_field, signal_field}
@@ -103,33 +96,6 @@ component_same a b j same =
     within_same a b (in_table j spans_field) (span_limits (slot a (in_table j span_count_field)))
     (λ x from to. same x (omega arith) (omega (arith, length-replicate used any_32)))))
     (within_same a b (in_table j port0_field) wire_limits (λ x from to. same x (omega arith) (omega arith)))
-
--- the codes of signals, sides and marks are within their limits, and those of sides and marks are read back
-pub signal_limit : (s : Signal) → encode_presence s ≤ 1
-signal_limit Absent = omega arith
-signal_limit (Value v) = omega arith
-
-pub side_limit : (s : Side) → encode_side s ≤ 2
-side_limit Unset = omega arith
-side_limit Negative = omega arith
-side_limit Positive = omega arith
-
-pub mark_limit : (m : Mark) → encode_mark m ≤ 2
-mark_limit Clear = omega arith
-mark_limit Rising = omega arith
-mark_limit Falling = omega arith
-
-pub side_same : (s : Side) → decode_side (encode_side s) ≡ s
-unfolding decode_side
-side_same Unset = refl
-side_same Negative = refl
-side_same Positive = refl
-
-pub mark_same : (m : Mark) → decode_mark (encode_mark m) ≡ m
-unfolding decode_mark
-mark_same Clear = refl
-mark_same Rising = refl
-mark_same Falling = refl
 
 -- nine words that are read back as the fields of a state, written at its record
 module _

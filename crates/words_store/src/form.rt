@@ -2,79 +2,63 @@
 // span words of a part only those in use are tested.
 //
 // The contracts cite `specs/Form.antt`.
-ghost use Rattle.std.specs.Prelude.{◌≡◌, ◌+◌, ◌≤◌, ◌<◌, length, get_or, take};
+ghost use Rattle.std.specs.Prelude.{◌≡◌, ◌+◌, ◌≤◌, length};
 ghost use Rattle.machine.specs.Model.{most_parts};
 ghost use Rattle.words_store.specs.ModelIn.{state_words, table_words};
 ghost use Rattle.words_store.specs.Form.{component_spelled, part_spelled, parts_spelled, spelled};
-ghost use Rattle.words_store.specs.Form.{run_limits, spans_used, words_within};
+ghost use Rattle.words_store.specs.Form.{spans_used, words_within};
 
 use crate::layout::{
-    FIRST_SPAN, HEADER, KIND, LOCAL, PORT0, SPAN_COUNT, STATE_RECORD, TABLE_RECORD, table_field,
+    FIRST_SPAN, HEADER, KIND, LOCAL, PORT0, SPAN_COUNT, STATE_RECORD, TABLE_RECORD, field,
 };
 use crate::lookup::{parts_of, state_words, table_words};
 use machine::model::PARTS;
 use machine::part::SPANS;
 
-// The runs of words of a part: those before its spans in the table, its spans, those after them, and its state.
-#[derive(Clone, Copy)]
-enum Run {
-    Operands,
-    Spans,
-    Wires,
-    State,
-}
-
-// How many words each run has; of the spans, `SPANS`.
-const OPERAND_WORDS: usize = 6;
-
-const WIRE_WORDS: usize = 4;
-
 // The largest word, and the largest number of 32 bits.
-const ANY: u64 = 18_446_744_073_709_551_615;
+const ANY: u64 = u64::MAX;
 
-const ANY_32: u64 = 4_294_967_295;
+const ANY_32: u64 = u32::MAX as u64;
 
-// The largest number in word `j` of a run. The lists of `specs/Form.antt` say which field each word is. A match and no
-// table: a table is copied to be read.
-fn limit(run: Run, j: usize) -> u64
-    requires { j < length (run_limits run) }
-    ensures { result ≡ get_or (run_limits run) j 0 }
+// The largest codes: of a kind, of a signal's presence, of a side and of a mark.
+const LAST_KIND: u64 = 12;
+
+const LAST_PRESENCE: u64 = 1;
+
+const LAST_SIDE: u64 = 2;
+
+const LAST_MARK: u64 = 2;
+
+// The largest numbers in the words of a part: in those before its spans in the table, in its spans, in those after
+// them, and in its state. The lists of `specs/Form.antt` say which field each word is. They are no constants: a
+// constant is copied to be read.
+static OPERAND_LIMITS: [u64; 6] = [LAST_KIND, 255, ANY, ANY, ANY_32, ANY];
+
+static SPAN_LIMITS: [u64; SPANS] = [ANY_32; SPANS];
+
+static WIRE_LIMITS: [u64; 4] = [65536, 65536, ANY, 65535];
+
+static STATE_LIMITS: [u64; STATE_RECORD] = [
+    ANY,
+    ANY,
+    ANY,
+    LAST_PRESENCE,
+    ANY,
+    LAST_PRESENCE,
+    ANY,
+    LAST_SIDE,
+    LAST_MARK,
+];
+
+// Whether the words from `k` on are within limits.
+fn within(words: &[u64], k: usize, limits: &[u64]) -> bool
+    requires { k + length limits.now ≤ length words.now }
+    ensures { result ≡ words_within words.now k limits.now }
 {
-    match run {
-        Run::Operands => match j {
-            0 => 12,
-            1 => 255,
-            4 => ANY_32,
-            _ => ANY,
-        },
-        Run::Spans => ANY_32,
-        Run::Wires => match j {
-            2 => ANY,
-            3 => 65535,
-            _ => 65536,
-        },
-        Run::State => match j {
-            3 => 1,
-            5 => 1,
-            7 => 2,
-            8 => 2,
-            _ => ANY,
-        },
-    }
-}
-
-// Whether the first `count` words from `k` on are within the limits of a run.
-fn within(words: &[u64], k: usize, run: Run, count: usize) -> bool
-    requires words_there { k + count ≤ length words.now }
-    requires limits_there { count ≤ length (run_limits run) }
-    ensures { result ≡ words_within words.now k (take count (run_limits run)) }
-{
-    let mut j: usize = 0;
-    while j < count {
-        if words[k + j] > limit(run, j) {
+    for (j, most) in limits.iter().enumerate() {
+        if words[k + j] > *most {
             return false;
         }
-        j += 1;
     }
     true
 }
@@ -83,76 +67,60 @@ fn within(words: &[u64], k: usize, run: Run, count: usize) -> bool
 fn spans_used(count: u64) -> usize
     ensures { result ≡ spans_used count }
 {
-    if count < 8 {
-        return count as usize;
-    }
-    SPANS
+    (count as usize).min(SPANS)
 }
 
 // Whether the record of part `i` in the table is within its limits. Its span words that are not in use are free.
+#[tactic(auto, using(crate::specs::Spelling::spans_first), unfolding(crate::specs::Form::component_spelled))]
 fn component_spelled(table: &[u64], i: usize) -> bool
     requires { table_words (i + 1) ≤ length table.now }
     ensures { result ≡ component_spelled table.now i }
 {
     let k = TABLE_RECORD * i;
-    if !within(table, k + KIND, Run::Operands, OPERAND_WORDS) {
-        return false;
-    }
-    let used = spans_used(table_field(table, i, SPAN_COUNT));
-    if !within(table, k + FIRST_SPAN, Run::Spans, used) {
-        return false;
-    }
-    within(table, k + PORT0, Run::Wires, WIRE_WORDS)
+    let used = spans_used(field::<TABLE_RECORD, _>(table, i, SPAN_COUNT));
+    within(table, k + KIND, &OPERAND_LIMITS)
+        && within(table, k + FIRST_SPAN, &SPAN_LIMITS[..used])
+        && within(table, k + PORT0, &WIRE_LIMITS)
 }
 
 // Whether both records of part `i` are.
+#[tactic(auto, unfolding(crate::specs::Form::part_spelled))]
 fn part_spelled(table: &[u64], state: &[u64], i: usize) -> bool
     requires table_there { table_words (i + 1) ≤ length table.now }
     requires state_there { state_words (i + 1) ≤ length state.now }
     ensures { result ≡ part_spelled table.now state.now i }
 {
-    if !component_spelled(table, i) {
-        return false;
-    }
-    within(state, STATE_RECORD * i + LOCAL, Run::State, STATE_RECORD)
+    component_spelled(table, i) && within(state, STATE_RECORD * i + LOCAL, &STATE_LIMITS)
 }
 
 // Whether those of the first `count` parts are.
+#[tactic(auto, using(crate::specs::Spelling::parts_more, crate::specs::Spelling::parts_fail))]
 fn parts_spelled(table: &[u64], state: &[u64], count: usize) -> bool
     requires few_parts { count ≤ most_parts }
     requires table_there { table_words count ≤ length table.now }
     requires state_there { state_words count ≤ length state.now }
     ensures { result ≡ parts_spelled table.now state.now count }
 {
-    let mut i: usize = 0;
-    while i < count {
+    for i in 0..count {
         if !part_spelled(table, state, i) {
             return false;
         }
-        i += 1;
     }
     true
 }
 
 // Whether the words spell a model, whatever they are.
+#[tactic(auto, unfolding(crate::specs::Form::spelled))]
 pub fn spelled(table: &[u64], state: &[u64]) -> bool
     ensures { result ≡ spelled table.now state.now }
 {
     if table.len() < HEADER {
         return false;
     }
-    if table[0] > 255 {
-        return false;
-    }
     let count = parts_of(table);
-    if count > PARTS {
-        return false;
-    }
-    if table.len() < table_words(count) {
-        return false;
-    }
-    if state.len() < state_words(count) {
-        return false;
-    }
-    parts_spelled(table, state, count)
+    table[0] <= 255
+        && count <= PARTS
+        && table.len() >= table_words(count)
+        && state.len() >= state_words(count)
+        && parts_spelled(table, state, count)
 }

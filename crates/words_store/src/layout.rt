@@ -2,10 +2,12 @@
 // two words, then a record for each part. A field is numbered from the header on.
 //
 // The contracts cite `specs/Layout.antt`, which has the same numbers.
-ghost use Rattle.std.specs.Prelude.{◌≡◌, ◌+◌, ◌<◌, length};
-ghost use Rattle.words_store.specs.Layout.{in_state, in_table};
+ghost use Rattle.std.specs.Prelude.{◌≡◌, ◌+◌, ◌*◌, ◌<◌, length};
+ghost use Rattle.words_store.specs.Layout.{in_state};
 ghost use Rattle.words_store.specs.ModelIn.{slot};
-ghost use Rattle.words_store.specs.WordsWritten.{FieldPut, PairPut};
+ghost use Rattle.words_store.specs.WordsWritten.{FieldPut};
+
+use words_codec::fields::Field;
 
 // How many words come before the records, and how many words a record has in a table and in a state.
 pub const HEADER: usize = 2;
@@ -52,35 +54,19 @@ pub const SIDE: usize = 9;
 
 pub const MARK: usize = 10;
 
-// Field `f` of part `i` in a table.
-pub fn table_field(table: &[u64], i: usize, f: usize) -> u64
-    requires { in_table i f < length table.now }
-    ensures { result ≡ slot table.now (in_table i f) }
+// Field `f` of part `i`, in records of `RECORD` words.
+pub fn field<const RECORD: usize, T: Field>(words: &[u64], i: usize, f: usize) -> T
+    requires { RECORD * i + f < length words.now }
+    ensures { result ≡ T.decoded (slot words.now (RECORD * i + f)) }
 {
-    table[TABLE_RECORD * i + f]
-}
-
-// Field `f` of part `i` in a state.
-pub fn state_field(state: &[u64], i: usize, f: usize) -> u64
-    requires { in_state i f < length state.now }
-    ensures { result ≡ slot state.now (in_state i f) }
-{
-    state[STATE_RECORD * i + f]
+    T::decode(words[RECORD * i + f])
 }
 
 // Field `f` of part `i` in a state, written anew.
-pub fn put_field(state: &mut [u64], i: usize, f: usize, v: u64)
+pub fn put_field<T: Field>(state: &mut [u64], i: usize, f: usize, v: T)
     requires { in_state i f < length state.old }
-    ensures { FieldPut (in_state i f) v state.old state.new }
+    ensures put { FieldPut (in_state i f) (T.encoded v) state.old state.new }
+    ensures fits { T.Fits v }
 {
-    state[STATE_RECORD * i + f] = v;
-}
-
-// Field `f` of part `i` in a state and the field after it, written anew.
-pub fn put_pair(state: &mut [u64], i: usize, f: usize, v: u64, w: u64)
-    requires { in_state i (f + 1) < length state.old }
-    ensures { PairPut (in_state i f) v (in_state i (f + 1)) w state.old state.new }
-{
-    put_field(state, i, f, v);
-    put_field(state, i, f + 1, w);
+    state[STATE_RECORD * i + f] = v.encode();
 }

@@ -2,52 +2,48 @@
 //
 // The contracts cite `specs/Updated.antt`, `specs/NumbersPut.antt` and `specs/Shown.antt`: what was written is read
 // back, a word that is free is 0 (`specs/Clean.antt`), and every other word is kept.
-ghost use Rattle.std.specs.Prelude.{◌≡◌, ◌+◌, ◌*◌, ◌≤◌, length};
-ghost use Rattle.words_codec.specs.Words.{decode_signed};
-ghost use Rattle.words_codec.specs.Encoded.{encode_presence};
-ghost use Rattle.words_codec.specs.Decoded.{decode_signal};
+ghost use Rattle.std.specs.Prelude.{◌≡◌, ◌+◌, ◌*◌, ◌≤◌, ◌<◌, length};
+ghost use Rattle.words_codec.specs.Encoded.{encode_presence, encode_value};
+ghost use Rattle.words_codec.specs.Sized.{FitsSignal};
+ghost use Rattle.words_store.specs.Layout.{in_state};
+ghost use Rattle.words_store.specs.WordsWritten.{PairPut};
 ghost use Rattle.words_store.specs.ModelIn.{WordsThere, part_count, state_words};
 ghost use Rattle.words_store.specs.Updated.{Copied, PointPut, StatePut};
 ghost use Rattle.words_store.specs.NumbersPut.{NumbersPut};
 ghost use Rattle.words_store.specs.Shown.{OutputPut};
 
-use crate::layout::{HELD, LOCAL, OUTPUT, SIDE, SIGNAL, put_field, put_pair};
+use crate::layout::{HELD, LOCAL, MARK, OUTPUT, SIDE, SIGNAL, SPEED, put_field};
 use crate::lookup::{parts_of, state_words};
 use machine::part::State;
 use machine::signal::Signal;
 use machine::time::{LocalTicks, Point};
-use words_codec::fields::{encode_mark, encode_side};
-use words_codec::word::encode_signed;
+use words_codec::fields::Field;
 
 // The value's word of a signal that is absent.
 const NO_VALUE: u64 = 0;
 
-// The word of a signed number, which is read back as the number.
-pub fn word_of(v: i64) -> u64
-    ensures { decode_signed result ≡ v }
-{
-    encode_signed(v)
-}
-
-// The code of a signal: 0 where it is absent, else 1.
-fn encode_presence(s: Signal) -> u64
-    ensures { result ≡ encode_presence s }
+// The two words of a signal: its code, 0 where it is absent, else 1, and its value.
+fn encode_signal(s: Signal) -> (u64, u64)
+    ensures code { result.0 ≡ encode_presence s }
+    ensures value { result.1 ≡ encode_value s }
+    ensures fits { FitsSignal s }
 {
     match s {
-        Signal::Absent => 0,
-        Signal::Value(_) => 1,
+        Signal::Absent => (0, NO_VALUE),
+        Signal::Value(v) => (1, v.encode()),
     }
 }
 
-// The word of a signal's value, 0 where it is absent: with the code it is read back as the signal.
-fn encode_value(s: Signal) -> u64
-    ensures read_back { decode_signal (encode_presence s) result ≡ s }
-    ensures zero_if_absent { (encode_presence s ≡ 1 → ⊥) → result ≡ 0 }
+// The signal of part `i` whose code is field `f`, written anew. Its value is the field after it.
+fn put_signal(state: &mut [u64], i: usize, f: usize, s: Signal)
+    requires { in_state i (f + 1) < length state.old }
+    ensures put { PairPut (in_state i f) (encode_presence s) (in_state i (f + 1)) (encode_value s)
+        state.old state.new }
+    ensures fits { FitsSignal s }
 {
-    match s {
-        Signal::Absent => NO_VALUE,
-        Signal::Value(v) => word_of(v),
-    }
+    let (code, value) = encode_signal(s);
+    put_field(state, i, f, code);
+    put_field(state, i, f + 1, value);
 }
 
 // The state of part `i`, written anew.
@@ -55,15 +51,13 @@ pub fn put_state(state: &mut [u64], i: usize, s: State)
     requires { state_words (i + 1) ≤ length state.old }
     ensures { StatePut i s state.old state.new }
 {
-    let kept = s.signal;
-    let out = s.output;
-    let side = s.side;
-    let mark = s.mark;
     put_field(state, i, LOCAL, s.local.0);
-    put_pair(state, i, HELD, word_of(s.held), word_of(s.speed));
-    put_pair(state, i, SIGNAL, encode_presence(kept), encode_value(kept));
-    put_pair(state, i, OUTPUT, encode_presence(out), encode_value(out));
-    put_pair(state, i, SIDE, encode_side(side), encode_mark(mark));
+    put_field(state, i, HELD, s.held);
+    put_field(state, i, SPEED, s.speed);
+    put_signal(state, i, SIGNAL, s.signal);
+    put_signal(state, i, OUTPUT, s.output);
+    put_field(state, i, SIDE, s.side);
+    put_field(state, i, MARK, s.mark);
 }
 
 // The local count, the held number and the speed of part `i`, written anew.
@@ -72,7 +66,8 @@ pub fn put_numbers(state: &mut [u64], i: usize, local: LocalTicks, held: i64, sp
     ensures { NumbersPut i local.0 held speed state.old state.new }
 {
     put_field(state, i, LOCAL, local.0);
-    put_pair(state, i, HELD, word_of(held), word_of(speed));
+    put_field(state, i, HELD, held);
+    put_field(state, i, SPEED, speed);
 }
 
 // The stored output of part `i`, written anew.
@@ -80,7 +75,7 @@ pub fn put_output(state: &mut [u64], i: usize, out: Signal)
     requires { state_words (i + 1) ≤ length state.old }
     ensures { OutputPut i out state.old state.new }
 {
-    put_pair(state, i, OUTPUT, encode_presence(out), encode_value(out));
+    put_signal(state, i, OUTPUT, out);
 }
 
 // The point, written anew.
@@ -99,11 +94,7 @@ pub fn copy_state(old: &[u64], parts: usize, new: &mut [u64])
     ensures { Copied (state_words parts) old.now new.old new.new }
 {
     let count = state_words(parts);
-    let mut i: usize = 0;
-    while i < count {
-        new[i] = old[i];
-        i += 1;
-    }
+    new[..count].copy_from_slice(&old[..count]);
 }
 
 // The state of a table copied, as a call leaves it that is refused.
@@ -113,6 +104,5 @@ pub fn kept_in(table: &[u64], old: &[u64], new: &mut [u64])
     ensures { let words = state_words (part_count table.now) in
         Copied words old.now new.old new.new }
 {
-    let count = parts_of(table);
-    copy_state(old, count, new);
+    copy_state(old, parts_of(table), new);
 }

@@ -1,16 +1,13 @@
 -- The three runs of words that the record of a part has in a table: its operands, its spans and its wires. Each is
 -- written one word after another, and then read back, from words within their limits, while every other word is kept.
 -- Assumes nothing.
-use Rattle.std.specs.Prelude.{ℕ, ◌+◌, ◌-◌, ◌*◌, ◌%◌, ◌≤◌, ◌<◌, ◌≡◌, refl, true, cond, List, [], ◌∷◌, leb, ltb, ℤ}
+use Rattle.std.specs.Prelude.{ℕ, ◌+◌, ◌*◌, ◌%◌, ◌≤◌, ◌<◌, ◌≡◌, refl, true, cond, List, [], ◌∷◌, leb, ltb, ℤ}
 use Rattle.std.specs.Prelude.{length, get_or, set, take}
 use Rattle.std.proofs.Common.{arith, sym, ap, ◌∙◌, inl, inr, length-set, get_or-set_same, get_or-set_other, le-leb}
-use Rattle.std.proofs.Common.{lt-ltb, le-ltb, ne_eqb}
+use Rattle.std.proofs.Common.{lt-ltb, le-ltb}
 use Rattle.std.proofs.lemmas.List.{length-replicate, get_or-replicate}
 use Rattle.machine.specs.declared.part.Kind.{Kind}
-use Rattle.machine.specs.declared.part.Kind.TheVariants.{Constant, Gain, Adder, Square, Pulse, Delay, Integrator}
-use Rattle.machine.specs.declared.part.Kind.TheVariants.{ResetIntegrator, Detector, Hold, Sampler, Drive, Clapper}
 use Rattle.machine.specs.declared.part.Source.{Source}
-use Rattle.machine.specs.declared.part.Source.TheVariants.{Unwired, From}
 use Rattle.machine.specs.Kind.{kind_number, kind_of}
 use Rattle.machine.specs.Model.{most_spans}
 use Rattle.laws.specs.ListLaws.{take_same}
@@ -19,6 +16,7 @@ use Rattle.words_codec.specs.Words.{tabulate, decode_signed}
 use Rattle.words_codec.specs.Encoded.{encode_source}
 use Rattle.words_codec.specs.Decoded.{decode_source}
 use Rattle.words_codec.specs.Sized.{FitsSource}
+use Rattle.words_codec.specs.Fields.{kind_limit, kind_same, source_limit, source_same}
 use Rattle.words_codec.specs.Tables.{length_table, table_at, below_more}
 use Rattle.words_store.specs.ModelIn.{slot, table_words, stored_spans, stored_ratio, ordered_part}
 use Rattle.words_store.specs.Form.{any_word, any_32, operand_limits, spans_used, span_limits, wire_limits, words_within}
@@ -90,30 +88,6 @@ outside_as : (from to end k : ℕ) → end ≤ to → Outside from to k → Outs
 outside_as from to end k e (inl low) = inl low
 outside_as from to end k e (inr high) = inr (omega arith)
 
--- the codes of kinds and of ports are within their limits, and read back
-kind_kept : (k : Kind) → (kind_number k ≤ 12) × (kind_of (kind_number k) ≡ k)
-unfolding kind_of
-kind_kept Constant = (omega arith, refl)
-kind_kept Gain = (omega arith, refl)
-kind_kept Adder = (omega arith, refl)
-kind_kept Square = (omega arith, refl)
-kind_kept Pulse = (omega arith, refl)
-kind_kept Delay = (omega arith, refl)
-kind_kept Integrator = (omega arith, refl)
-kind_kept ResetIntegrator = (omega arith, refl)
-kind_kept Detector = (omega arith, refl)
-kind_kept Hold = (omega arith, refl)
-kind_kept Sampler = (omega arith, refl)
-kind_kept Drive = (omega arith, refl)
-kind_kept Clapper = (omega arith, refl)
-
-source_kept : (s : Source) → FitsSource s → (encode_source s ≤ 65536) × (decode_source (encode_source s) ≡ s)
-unfolding decode_source
-source_kept Unwired fits = (omega arith, refl)
-source_kept (From k) fits =
-    let back : (k + 1 - 1) % 65536 ≡ k = omega arith in
-    (omega arith, rw (ne_eqb (k + 1) 0 (λ e. omega arith), back) refl)
-
 -- six words that are read back as a part's operands, written at their places
 pub operands_put :
     (a : List ℕ) (i : ℕ) (kind : Kind) (preference : ℕ) (x y : ℤ) (p count kind_word x_word y_word : ℕ) →
@@ -127,10 +101,10 @@ operands_put a i kind preference x y p count kind_word x_word y_word room coded 
     let six : List ℕ = kind_word ∷ preference ∷ x_word ∷ y_word ∷ p ∷ count ∷ [] in
     let place : (n : ℕ) → n < 6 → slot (written a (18 * i) 2 six) (18 * i + (2 + n)) ≡ get_or six n 0 =
     λ n low. written_at a (18 * i) 2 n six low (omega arith) in
-    let few : kind_word ≤ 12 = rw coded (kind_kept kind).0 in
+    let few : kind_word ≤ 12 = rw coded (kind_limit kind) in
     record {
       size = length_written a (18 * i) 2 six;
-      kind_is = rw (place 0 (omega arith), coded) (kind_kept kind).1;
+      kind_is = rw (place 0 (omega arith), coded) (kind_same kind);
       preference_is = rw (place 1 (omega arith)) (omega arith);
       a_is = rw (place 2 (omega arith)) x_back;
       b_is = rw (place 3 (omega arith)) y_back;
@@ -153,12 +127,12 @@ wires_put a i port0 port1 ratio number word0 word1 room coded0 fits0 coded1 fits
     let four : List ℕ = word0 ∷ word1 ∷ ratio ∷ number ∷ [] in
     let place : (n : ℕ) → n < 4 → slot (written a (18 * i) 16 four) (18 * i + (16 + n)) ≡ get_or four n 0 =
     λ n low. written_at a (18 * i) 16 n four low (omega arith) in
-    let few0 : word0 ≤ 65536 = rw coded0 (source_kept port0 fits0).0 in
-    let few1 : word1 ≤ 65536 = rw coded1 (source_kept port1 fits1).0 in
+    let few0 : word0 ≤ 65536 = rw coded0 (source_limit port0 fits0) in
+    let few1 : word1 ≤ 65536 = rw coded1 (source_limit port1 fits1) in
     record {
       size = length_written a (18 * i) 16 four;
-      port0_is = rw (place 0 (omega arith), coded0) (source_kept port0 fits0).1;
-      port1_is = rw (place 1 (omega arith), coded1) (source_kept port1 fits1).1;
+      port0_is = rw (place 0 (omega arith), coded0) (source_same port0 fits0);
+      port1_is = rw (place 1 (omega arith), coded1) (source_same port1 fits1);
       ratio_is = place 2 (omega arith);
       number_is = rw (place 3 (omega arith)) (omega arith);
       form = written_within a (18 * i) 16 four wire_limits refl (few0, (few1, (ratio_fits, (number_fits, tt))))

@@ -10,47 +10,30 @@ ghost use Rattle.words_transfer.specs.ModelPut.{HeaderPut, KeptBehind, ModelPut}
 ghost use Rattle.words_transfer.specs.PutInto.{PutInto};
 
 use machine::model::{Model, PARTS};
-use machine::part::{Component, Kind, SPANS, Source};
+use machine::part::{Component, SPANS, Source};
 use refusals::numbers::{NOT_SOUND, TOO_SHORT};
-use words_codec::fields::{encode_kind, encode_source};
+use words_codec::fields::Field;
+use words_store::layout::{
+    A, B, FIRST_SPAN, KIND, ORDER, P, PORT0, PORT1, PREFERENCE, RATIO, SPAN_COUNT, TABLE_RECORD,
+};
 use words_store::lookup::{state_words, table_words};
-use words_store::update::{put_point, put_state, word_of};
+use words_store::update::{put_point, put_state};
 
 // The word of a place that no span is in.
 const NO_SPAN: u64 = 0;
 
 // The kind, the preference, the operands and the count of spans of part `i`.
-fn put_operands(
-    table: &mut [u64],
-    i: usize,
-    kind: Kind,
-    preference: u8,
-    a: i64,
-    b: i64,
-    p: u32,
-    span_count: usize,
-)
+fn put_operands(table: &mut [u64], i: usize, c: &Component)
     requires { table_words (i + 1) ≤ length table.old }
-    ensures { OperandsPut i kind preference a b p span_count table.old table.new }
+    ensures { OperandsPut i c.now.kind c.now.preference c.now.a c.now.b c.now.p c.now.span_count table.old table.new }
 {
-    let k = 18 * i;
-    table[k + 2] = encode_kind(kind);
-    table[k + 3] = preference as u64;
-    table[k + 4] = word_of(a);
-    table[k + 5] = word_of(b);
-    table[k + 6] = p as u64;
-    table[k + 7] = span_count as u64;
-}
-
-// The word of a span's place: the span where one is there, else 0.
-fn span_word(v: u32, used: bool) -> u64
-    ensures value { result ≡ cond used v 0 }
-    ensures fits { result < 4294967296 }
-{
-    if !used {
-        return NO_SPAN;
-    }
-    v as u64
+    let k = TABLE_RECORD * i;
+    table[k + KIND] = c.kind.encode();
+    table[k + PREFERENCE] = c.preference as u64;
+    table[k + A] = c.a.encode();
+    table[k + B] = c.b.encode();
+    table[k + P] = c.p as u64;
+    table[k + SPAN_COUNT] = c.span_count as u64;
 }
 
 // The eight places for spans of part `i`, of which the first `count` are in use. The others are 0.
@@ -58,11 +41,9 @@ fn put_spans(table: &mut [u64], i: usize, count: usize, spans: [u32; SPANS])
     requires { table_words (i + 1) ≤ length table.old }
     ensures { SpansPut i count spans table.old table.new }
 {
-    let k = 18 * i + 8;
-    let mut j: usize = 0;
-    while j < SPANS {
-        table[k + j] = span_word(spans[j], j < count);
-        j += 1;
+    let k = TABLE_RECORD * i + FIRST_SPAN;
+    for j in 0..SPANS {
+        table[k + j] = if j < count { spans[j] as u64 } else { NO_SPAN };
     }
 }
 
@@ -71,11 +52,11 @@ fn put_wires(table: &mut [u64], i: usize, port0: Source, port1: Source, ratio: u
     requires { table_words (i + 1) ≤ length table.old }
     ensures { WiresPut i port0 port1 ratio number table.old table.new }
 {
-    let k = 18 * i;
-    table[k + 16] = encode_source(port0);
-    table[k + 17] = encode_source(port1);
-    table[k + 18] = ratio;
-    table[k + 19] = number as u64;
+    let k = TABLE_RECORD * i;
+    table[k + PORT0] = port0.encode();
+    table[k + PORT1] = port1.encode();
+    table[k + RATIO] = ratio;
+    table[k + ORDER] = number as u64;
 }
 
 // What the table fixes of part `i`, its ratio, and the number at place `i` of the part order.
@@ -83,13 +64,9 @@ fn put_component(table: &mut [u64], i: usize, c: Component, ratio: u64, number: 
     requires { table_words (i + 1) ≤ length table.old }
     ensures { ComponentPut i c ratio number table.old table.new }
 {
-    let kind = c.kind;
-    let spans = c.spans;
-    let port0 = c.port0;
-    let port1 = c.port1;
-    put_operands(table, i, kind, c.preference, c.a, c.b, c.p, c.span_count);
-    put_spans(table, i, c.span_count, spans);
-    put_wires(table, i, port0, port1, ratio, number);
+    put_operands(table, i, &c);
+    put_spans(table, i, c.span_count, c.spans);
+    put_wires(table, i, c.port0, c.port1, ratio, number);
 }
 
 // The default magnitude and the count of parts.
@@ -110,17 +87,12 @@ pub fn put_fitting(m: Model, table: &mut [u64], state: &mut [u64])
     ensures kept_behind { KeptBehind m.count table.old table.new state.old
         state.new }
 {
-    let now = m.point;
     put_header(table, m.magnitude, m.count);
-    put_point(state, now);
-    let mut i: usize = 0;
-    while i < m.count {
+    put_point(state, m.point);
+    for i in 0..m.count {
         let p = m.parts[i];
-        let c = p.component;
-        let s = p.state;
-        put_component(table, i, c, p.ratio, m.order[i]);
-        put_state(state, i, s);
-        i += 1;
+        put_component(table, i, p.component, p.ratio, m.order[i]);
+        put_state(state, i, p.state);
     }
 }
 
@@ -134,10 +106,7 @@ pub fn put_model(m: Model, table: &mut [u64], state: &mut [u64]) -> u64
     if count > PARTS {
         return NOT_SOUND;
     }
-    if table.len() < table_words(count) {
-        return TOO_SHORT;
-    }
-    if state.len() < state_words(count) {
+    if table.len() < table_words(count) || state.len() < state_words(count) {
         return TOO_SHORT;
     }
     put_fitting(m, table, state);

@@ -1,5 +1,4 @@
--- `spans_at` reads one place after the other. The loop's invariant: the first j places are the definition's; the
--- measure is how many are left.
+-- `spans_at` reads one place after the other.
 use native.Mathlib.Omega.{arith}
 use mathlib.Core.Path.{refl}
 use Rattle.words_codec.specs.Words.{tabulate}
@@ -12,10 +11,8 @@ unfolding tabulate
 loop-j-init c = (omega arith, refl, refl)
 
 pub loop-j-preserved : goal.loop-j-preserved
-loop-j-preserved c =
-    filled_more _ 8 c.loop-j.j _ _ c.loop-j.invariant (omega arith) refl
+loop-j-preserved c = filled_more _ 8 c.loop-j.j _ _ c.loop-j.invariant (omega arith) refl
 
 pub returns : goal.returns
 unfolding stored_spans
-returns c =
-    filled_all _ 8 c.loop-j.j _ c.loop-j.invariant (omega arith)
+returns c = filled_all _ 8 c.loop-j.j _ c.loop-j.invariant (omega arith)

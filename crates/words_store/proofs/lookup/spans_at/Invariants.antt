@@ -1,4 +1,5 @@
-use Prim.Native.Nat.{ℕ, ◌+◌, ◌-◌, ◌*◌, ◌%◌}
+-- The first j places are the definition's.
+use Prim.Native.Nat.{ℕ, ◌+◌, ◌*◌, ◌%◌}
 use mathlib.Core.List.{List}
 use Rattle.words_codec.specs.Tables.{Filled}
 use Rattle.words_store.specs.ModelIn.{slot}
@@ -10,6 +11,3 @@ span words i j = slot words (18 * i + 8 + j) % 4294967296
 
 abbrev pub invariant-loop-j : goal.invariant-loop-j
 invariant-loop-j l = Filled (span l.table l.i) 8 l.j l.spans
-
-abbrev pub decreases-loop-j : goal.decreases-loop-j
-decreases-loop-j l = 8 - l.j

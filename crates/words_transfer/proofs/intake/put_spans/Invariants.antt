@@ -1,9 +1,7 @@
-use Prim.Native.Nat.{◌+◌, ◌-◌, ◌*◌, ◌≤◌}
+-- The words of the first j places are written, and nothing else is changed.
+use Prim.Native.Nat.{◌+◌, ◌*◌}
 use Rattle.words_transfer.specs.TableRuns.{SpansFirst}
 use Rattle.words_transfer.proofs.intake.put_spans.Given as goal
 
 abbrev pub invariant-loop-j : goal.invariant-loop-j
-invariant-loop-j l = (l.j ≤ 8) × SpansFirst (18 * l.i + 8) l.j l.count l.spans l.initial.table l.table
-
-abbrev pub decreases-loop-j : goal.decreases-loop-j
-decreases-loop-j l = 8 - l.j
+invariant-loop-j l = SpansFirst (18 * l.i + 8) l.j l.count l.spans l.initial.table l.table
