@@ -32,51 +32,40 @@ use machine::model::PARTS;
 use machine::part::Source;
 use order_place::Direct;
 
-// The number of a part that has no place yet.
+// The number of a part that has no place yet. It is no Option: above every place, it is told by the comparisons that
+// the other numbers need.
 const UNPLACED: usize = PARTS + 1;
 
 // How many parts are placed once the source is. A source that is none of the parts keeps no part waiting.
+#[tactic(auto, unfolding(crate::specs::Times::source_after))]
 fn source_after(after: &[usize; PARTS], count: usize, source: Source) -> usize
     requires { count ≤ most_parts }
     ensures { result ≡ source_after after.now count source }
 {
     match source {
-        Source::Unwired => 0,
-        Source::From(k) => {
-            let part = k as usize;
-            if count <= part {
-                return 0;
-            }
-            after[part]
-        }
+        Source::From(k) if (k as usize) < count => after[k as usize],
+        _ => 0,
     }
 }
 
 // The ready time of a part: how many parts are placed once its direct sources are.
+#[tactic(auto, unfolding(crate::specs::Times::ready_after))]
 fn ready_after(after: &[usize; PARTS], count: usize, direct: Direct) -> usize
     requires { count ≤ most_parts }
     ensures { result ≡ ready_after after.now count direct }
 {
-    let port0 = direct.port0;
-    let port1 = direct.port1;
-    let first = source_after(after, count, port0);
-    let second = source_after(after, count, port1);
-    if first < second { second } else { first }
+    source_after(after, count, direct.port0).max(source_after(after, count, direct.port1))
 }
 
-// The walk back from place i by the links: it ends at the ready time or before it, or after a higher part.
+// The walk back from place i by the links: it ends at the ready time or before it, or after a higher part. It leaps
+// over places, and so is no loop over a range.
 fn walk_back(order: &[u16; PARTS], links: &[usize; PARTS], i: usize, ready: usize) -> usize
     requires { (i < most_parts) × Links order.now links.now i }
     ensures { WalkedBack order.now i ready result }
 {
-    let part = order[i];
     let mut place = i;
-    while ready < place {
-        let before = place - 1;
-        if part < order[before] {
-            return place;
-        }
-        place = links[before];
+    while ready < place && order[place - 1] <= order[i] {
+        place = links[place - 1];
     }
     place
 }
@@ -89,18 +78,13 @@ pub fn follows(order: [u16; PARTS], direct: [Direct; PARTS], count: usize) -> bo
         result ≡ ordered cs && same (take count order) (part_order cs) }
 {
     let mut after = [UNPLACED; PARTS];
-    let mut links = [0usize; PARTS];
-    let mut i = 0;
-    while i < count {
+    let mut links = [0; PARTS];
+    for i in 0..count {
         let k = order[i] as usize;
-        if count <= k {
+        if count <= k || after[k] <= i {
             return false;
         }
-        if after[k] <= i {
-            return false;
-        }
-        let part = direct[k];
-        let ready = ready_after(&after, count, part);
+        let ready = ready_after(&after, count, direct[k]);
         if i < ready {
             return false;
         }
@@ -110,7 +94,6 @@ pub fn follows(order: [u16; PARTS], direct: [Direct; PARTS], count: usize) -> bo
         }
         after[k] = i + 1;
         links[i] = link;
-        i += 1;
     }
     true
 }

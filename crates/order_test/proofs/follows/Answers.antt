@@ -1,5 +1,5 @@
 -- `follows` passes the places of the order. The loop's invariant is `Passed`: the places before i are in turn. What a
--- turn asks of place i decides whether that is in turn too. The measure is what is left of the count.
+-- turn asks of place i decides whether that is in turn too.
 use Prim.Native.Nat.{◌≤◌}
 use native.Mathlib.Numerals.{add-one}
 use mathlib.Core.Path.{◌≡◌, refl}
@@ -16,7 +16,8 @@ use Rattle.order_test.specs.PlacesInTurn.{InTurn}
 use Rattle.order_test.specs.Passed.{none_passed, one_passed, placed_twice, before_source, after_higher}
 use Rattle.order_test.specs.Passed.{refused_at, all_accepted}
 use Rattle.order_test.proofs.follows.Goals as goal
-use Rattle.order_test.proofs.follows.Goals.{In-loop-i, Start}
+use Rattle.order_test.proofs.follows.Goals.{In-loop-i, Start, then-count-k-via-then-count-k}
+use Rattle.order_test.proofs.follows.Goals.{then-count-k-via-else-count-k+then-after-k}
 
 -- the order, and the direct sources, have places for all parts
 long : (c : Start) → c.args.count ≤ length c.args.order
@@ -49,21 +50,15 @@ loop-i-init c = none_passed _ _ _ _ c.requires refl
 pub returns-then-count-k : goal.returns-then-count-k
 returns-then-count-k c =
     refused_here (goal.at.returns-then-count-k c).In-loop-i
-    (λ turn. omega (arith, turn.below, c.if-count-k.true))
-
-pub returns-then-after-k : goal.returns-then-after-k
-returns-then-after-k c =
-    refused_here (goal.at.returns-then-after-k c).In-loop-i
-    (placed_twice _ _ _ _ _ _ c.loop-i.invariant c.if-after-k.true)
+    (elim c.then-count-k.branch [
+      | then-count-k-via-then-count-k w ↦ λ turn. omega (arith, turn.below, w.if-count-k.true)
+      | then-count-k-via-else-count-k+then-after-k w ↦ placed_twice _ _ _ _ _ _ c.loop-i.invariant w.if-after-k.true
+    ])
 
 pub returns-then-i-ready : goal.returns-then-i-ready
 returns-then-i-ready c =
     let late = rw c.ready_after-ready.ensures at c.if-i-ready.true in
     refused_here (goal.at.returns-then-i-ready c).In-loop-i (before_source _ _ _ _ _ _ c.loop-i.invariant late)
-
-pub walk_back-link-requires : goal.walk_back-link-requires
-walk_back-link-requires c =
-    (omega arith, c.loop-i.invariant.linked)
 
 pub returns-then-ready-link : goal.returns-then-ready-link
 returns-then-ready-link c =

@@ -1,3 +1,4 @@
+-- What is passed is no higher than the part at i. The measure is the place.
 use Rattle.order_test.specs.Links.{Link}
 use Rattle.order_test.proofs.walk_back.Given as goal
 
