@@ -14,9 +14,9 @@ ghost use Rattle.load_commands.specs.Wired.{wired_reading};
 
 use crate::progress::{Progress, wire_refusal, with_begin, with_part, with_wire};
 use crate::rows::with_span_counted;
-use load_operands::cursor::{ByteRead, Cursor, WordRead, byte, u32_at};
+use load_operands::cursor::{Cursor, byte, u32_at};
 use load_operands::operands::{
-    PartOperands, PartRead, WireOperands, WireRead, part_operands, wire_operands,
+    PartOperands, WireOperands, part_operands, wire_operands,
 };
 use load_operands::refusal::{begin_refusal, part_refusal, span_refusal};
 use refusals::numbers::CUT;
@@ -68,7 +68,7 @@ pub fn begin(s: &[u8], at: usize, progress: Progress) -> CommandResult
         step_of rows at result ≡ uncut s.now at 2 (begin_command s.now at) }
     ensures left { StepLeft at progress result }
 {
-    let ByteRead::Got(e, c) = byte(s, Cursor { at: at + 1 }) else {
+    let Some((e, c)) = byte(s, Cursor { at: at + 1 }) else {
         return refused_step(CUT, at, progress);
     };
     begin_step(progress, e, at, c.at)
@@ -101,7 +101,7 @@ pub fn part(s: &[u8], at: usize, progress: Progress) -> CommandResult
         uncut s.now at 15 (part_command s.now at (reading_of progress rows)) }
     ensures left { StepLeft at progress result }
 {
-    let PartRead::Got(o, c) = part_operands(s, Cursor { at: at + 1 }) else {
+    let Some((o, c)) = part_operands(s, Cursor { at: at + 1 }) else {
         return refused_step(CUT, at, progress);
     };
     part_step(progress, o, at, c.at)
@@ -135,7 +135,7 @@ pub fn wire(s: &[u8], at: usize, progress: Progress) -> CommandResult
         uncut s.now at 4 (wire_command s.now at (reading_of progress rows)) }
     ensures left { StepLeft at progress result }
 {
-    let WireRead::Got(o, c) = wire_operands(s, Cursor { at: at + 1 }) else {
+    let Some((o, c)) = wire_operands(s, Cursor { at: at + 1 }) else {
         return refused_step(CUT, at, progress);
     };
     wire_step(progress, o, at, c.at)
@@ -179,7 +179,7 @@ pub fn span(s: &[u8], at: usize, progress: Progress, last: u32) -> SpanResult
         uncut s.now at 5 (span_stepped s.now at progress last rows) }
     ensures left { SpanLeft at progress result }
 {
-    let WordRead::Got(v, c) = u32_at(s, Cursor { at: at + 1 }) else {
+    let Some((v, c)) = u32_at(s, Cursor { at: at + 1 }) else {
         let cut = refused_step(CUT, at, progress);
         return SpanResult { span: 0, step: cut };
     };

@@ -1,7 +1,7 @@
 -- What the answers of the operand readers mean: document 01's number and values of each of their cases, and the answer
 -- that the bytes from a position on give. After them what follows by cases, and a law of operands in a row. Assumes
 -- nothing.
-use Rattle.std.specs.Prelude.{ℕ, ◌+◌, ◌≤◌, ◌<◌, ◌≡◌, true, false, cond, List, ◌⊎◌, leb}
+use Rattle.std.specs.Prelude.{ℕ, ◌+◌, ◌≤◌, ◌<◌, ◌≡◌, true, false, cond, List, ◌⊎◌, leb, Option, Some, None}
 use Rattle.std.proofs.Common.{arith, ◌∙◌, inl, inr}
 use Rattle.std.proofs.Math.Path.{ap}
 use Rattle.std.proofs.Math.ListN.{length}
@@ -12,16 +12,8 @@ use Rattle.machine.specs.Load.{byte_at, word_at}
 use Rattle.machine.specs.Score.{score_command}
 use Rattle.laws.specs.Bools.{either}
 use Rattle.load_operands.specs.declared.cursor.Cursor.{Cursor}
-use Rattle.load_operands.specs.declared.cursor.ByteRead.{ByteRead}
-use Rattle.load_operands.specs.declared.cursor.ByteRead.TheVariants as byte_read
-use Rattle.load_operands.specs.declared.cursor.WordRead.{WordRead}
-use Rattle.load_operands.specs.declared.cursor.WordRead.TheVariants as word_read
 use Rattle.load_operands.specs.declared.operands.PartOperands.{PartOperands}
-use Rattle.load_operands.specs.declared.operands.PartRead.{PartRead}
-use Rattle.load_operands.specs.declared.operands.PartRead.TheVariants as part_read
 use Rattle.load_operands.specs.declared.operands.WireOperands.{WireOperands}
-use Rattle.load_operands.specs.declared.operands.WireRead.{WireRead}
-use Rattle.load_operands.specs.declared.operands.WireRead.TheVariants as wire_read
 
 -- what a reader's answer comes to: document 01's number, 0 meaning none, the operands, and the position after them
 pub record OperandRead (A : Type 0) : Type 0 where
@@ -60,21 +52,13 @@ operands_at bs at width v none =
     (record { number = 0; operands = v; next = at + width })
     (record { number = 1; operands = none; next = 0 })
 
--- a byte: what each case means, and the answer at a position
-abbrev pub byte_answer : ByteRead → OperandRead ℕ
-byte_answer (byte_read.Got v c) = got v c
-byte_answer byte_read.Cut = cut 0
+-- what each case means, where 0 means an operand and these operands where there is none; and the answer at a position
+abbrev pub answer_of : {A : Type 0} → A → Option (A × Cursor) → OperandRead A
+answer_of none (Some (v, c)) = got v c
+answer_of none None = cut none
 
-pub record ByteMeant (bs : List ℕ) (at : ℕ) (r : ByteRead) : Type 0 where
-  pub is : byte_answer r ≡ operands_at bs at 1 (byte_at bs at) 0
-
--- four bytes
-abbrev pub word_answer : WordRead → OperandRead ℕ
-word_answer (word_read.Got v c) = got v c
-word_answer word_read.Cut = cut 0
-
-pub record WordMeant (bs : List ℕ) (at : ℕ) (r : WordRead) : Type 0 where
-  pub is : word_answer r ≡ operands_at bs at 4 (word_at bs at) 0
+pub record ReadMeant {A : Type 0} (bs : List ℕ) (at width : ℕ) (v none : A) (r : Option (A × Cursor)) : Type 0 where
+  pub is : answer_of none r ≡ operands_at bs at width v none
 
 -- the operands of a Part, from the byte after its command byte on; and none
 abbrev pub part_operands_at : List ℕ → ℕ → PartOperands
@@ -90,26 +74,12 @@ part_operands_at bs at =
 abbrev pub no_part : PartOperands
 no_part = record { kind = 0; preference = 0; a = 0; b = 0; p = 0 }
 
-abbrev pub part_answer : PartRead → OperandRead PartOperands
-part_answer (part_read.Got o c) = got o c
-part_answer part_read.Cut = cut no_part
-
-pub record PartMeant (bs : List ℕ) (at : ℕ) (r : PartRead) : Type 0 where
-  pub is : part_answer r ≡ operands_at bs at 14 (part_operands_at bs at) no_part
-
 -- the operands of a Wire, likewise
 abbrev pub wire_operands_at : List ℕ → ℕ → WireOperands
 wire_operands_at bs at = record { source = byte_at bs at; receiver = byte_at bs (at + 1); port = byte_at bs (at + 2) }
 
 abbrev pub no_wire : WireOperands
 no_wire = record { source = 0; receiver = 0; port = 0 }
-
-abbrev pub wire_answer : WireRead → OperandRead WireOperands
-wire_answer (wire_read.Got o c) = got o c
-wire_answer wire_read.Cut = cut no_wire
-
-pub record WireMeant (bs : List ℕ) (at : ℕ) (r : WireRead) : Type 0 where
-  pub is : wire_answer r ≡ operands_at bs at 3 (wire_operands_at bs at) no_wire
 
 -- so many bytes are there from a position on, and the cursor is after them
 pub record Behind (bs : List ℕ) (at width : ℕ) (c : Cursor) : Type 0 where
@@ -144,46 +114,25 @@ module _ {A : Type 0} (bs : List ℕ) (at width : ℕ) (v none : A) where
       by_test (inr e) = leb-false (at + width) (length bs) e
 
   -- and back: a reader that makes these tests has the definition's answer
-  pub whole_read : (w : A) (c : Cursor) → Behind bs at width c → w ≡ v → got w c ≡ operands_at bs at width v none
+  pub whole_read : (w : A) (c : Cursor) → Behind bs at width c → w ≡ v →
+      ReadMeant bs at width v none (Some (w, c))
   unfolding operands_at
-  whole_read w c behind same = rw (same, behind.next, le-leb (at + width) (length bs) behind.whole)
+  whole_read w c behind same =
+      record { is = rw (same, behind.next, le-leb (at + width) (length bs) behind.whole) }
 
-  pub cut_read : length bs < at + width → cut none ≡ operands_at bs at width v none
+  pub cut_read : length bs < at + width → ReadMeant bs at width v none None
   unfolding operands_at
-  cut_read short = rw (lt-leb (at + width) (length bs) short)
+  cut_read short = record { is = rw (lt-leb (at + width) (length bs) short) }
 
--- what follows for each reader, by the cases of its answer
-abbrev pub ByteCases : List ℕ → ℕ → ByteRead → Type 0
-ByteCases bs at (byte_read.Got v c) = Behind bs at 1 c × (v ≡ byte_at bs at)
-ByteCases bs at byte_read.Cut = length bs < at + 1
+-- what follows for every reader, by the cases of its answer
+abbrev pub ReadCases : {A : Type 0} (bs : List ℕ) (at width : ℕ) (v : A) → Option (A × Cursor) → Type 0
+ReadCases bs at width v (Some (w, c)) = Behind bs at width c × (w ≡ v)
+ReadCases bs at width v None = length bs < at + width
 
-pub byte_cases : {bs : List ℕ} {at : ℕ} {r : ByteRead} → ByteMeant bs at r → ByteCases bs at r
-byte_cases {bs} {at} {r = byte_read.Got v c} h = read_whole bs at 1 (byte_at bs at) 0 v c h.is
-byte_cases {bs} {at} {r = byte_read.Cut} h = read_cut bs at 1 (byte_at bs at) 0 h.is
-
-abbrev pub WordCases : List ℕ → ℕ → WordRead → Type 0
-WordCases bs at (word_read.Got v c) = Behind bs at 4 c × (v ≡ word_at bs at)
-WordCases bs at word_read.Cut = length bs < at + 4
-
-pub word_cases : {bs : List ℕ} {at : ℕ} {r : WordRead} → WordMeant bs at r → WordCases bs at r
-word_cases {bs} {at} {r = word_read.Got v c} h = read_whole bs at 4 (word_at bs at) 0 v c h.is
-word_cases {bs} {at} {r = word_read.Cut} h = read_cut bs at 4 (word_at bs at) 0 h.is
-
-abbrev pub PartCases : List ℕ → ℕ → PartRead → Type 0
-PartCases bs at (part_read.Got o c) = Behind bs at 14 c × (o ≡ part_operands_at bs at)
-PartCases bs at part_read.Cut = length bs < at + 14
-
-pub part_cases : {bs : List ℕ} {at : ℕ} {r : PartRead} → PartMeant bs at r → PartCases bs at r
-part_cases {bs} {at} {r = part_read.Got o c} h = read_whole bs at 14 (part_operands_at bs at) no_part o c h.is
-part_cases {bs} {at} {r = part_read.Cut} h = read_cut bs at 14 (part_operands_at bs at) no_part h.is
-
-abbrev pub WireCases : List ℕ → ℕ → WireRead → Type 0
-WireCases bs at (wire_read.Got o c) = Behind bs at 3 c × (o ≡ wire_operands_at bs at)
-WireCases bs at wire_read.Cut = length bs < at + 3
-
-pub wire_cases : {bs : List ℕ} {at : ℕ} {r : WireRead} → WireMeant bs at r → WireCases bs at r
-wire_cases {bs} {at} {r = wire_read.Got o c} h = read_whole bs at 3 (wire_operands_at bs at) no_wire o c h.is
-wire_cases {bs} {at} {r = wire_read.Cut} h = read_cut bs at 3 (wire_operands_at bs at) no_wire h.is
+pub read_cases : {A : Type 0} {bs : List ℕ} {at width : ℕ} {v none : A} {r : Option (A × Cursor)} →
+    ReadMeant bs at width v none r → ReadCases bs at width v r
+read_cases {A} {bs} {at} {width} {v} {none} {r = Some (w, c)} h = read_whole bs at width v none w c h.is
+read_cases {A} {bs} {at} {width} {v} {none} {r = None} h = read_cut bs at width v none h.is
 
 -- v is what f reads from a position so many bytes after the first, and the cursor is after the operand's own bytes
 abbrev pub ReadAt : (f : List ℕ → ℕ → ℕ) (bs : List ℕ) (at before width : ℕ) → ℕ → Cursor → Type 0

@@ -1,70 +1,40 @@
-// Operands read from a stream: one byte, and four little-endian. Each reader answers the operand and the
-// cursor after it, or that the stream is cut, which is refused with 1. Its contracts cite `specs/Operands.antt`.
-ghost use Rattle.std.specs.Prelude.{◌<◌, ◌≡◌};
-ghost use Rattle.machine.specs.Load.{signed};
-ghost use Rattle.load_operands.specs.Operands.{ByteMeant, WordMeant};
+// Operands read from a stream: one byte, and four little-endian. Each reader answers the operand and the cursor after
+// it, or none where the stream ends before, which is refused with 1. Its contracts cite `specs/Operands.antt`.
+ghost use Rattle.std.specs.Prelude.{◌≡◌};
+ghost use Rattle.machine.specs.Load.{byte_at, signed, word_at};
+ghost use Rattle.load_operands.specs.Operands.{ReadMeant};
 
 // Where reading is in a stream.
-#[derive(Clone, Copy)]
+#[derive(Clone, Copy, Debug, PartialEq, Eq)]
 pub struct Cursor {
     pub at: usize,
 }
 
-// A byte and the cursor after it, or that the stream ends before.
-#[derive(Clone, Copy)]
-pub enum ByteRead {
-    Got(u8, Cursor),
-    Cut,
-}
-
-// Four bytes as a number and the cursor after them, or that the stream ends before.
-#[derive(Clone, Copy)]
-pub enum WordRead {
-    Got(u32, Cursor),
-    Cut,
-}
-
 // The byte at a cursor.
-pub fn byte(s: &[u8], c: Cursor) -> ByteRead
-    ensures { ByteMeant s.now c.at result }
+pub fn byte(s: &[u8], c: Cursor) -> Option<(u8, Cursor)>
+    ensures { ReadMeant s.now c.at 1 (byte_at s.now c.at) 0 result }
 {
-    let at = c.at;
-    if at >= s.len() {
-        return ByteRead::Cut;
+    if c.at >= s.len() {
+        return None;
     }
-    ByteRead::Got(s[at], Cursor { at: at + 1 })
+    Some((s[c.at], Cursor { at: c.at + 1 }))
 }
 
-// A byte as a wider number.
-fn wide(b: u8) -> u32
-    ensures { (result ≡ b) × (result < 256) }
-{
-    b as u32
-}
-
-// The four bytes at a cursor, the lowest first.
-#[tactic(auto, using(crate::specs::Operands::cut_read))]
-pub fn u32_at(s: &[u8], c: Cursor) -> WordRead
-    ensures { WordMeant s.now c.at result }
+// The four bytes at a cursor as a number, the lowest first.
+pub fn u32_at(s: &[u8], c: Cursor) -> Option<(u32, Cursor)>
+    ensures { ReadMeant s.now c.at 4 (word_at s.now c.at) 0 result }
 {
     let at = c.at;
-    if at > s.len() {
-        return WordRead::Cut;
+    if s.len().saturating_sub(at) < 4 {
+        return None;
     }
-    if s.len() - at < 4 {
-        return WordRead::Cut;
-    }
-    let low = wide(s[at]) + 256 * wide(s[at + 1]);
-    let high = wide(s[at + 2]) + 256 * wide(s[at + 3]);
-    WordRead::Got(low + 65536 * high, Cursor { at: at + 4 })
+    let word = u32::from_le_bytes([s[at], s[at + 1], s[at + 2], s[at + 3]]);
+    Some((word, Cursor { at: at + 4 }))
 }
 
 // A number of four bytes as a signed one, in two's complement.
 pub fn signed_of(v: u32) -> i64
     ensures { result ≡ signed v }
 {
-    if v < 2147483648 {
-        return v as i64;
-    }
-    v as i64 - 4294967296
+    i64::from(v.cast_signed())
 }

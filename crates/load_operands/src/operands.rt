@@ -1,12 +1,12 @@
 // The operands of each command, all of them read before any is judged. A reader starts after the command byte and
-// answers the operands and the cursor after them, or that the stream is cut inside the command. Its contracts cite
-// `specs/Operands.antt`.
-ghost use Rattle.load_operands.specs.Operands.{PartMeant, WireMeant};
+// answers the operands and the cursor after them, or none where the stream is cut inside the command. Its contracts
+// cite `specs/Operands.antt`.
+ghost use Rattle.load_operands.specs.Operands.{ReadMeant, no_part, no_wire, part_operands_at, wire_operands_at};
 
-use crate::cursor::{ByteRead, Cursor, WordRead, byte, u32_at};
+use crate::cursor::{Cursor, byte, u32_at};
 
 // The operands of a Part, the signed ones still as they are in the stream.
-#[derive(Clone, Copy)]
+#[derive(Clone, Copy, Debug, PartialEq, Eq)]
 pub struct PartOperands {
     pub kind: u8,
     pub preference: u8,
@@ -16,77 +16,59 @@ pub struct PartOperands {
 }
 
 // The operands of a Wire.
-#[derive(Clone, Copy)]
+#[derive(Clone, Copy, Debug, PartialEq, Eq)]
 pub struct WireOperands {
     pub source: u8,
     pub receiver: u8,
     pub port: u8,
 }
 
-// A Part's operands and the cursor after them, or that the stream ends before.
-#[derive(Clone, Copy)]
-pub enum PartRead {
-    Got(PartOperands, Cursor),
-    Cut,
-}
-
-// A Wire's operands and the cursor after them, or that the stream ends before.
-#[derive(Clone, Copy)]
-pub enum WireRead {
-    Got(WireOperands, Cursor),
-    Cut,
-}
-
 // The operands of a Part.
-pub fn part_operands(s: &[u8], c: Cursor) -> PartRead
-    ensures { PartMeant s.now c.at result }
+pub fn part_operands(s: &[u8], c: Cursor) -> Option<(PartOperands, Cursor)>
+    ensures { ReadMeant s.now c.at 14 (part_operands_at s.now c.at) no_part result }
 {
-    let ByteRead::Got(kind, c) = byte(s, c) else {
-        return PartRead::Cut;
+    let Some((kind, c)) = byte(s, c) else {
+        return None;
     };
-    let ByteRead::Got(preference, c) = byte(s, c) else {
-        return PartRead::Cut;
+    let Some((preference, c)) = byte(s, c) else {
+        return None;
     };
-    let WordRead::Got(a, c) = u32_at(s, c) else {
-        return PartRead::Cut;
+    let Some((a, c)) = u32_at(s, c) else {
+        return None;
     };
-    let WordRead::Got(b, c) = u32_at(s, c) else {
-        return PartRead::Cut;
+    let Some((b, c)) = u32_at(s, c) else {
+        return None;
     };
-    let WordRead::Got(p, c) = u32_at(s, c) else {
-        return PartRead::Cut;
+    let Some((p, c)) = u32_at(s, c) else {
+        return None;
     };
-    PartRead::Got(
-        PartOperands {
-            kind: kind,
-            preference: preference,
-            a: a,
-            b: b,
-            p: p,
-        },
-        c,
-    )
+    let operands = PartOperands {
+        kind,
+        preference,
+        a,
+        b,
+        p,
+    };
+    Some((operands, c))
 }
 
 // The operands of a Wire.
-pub fn wire_operands(s: &[u8], c: Cursor) -> WireRead
-    ensures { WireMeant s.now c.at result }
+pub fn wire_operands(s: &[u8], c: Cursor) -> Option<(WireOperands, Cursor)>
+    ensures { ReadMeant s.now c.at 3 (wire_operands_at s.now c.at) no_wire result }
 {
-    let ByteRead::Got(source, c) = byte(s, c) else {
-        return WireRead::Cut;
+    let Some((source, c)) = byte(s, c) else {
+        return None;
     };
-    let ByteRead::Got(receiver, c) = byte(s, c) else {
-        return WireRead::Cut;
+    let Some((receiver, c)) = byte(s, c) else {
+        return None;
     };
-    let ByteRead::Got(port, c) = byte(s, c) else {
-        return WireRead::Cut;
+    let Some((port, c)) = byte(s, c) else {
+        return None;
     };
-    WireRead::Got(
-        WireOperands {
-            source: source,
-            receiver: receiver,
-            port: port,
-        },
-        c,
-    )
+    let operands = WireOperands {
+        source,
+        receiver,
+        port,
+    };
+    Some((operands, c))
 }

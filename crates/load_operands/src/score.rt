@@ -4,7 +4,7 @@ ghost use Rattle.std.specs.Prelude.{◌≡◌};
 ghost use Rattle.machine.specs.Score.{score_at};
 ghost use Rattle.load_operands.specs.ScoreRead.{score_of};
 
-use crate::cursor::{ByteRead, Cursor, WordRead, byte, u32_at};
+use crate::cursor::{Cursor, byte, u32_at};
 use refusals::{Refusal, RefusedAt};
 
 // A wanted step of the score, and the position after its command.
@@ -19,12 +19,12 @@ pub struct Wanted {
 pub fn score_at(s: &[u8], at: usize) -> Result<Option<Wanted>, RefusedAt>
     ensures { score_of result ≡ score_at s.now at }
 {
-    let ByteRead::Got(b, c) = byte(s, Cursor { at }) else {
+    let Some((b, c)) = byte(s, Cursor { at }) else {
         return Ok(None);
     };
     match b {
         6 => {
-            let WordRead::Got(step, c) = u32_at(s, c) else {
+            let Some((step, c)) = u32_at(s, c) else {
                 return Err(Refusal::Cut.at(at));
             };
             Ok(Some(Wanted {

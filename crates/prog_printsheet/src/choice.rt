@@ -3,7 +3,7 @@ ghost use Rattle.std.specs.Prelude.{◌≡◌, ◌+◌, ◌≤◌, length};
 ghost use Rattle.machine.specs.Load.{word_at};
 ghost use Rattle.prog_printsheet.specs.SheetPrinted.{choice_in};
 
-use load_operands::cursor::{Cursor, WordRead, u32_at};
+use load_operands::cursor::{Cursor, u32_at};
 use play_score::format::{Choice, SECOND, THIRD};
 
 // The number that four bytes of an input spell, the lowest first.
@@ -11,7 +11,7 @@ fn chosen_number(input: &[u8], at: usize) -> usize
     requires { at + 4 ≤ length input.now }
     ensures { result ≡ word_at input.now at }
 {
-    let WordRead::Got(number, c) = u32_at(input, Cursor { at: at }) else {
+    let Some((number, c)) = u32_at(input, Cursor { at }) else {
         return 0;
     };
     number as usize

@@ -6,7 +6,7 @@ use mathlib.Core.List.{List}
 use lib.ListN.{length}
 use borrow.Author.Tests.{le-leb}
 use Rattle.machine.specs.Load.{byte_at, begin_command, begin_refusal, begun_with, unless_refused}
-use Rattle.load_operands.specs.Operands.{byte_cases}
+use Rattle.load_operands.specs.Operands.{read_cases}
 use Rattle.load_commands.specs.CommandSteps.{cut_as, refused_left, uncut}
 use Rattle.load_commands.proofs.table_command.begin.Goals as goal
 
@@ -18,7 +18,7 @@ begin_as bs at e next whole same there = rw (same, there, le-leb (at + 2) (lengt
 
 pub returns-in_default : goal.returns-in_default
 returns-in_default c =
-    let short = byte_cases c.in_default.ensures in
+    let short = read_cases c.in_default.ensures in
     let refused = c.refused_step in
     record {
       meant = λ rows. cut_as refused.result _ _ _ refused.ensures c.args.s.now 2 rows _ refl (omega arith);
@@ -28,7 +28,7 @@ returns-in_default c =
 pub returns : goal.returns
 returns c =
     let args = c.args in
-    let got = byte_cases c.in-Got.ensures in
+    let got = read_cases c.in-Some.ensures in
     record {
       meant = λ rows.
           c.begin_step.ensures.meant rows ∙ begin_as args.s.now args.at _ _ (omega arith) got.1 (omega arith);

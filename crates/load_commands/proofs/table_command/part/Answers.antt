@@ -10,7 +10,7 @@ use Rattle.machine.specs.Model.{most_parts}
 use Rattle.load_operands.specs.declared.operands.PartOperands.{PartOperands}
 use Rattle.load_commands.specs.declared.progress.Progress.{Progress}
 use Rattle.load_commands.specs.ComponentMade.{component_of}
-use Rattle.load_operands.specs.Operands.{part_operands_at, part_cases}
+use Rattle.load_operands.specs.Operands.{part_operands_at, read_cases}
 use Rattle.load_commands.specs.Progress.{reading_of}
 use Rattle.load_operands.specs.Refusals.{operands_judged, part_number}
 use Rattle.load_commands.specs.SpanRows.{length_joined}
@@ -57,7 +57,7 @@ part_as bs at progress o next rows many whole operands there =
 
 pub returns-in_default : goal.returns-in_default
 returns-in_default c =
-    let short = part_cases c.in_default.ensures in
+    let short = read_cases c.in_default.ensures in
     let refused = c.refused_step in
     record {
       meant = λ rows. cut_as refused.result _ _ _ refused.ensures c.args.s.now 15 rows _ refl (omega arith);
@@ -67,7 +67,7 @@ returns-in_default c =
 pub returns : goal.returns
 returns c =
     let args = c.args in
-    let got = part_cases c.in-Got.ensures in
+    let got = read_cases c.in-Some.ensures in
     let many : length args.progress.parts ≡ most_parts = omega arith in
     record {
       meant = λ rows.

@@ -10,7 +10,7 @@ use Rattle.machine.specs.Load.{word_at, unless_refused}
 use Rattle.load_commands.specs.declared.progress.Progress.{Progress}
 use Rattle.load_commands.specs.Progress.{reading_of}
 use Rattle.load_commands.specs.Spanned.{RowThere, last_place, row_with, span_count, spanned_reading}
-use Rattle.load_operands.specs.Operands.{word_cases}
+use Rattle.load_operands.specs.Operands.{read_cases}
 use Rattle.load_operands.specs.Refusals.{span_number}
 use Rattle.load_commands.specs.Beside.{span_stepped}
 use Rattle.load_commands.specs.CommandSteps.{cut_as, refused_beside, refused_left, span_refused_left, step_of}
@@ -29,17 +29,17 @@ span_as bs at progress rows last v next whole same there = rw (there, same, le-l
 
 -- the step that was made is the definition's, with the rows with the value read
 stepped : (c : After-span_step-step) (rows : List (List ℕ)) → RowThere c.args.progress rows →
-    step_of (row_with rows (last_place c.args.progress) (span_count c.args.progress) c.in-Got.v)
+    step_of (row_with rows (last_place c.args.progress) (span_count c.args.progress) c.in-Some.v)
     c.args.at c.span_step-step.result ≡
     uncut c.args.s.now c.args.at 5 (span_stepped c.args.s.now c.args.at c.args.progress c.args.last rows)
 stepped c rows row =
-    let got = word_cases c.in-Got.ensures in
+    let got = read_cases c.in-Some.ensures in
     c.span_step-step.ensures.meant rows row ∙
     span_as c.args.s.now c.args.at c.args.progress rows c.args.last _ _ (omega arith) got.1 (omega arith)
 
 pub returns-in_default : goal.returns-in_default
 returns-in_default c =
-    let short = word_cases c.in_default.ensures in
+    let short = read_cases c.in_default.ensures in
     let refused = c.refused_step-cut in
     record {
       meant = λ rows row. cut_as refused.result _ _ _ refused.ensures c.args.s.now 5 _ _ refl (omega arith);

@@ -7,7 +7,7 @@ use lib.ListN.{length}
 use borrow.Author.Tests.{le-leb}
 use Rattle.machine.specs.Load.{Reading, wire_command, wire_refusal, unless_refused}
 use Rattle.load_operands.specs.declared.operands.WireOperands.{WireOperands}
-use Rattle.load_operands.specs.Operands.{wire_operands_at, wire_cases}
+use Rattle.load_operands.specs.Operands.{wire_operands_at, read_cases}
 use Rattle.load_commands.specs.Progress.{reading_of}
 use Rattle.load_commands.specs.CommandSteps.{cut_as, refused_left, uncut}
 use Rattle.load_commands.specs.Wired.{wired_reading}
@@ -27,7 +27,7 @@ wire_as bs at rd o next whole operands there =
 
 pub returns-in_default : goal.returns-in_default
 returns-in_default c =
-    let short = wire_cases c.in_default.ensures in
+    let short = read_cases c.in_default.ensures in
     let refused = c.refused_step in
     record {
       meant = λ rows. cut_as refused.result _ _ _ refused.ensures c.args.s.now 4 rows _ refl (omega arith);
@@ -37,7 +37,7 @@ returns-in_default c =
 pub returns : goal.returns
 returns c =
     let args = c.args in
-    let got = wire_cases c.in-Got.ensures in
+    let got = read_cases c.in-Some.ensures in
     record {
       meant = λ rows.
           c.wire_step.ensures.meant rows ∙

@@ -5,9 +5,9 @@ use Rattle.machine.specs.Load.{byte_at}
 use Rattle.load_operands.specs.Operands.{cut_read, whole_read}
 use Rattle.load_operands.proofs.cursor.byte.Goals as goal
 
-pub returns-then-at-s : goal.returns-then-at-s
-returns-then-at-s c = record { is = cut_read _ _ 1 _ _ (omega arith) }
+pub returns-then-c-s : goal.returns-then-c-s
+returns-then-c-s c = cut_read _ _ 1 _ _ (omega arith)
 
 pub returns : goal.returns
 unfolding byte_at
-returns c = record { is = whole_read _ _ 1 _ _ _ _ (record { whole = omega arith; next = refl }) refl }
+returns c = whole_read _ _ 1 _ _ _ _ (record { whole = omega arith; next = refl }) refl

@@ -1,10 +1,12 @@
--- `word` compares what is left with four; each byte is below 256, so the sums fit and are the definition's.
-use native.Mathlib.Omega.{arith}
-use mathlib.Core.Path.{refl}
+-- `u32_at` compares what is left with four, and the number that the four bytes spell is the definition's.
+use Rattle.std.proofs.Common.{arith, refl}
 use Rattle.machine.specs.Load.{byte_at, word_at}
-use Rattle.load_operands.specs.Operands.{whole_read}
+use Rattle.load_operands.specs.Operands.{cut_read, whole_read}
 use Rattle.load_operands.proofs.cursor.u32_at.Goals as goal
+
+pub returns-then-saturating_sub-lt4 : goal.returns-then-saturating_sub-lt4
+returns-then-saturating_sub-lt4 c = cut_read _ _ 4 _ _ (omega arith)
 
 pub returns : goal.returns
 unfolding byte_at word_at
-returns c = record { is = whole_read _ _ 4 _ _ _ _ (record { whole = omega arith; next = refl }) (omega arith) }
+returns c = whole_read _ _ 4 _ _ _ _ (record { whole = omega arith; next = refl }) (omega arith)

@@ -7,10 +7,9 @@ use Rattle.machine.specs.declared.model.Score.TheVariants.{Wanted, Refused}
 use Rattle.machine.specs.Load.{known_command, command_width, byte_at, word_at}
 use Rattle.machine.specs.Score.{score_command, score_at}
 use Rattle.load_operands.specs.declared.cursor.Cursor.{Cursor}
-use Rattle.load_operands.specs.Operands.{Behind, ReadAt, byte_cases, cut_number, cut_scores, read_behind}
-use Rattle.load_operands.specs.Operands.{word_cases}
+use Rattle.load_operands.specs.Operands.{Behind, ReadAt, read_cases, cut_number, cut_scores, read_behind}
 use Rattle.load_operands.proofs.score.score_at.Goals as goal
-use Rattle.load_operands.proofs.score.score_at.Goals.{In-Got, in_default-b-via-then-b-lt1}
+use Rattle.load_operands.proofs.score.score_at.Goals.{In-Some, in_default-b-via-then-b-lt1}
 use Rattle.load_operands.proofs.score.score_at.Goals.{in_default-b-via-else-b-lt1+else-b-lt6}
 
 -- where the byte b is read at a position, the stream goes on there
@@ -49,47 +48,47 @@ module _ (bs : List ℕ) (at b : ℕ) (behind : Cursor) (read : Behind bs at 1 b
       )
 
 -- what `byte` promises, seen from where the byte is found
-byte_read : (c : In-Got) →
-    Behind c.args.s.now c.args.at 1 c.in-Got.c × (c.in-Got.b ≡ byte_at c.args.s.now c.args.at)
-byte_read c = byte_cases c.in-Got.ensures
+byte_read : (c : In-Some) →
+    Behind c.args.s.now c.args.at 1 c.in-Some.c × (c.in-Some.b ≡ byte_at c.args.s.now c.args.at)
+byte_read c = read_cases c.in-Some.ensures
 
 pub returns-in_default : goal.returns-in_default
 unfolding score_at
 returns-in_default c =
-    let none = byte_cases c.in_default.ensures in
+    let none = read_cases c.in_default.ensures in
     let past : length c.args.s.now ≤ c.args.at = omega arith in
     rw (le-ltb _ _ past)
 
 pub returns-in_default-u32_at : goal.returns-in_default-u32_at
 returns-in_default-u32_at c =
-    let read = byte_read (goal.at.returns-in_default-u32_at c).In-Got in
+    let read = byte_read (goal.at.returns-in_default-u32_at c).In-Some in
     let behind = read.0 in
-    let short = word_cases c.in_default-u32_at.ensures in
+    let short = read_cases c.in_default-u32_at.ensures in
     rw c.at.ensures (cut _ _ _ _ read c.in-6.is (omega arith))
 
-pub returns-in-Got-u32_at : goal.returns-in-Got-u32_at
-returns-in-Got-u32_at c =
-    let read = byte_read (goal.at.returns-in-Got-u32_at c).In-Got in
+pub returns-in-Some-u32_at : goal.returns-in-Some-u32_at
+returns-in-Some-u32_at c =
+    let read = byte_read (goal.at.returns-in-Some-u32_at c).In-Some in
     rw c.from.ensures
     (whole _ _ _ _ read _ _ c.in-6.is
-    (read_behind word_at _ _ 1 4 _ _ _ read.0 (word_cases c.in-Got-u32_at.ensures)))
+    (read_behind word_at _ _ 1 4 _ _ _ read.0 (read_cases c.in-Some-u32_at.ensures)))
 
 pub returns-in-1-to-5 : goal.returns-in-1-to-5
 returns-in-1-to-5 c =
     rw c.at-in-1-to-5.ensures
-    (out_of_place _ _ _ _ (byte_read (goal.at.returns-in-1-to-5 c).In-Got) (omega arith) (omega arith))
+    (out_of_place _ _ _ _ (byte_read (goal.at.returns-in-1-to-5 c).In-Some) (omega arith) (omega arith))
 
 pub returns-in_default-b : goal.returns-in_default-b
 unfolding known_command
 returns-in_default-b c =
-    let none : known_command c.in-Got.b ≡ false =
+    let none : known_command c.in-Some.b ≡ false =
     elim c.in_default-b.branch [
       | in_default-b-via-then-b-lt1 w ↦
-          let below : c.in-Got.b < 1 = omega arith in
+          let below : c.in-Some.b < 1 = omega arith in
           simp (lt-leb 1 _ below)
       | in_default-b-via-else-b-lt1+else-b-lt6 w ↦
-          let low : 1 ≤ c.in-Got.b = omega arith in
-          let above : 6 < c.in-Got.b = omega arith in
+          let low : 1 ≤ c.in-Some.b = omega arith in
+          let above : 6 < c.in-Some.b = omega arith in
           simp (le-leb 1 _ low, lt-leb _ _ above)
     ] in
-    rw c.at-in_default-b.ensures (unknown _ _ _ _ (byte_read (goal.at.returns-in_default-b c).In-Got) none)
+    rw c.at-in_default-b.ensures (unknown _ _ _ _ (byte_read (goal.at.returns-in_default-b c).In-Some) none)
