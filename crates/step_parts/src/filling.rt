@@ -21,20 +21,13 @@ pub(crate) fn filled_into(table: &[u64], old: &[u64], new: &mut [u64])
     requires fillable { Fillable (trimmed (model_in table.now old.now)) (trimmed (model_in table.now new.old)) }
     ensures { FilledInto table.now old.now new.old new.new }
 {
-    let count = parts_of(table);
     let now = point_of(new);
-    let mut i: usize = 0;
-    while i < count {
+    for i in 0..parts_of(table) {
         let k = ordered_part(table, i);
         let p = part_at(table, new, k);
-        let c = p.component;
-        let source0 = c.port0;
-        let source1 = c.port1;
-        let x = heard_at(new, source0);
-        let y = heard_at(new, source1);
-        let before = heard_at(old, source0);
-        let out = output_of(p, now, x, y, before);
-        put_output(new, k, out);
-        i += 1;
+        let x = heard_at(new, p.component.port0);
+        let y = heard_at(new, p.component.port1);
+        let before = heard_at(old, p.component.port0);
+        put_output(new, k, output_of(p, now, x, y, before));
     }
 }

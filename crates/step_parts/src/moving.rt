@@ -17,17 +17,11 @@ pub(crate) fn moved_into(table: &[u64], old: &[u64], h: Ticks, new: &mut [u64])
 {
     let count = parts_of(table);
     copy_state(old, count, new);
-    let now = point_of(old);
-    let t = now.t;
-    let mut i: usize = 0;
-    while i < count {
+    let t = point_of(old).t;
+    for i in 0..count {
         let p = part_at(table, old, i);
-        let c = p.component;
-        let s = c.port0;
-        let x = heard_at(old, s);
-        let moved = moved_part(p, t, h, x);
-        let state = moved.state;
+        let x = heard_at(old, p.component.port0);
+        let state = moved_part(p, t, h, x).state;
         put_numbers(new, i, state.local, state.held, state.speed);
-        i += 1;
     }
 }

@@ -19,21 +19,7 @@ use words_store::update::put_state;
 fn settles(k: Kind) -> bool
     ensures { result ≡ settles k }
 {
-    match k {
-        Kind::Constant => false,
-        Kind::Gain => false,
-        Kind::Adder => false,
-        Kind::Square => false,
-        Kind::Pulse => false,
-        Kind::Delay => false,
-        Kind::Integrator => false,
-        Kind::ResetIntegrator => true,
-        Kind::Detector => true,
-        Kind::Hold => true,
-        Kind::Sampler => false,
-        Kind::Drive => false,
-        Kind::Clapper => false,
-    }
+    matches!(k, Kind::ResetIntegrator | Kind::Detector | Kind::Hold)
 }
 
 // All parts settled, one after the other in place: settling changes no stored output. A part that settling does not
@@ -43,21 +29,11 @@ pub fn settled_into(table: &[u64], new: &mut [u64])
     requires wired { Wired (trimmed (model_in table.now new.old)) }
     ensures { SettledInto table.now new.old new.new }
 {
-    let count = parts_of(table);
-    let mut i: usize = 0;
-    while i < count {
-        let kind = kind_at(table, i);
-        if !settles(kind) {
-            i += 1;
-            continue;
+    for i in 0..parts_of(table) {
+        if settles(kind_at(table, i)) {
+            let p = part_at(table, new, i);
+            let x = heard_at(new, p.component.port0);
+            put_state(new, i, settled_part(p, x).state);
         }
-        let p = part_at(table, new, i);
-        let c = p.component;
-        let s = c.port0;
-        let x = heard_at(new, s);
-        let settled = settled_part(p, x);
-        let state = settled.state;
-        put_state(new, i, state);
-        i += 1;
     }
 }

@@ -1,6 +1,6 @@
 -- `filled_into` is `filled`, over the models that the words mean. The invariant: the outputs of the first i numbers of
 -- the part order are filled, nothing else of the model is changed, the words after it are kept, and what was written
--- is clean. The measure is what is left of the count. A turn reads a part and what its ports read, and writes the
+-- is clean. A turn reads a part and what its ports read, and writes the
 -- part's output; one law of `specs/LentFilling.antt` says what it asks and what it comes to.
 use Rattle.std.specs.Prelude.{◌≤◌, ◌<◌}
 use Rattle.std.proofs.Common.{arith}
@@ -16,7 +16,7 @@ use Rattle.step_parts.proofs.filling.filled_into.Goals.{After-ordered_part-k, Af
 
 -- the place of the turn is below the count
 within : (c : After-ordered_part-k) → c.loop-i.i < part_count c.args.table.now
-within c = rw c.parts_of-count.ensures at c.loop-i-test.true
+within c = rw c.parts_of-i-end.ensures at c.loop-i-test.true
 
 -- the words of the new state are all there
 room_of : (c : After-ordered_part-k) → WordsThere c.args.table.now c.loop-i.new
@@ -42,7 +42,7 @@ turn_of c =
     let loop = c.loop-i in
     lent_turn c.args.table.now c.args.old.now c.args.new.now loop.new c.requires.fillable loop.i
     loop.invariant.changed
-    (rw c.parts_of-count.ensures at c.loop-i-test.true)
+    (rw c.parts_of-i-end.ensures at c.loop-i-test.true)
     c.ordered_part-k.result
     c.part_at-p.result
     c.ordered_part-k.ensures
@@ -85,9 +85,9 @@ heard_at-before-requires c =
     let at = goal.at.heard_at-before-requires c in
     state_room c.args.table.now c.args.old.now c.requires.old_there _ (turn_of at.After-part_at-p).source0
 
-pub output_of-out-requires : goal.output_of-out-requires
-output_of-out-requires c =
-    let turn = turn_of (goal.at.output_of-out-requires c).After-part_at-p in
+pub output_of-requires : goal.output_of-requires
+output_of-requires c =
+    let turn = turn_of (goal.at.output_of-requires c).After-part_at-p in
     record {
       part_fits = turn.ranges;
       x_value = λ direct. turn.signal0 direct c.heard_at-x.result c.heard_at-x.ensures;
@@ -104,7 +104,7 @@ loop-i-preserved c =
     let ts = c.args.table.now in
     let new = c.args.new.now in
     let loop = c.loop-i in
-    let out = c.output_of-out.result in
+    let out = c.output_of.result in
     let k = c.ordered_part-k.result in
     let at = goal.at.loop-i-preserved c in
     let turn = turn_of at.After-part_at-p in
@@ -119,7 +119,7 @@ loop-i-preserved c =
           c.heard_at-x.ensures
           c.heard_at-y.ensures
           c.heard_at-before.ensures
-          c.output_of-out.ensures
+          c.output_of.ensures
           c.put_output.ensures;
       behind = behind_through n new loop.new then loop.invariant.behind
           (behind_shown n k out loop.new then c.put_output.ensures turn.number);
@@ -135,7 +135,7 @@ returns c =
     let old = c.args.old.now in
     let new = c.args.new.now in
     let fit = c.requires.fillable in
-    let past : part_count ts ≤ loop.i = rw c.parts_of-count.ensures at c.loop-i-test.false in
+    let past : part_count ts ≤ loop.i = rw c.parts_of-i-end.ensures at c.loop-i-test.false in
     record {
       filled = lent_filled ts old new loop.new fit loop.i loop.invariant.changed past;
       behind = loop.invariant.behind;

@@ -1,4 +1,4 @@
-use Rattle.std.specs.Prelude.{◌-◌, ◌≤◌}
+use Rattle.std.specs.Prelude.{◌≤◌}
 use Rattle.words_store.specs.ModelIn.{model_in, part_count}
 use Rattle.words_store.specs.Updated.{SameBehind}
 use Rattle.step_parts.specs.Trimmed.{Changed}
@@ -14,6 +14,3 @@ invariant-loop-i l = record {
   behind : SameBehind (part_count l.table) l.initial.new l.new;
   clean : FilledClean l.table l.initial.new l.i l.new;
 }
-
-abbrev pub decreases-loop-i : goal.decreases-loop-i
-decreases-loop-i l = l.count - l.i

@@ -1,6 +1,6 @@
 -- `moved_into` is `all_moved`, of the old words. The invariant: in the new words are the point and the states of the
 -- old words, those of the first i parts moved, each by its reading in the old words, and no word after the model is
--- changed. The measure is what is left of the count.
+-- changed.
 use Rattle.std.specs.Prelude.{◌≡◌, ◌≤◌, ◌<◌}
 use Rattle.std.proofs.Common.{arith}
 use Rattle.std.proofs.lemmas.Int.{to_z-of_z}
@@ -14,10 +14,10 @@ use Rattle.step_parts.specs.Moving.{movable_reading}
 use Rattle.step_parts.specs.LentReading.{source_room, lent_reading}
 use Rattle.step_parts.specs.LentMoving.{none_moved, lent_tick, lent_movable, moved_more, moved_done}
 use Rattle.step_parts.proofs.moving.moved_into.Goals as goal
-use Rattle.step_parts.proofs.moving.moved_into.Goals.{After-point_of-now, After-heard_at-x}
+use Rattle.step_parts.proofs.moving.moved_into.Goals.{After-point_of, After-heard_at-x}
 
 -- all of the state's words were copied
-copied : (c : After-point_of-now) →
+copied : (c : After-point_of) →
     Copied (state_words (part_count c.args.table.now)) c.args.old.now c.args.new.now c.copy_state.new.new
 copied c = rw c.parts_of-count.ensures at c.copy_state.ensures
 
@@ -42,7 +42,7 @@ pub loop-i-init : goal.loop-i-init
 loop-i-init c =
     let args = c.args in
     none_moved args.table.now args.old.now _ _ args.new.now c.copy_state.new.new
-    (copied (goal.at.loop-i-init c).After-point_of-now)
+    (copied (goal.at.loop-i-init c).After-point_of)
     c.requires.spelled
 
 pub heard_at-x-requires : goal.heard_at-x-requires
@@ -54,16 +54,16 @@ heard_at-x-requires c =
     c.part_at-p.ensures
     c.requires.old_there
 
-pub moved_part-moved-requires : goal.moved_part-moved-requires
-moved_part-moved-requires c =
+pub moved_part-requires : goal.moved_part-requires
+moved_part-requires c =
     let ts = c.args.table.now in
     let ss = c.args.old.now in
-    let hears = (goal.at.moved_part-moved-requires c).After-heard_at-x in
-    let t = c.point_of-now.result.t.0 in
+    let hears = (goal.at.moved_part-requires c).After-heard_at-x in
+    let t = c.point_of.result.t.0 in
     let asks = c.requires in
     let can =
     lent_movable ts ss c.loop-i.i (within hears) c.part_at-p.result c.part_at-p.ensures asks.sounds t c.args.h.0
-    (lent_tick ts ss c.point_of-now.result c.point_of-now.ensures)
+    (lent_tick ts ss c.point_of.result c.point_of.ensures)
     asks.short
     asks.in_time in
     let signal = movable_reading (trimmed (model_in ts ss)) asks.sounds c.part_at-p.result in
@@ -79,9 +79,9 @@ loop-i-preserved c =
     let ts = c.args.table.now in
     let ss = c.args.old.now in
     let hears = (goal.at.loop-i-preserved c).After-heard_at-x in
-    let moved = c.moved_part-moved.result in
+    let moved = c.moved_part.result in
     let state = moved.state in
-    moved_more ts ss c.loop-i.i (within hears) c.part_at-p.result c.part_at-p.ensures c.point_of-now.result.t.0
+    moved_more ts ss c.loop-i.i (within hears) c.part_at-p.result c.part_at-p.ensures c.point_of.result.t.0
     c.args.h.0
     c.copy_state.new.new
     c.loop-i.new
@@ -90,7 +90,7 @@ loop-i-preserved c =
     moved
     c.loop-i.invariant
     (reads hears)
-    c.moved_part-moved.ensures
+    c.moved_part.ensures
     (rw (
       to_z-of_z w64 state.held (record { sfits = omega arith }),
       to_z-of_z w64 state.speed (record { sfits = omega arith }),
@@ -105,11 +105,11 @@ returns c =
     let n = part_count ts in
     let loop = c.loop-i in
     let past : n ≤ loop.i = rw c.parts_of-count.ensures at c.loop-i-test.false in
-    let point = (goal.at.returns c).After-point_of-now in
-    let ticks = lent_tick ts old c.point_of-now.result c.point_of-now.ensures in
+    let point = (goal.at.returns c).After-point_of in
+    let ticks = lent_tick ts old c.point_of.result c.point_of.ensures in
     record {
       moved =
-          moved_done ts old c.point_of-now.result.t.0 c.args.h.0 copy loop.i loop.new loop.invariant past ticks;
+          moved_done ts old c.point_of.result.t.0 c.args.h.0 copy loop.i loop.new loop.invariant past ticks;
       form = loop.invariant.form;
       behind = behind_through n new copy loop.new (behind_copied n old new copy (copied point) c.requires.spelled)
           loop.invariant.behind;
