@@ -115,12 +115,12 @@ found_marked candidates marks k t (d ∷ ds) e =
 
 -- the code's answer says what is found: a part, or none
 pub found_at : (o : Option ℕ) (k : ℕ) → found_as o ≡ Some k → o ≡ some k
-found_at none k e = let z : ◌≡◌ {A = ℕ} 0 1 = cc in absurd (omega arith)
+found_at none k e = cc
 found_at (some j) k e = cc
 
 pub found_nothing : (o : Option ℕ) → found_as o ≡ None → o ≡ none
 found_nothing none e = refl
-found_nothing (some j) e = let z : ◌≡◌ {A = ℕ} 0 1 = cc in absurd (omega arith)
+found_nothing (some j) e = cc
 
 -- the search by a word of 32 digits, of which the n lowest may be set, is the search among the first n parts
 pub lowest_word : (n w : ℕ) (ds : List Direct) → n ≤ 32 → w < 2 ^ n →
