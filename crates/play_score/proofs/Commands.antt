@@ -54,6 +54,12 @@ put_part {xs = xs} used room written short =
     let all : take k (drop used xs) ≡ drop used xs = take_all k (drop used xs) (simp length-drop (omega arith)) in
     put_behind used k room (omega arith) (rw all at written) short
 
+-- that rest has room for the text
+pub part_room : {text ys : List ℕ} {w : Written} (used : ℕ) (xs : List ℕ) → used + 1024 ≤ length xs →
+    WrittenAs 0 text (take (length xs - used) (drop used xs)) ys w → w.length ≤ 1024 →
+    length text ≤ length (take (length xs - used) (drop used xs))
+part_room used xs room written short = simp (length-take, length-drop) (omega (arith, size_told written))
+
 -- enough turns make no difference to the lines
 played_enough : (n k : ℕ) (bs : List ℕ) (at : ℕ) (m : Model) (f : Format) → length bs < at + n → length bs < at + k →
     played_from n bs at m f ≡ played_from k bs at m f

@@ -68,8 +68,8 @@ pub(crate) fn put_refused_at(number: u64, position: usize, lines: &mut [u8], use
     requires { used + 1024 ≤ length lines.old }
     ensures { Put 1024 (refused_at_line number position) used lines.old lines.new result }
 {
-    let w = write_refused_at(number, position, &mut lines[used..]);
-    used + w.length
+    let length = write_refused_at(number, position, &mut lines[used..]).unwrap();
+    used + length
 }
 
 // The line of an answer, the call having ended so and left the state `state`, after the first `used` bytes.
@@ -88,16 +88,8 @@ pub(crate) fn put_answer(
 {
     match format {
         Format::Plain => {
-            let w = write_spelled(
-                table,
-                state,
-                v.number,
-                v.step,
-                v.rounds,
-                v.revisions,
-                &mut lines[used..],
-            );
-            used + w.length
+            let length = write_spelled(table, state, v, &mut lines[used..]).unwrap();
+            used + length
         }
         Format::Sheet(choice) => {
             let first = choice.first;

@@ -36,12 +36,12 @@ pub fn refuse(errors: bool, number: u64, position: usize, lines: &mut [u8]) -> O
     requires { 64 ≤ length lines.old }
     ensures { LineOpened errors (refused_at_line number position) lines.new result }
 {
-    let line = write_refused_at(number, position, lines);
+    let length = write_refused_at(number, position, lines).unwrap();
     Opening {
         ended: true,
         errors: errors,
         at: 0,
-        used: line.length,
+        used: length,
     }
 }
 

@@ -34,10 +34,10 @@ fn tell(stream: &[u8], out: &mut [u8]) -> Told
 {
     let loaded = load(stream);
     if loaded.number != 0 {
-        let line = write_refused_at(loaded.number, loaded.position, out);
+        let length = write_refused_at(loaded.number, loaded.position, out).unwrap();
         return Told {
             refused: true,
-            length: line.length,
+            length: length,
         };
     }
     let model = loaded.model;

@@ -1,6 +1,8 @@
 -- What a refusal where there is cause for it tells, and when a call that writes returned its length. Assumes nothing.
-use Rattle.std.specs.Prelude.{ℕ, ◌≡◌, refl, Bool, true, false, cond, Result, Ok, Err}
-use Rattle.std.proofs.Common.{arith}
+use Rattle.std.specs.Prelude.{ℕ, ◌≤◌, ◌≡◌, refl, Bool, true, false, cond, Result, Ok, Err, IsOk, List, length}
+use Rattle.std.proofs.Common.{arith, ap, ◌∙◌, le-leb}
+use Rattle.machine.specs.declared.model.Written.{Written}
+use Rattle.machine.specs.Writing.{WrittenAs}
 use Rattle.refusals.specs.declared.Refusal.{Refusal}
 use Rattle.refusals.specs.declared.Refusal.TheVariants.{Cut, UnknownCommand, OutOfPlace, OutOfRange, TooMany}
 use Rattle.refusals.specs.declared.Refusal.TheVariants.{NotThere, AlreadyWired, NoParts, PeriodTooLong, Loop}
@@ -50,3 +52,15 @@ pub told_length : (r : Result ℕ Unwritten) → (written_of r).number ≡ 0 →
 told_length (Ok length) none = refl
 told_length (Err (unwritten.Refused r)) none = absurd (some_number r none)
 told_length (Err (unwritten.Short needed)) none = absurd (omega arith)
+
+-- so does one that nothing refuses, where there is room for its bytes
+pub wrote : {bytes before after : List ℕ} (r : Result ℕ Unwritten) → WrittenAs 0 bytes before after (written_of r) →
+    length bytes ≤ length before → r ≡ Ok (length bytes)
+wrote {bytes} {before} r written long =
+    let number : (written_of r).number ≡ 0 = ap (λ (w : Written). w.number) written.answer ∙
+    rw (le-leb (length bytes) (length before) long) refl in
+    told_length r number ∙ ap Ok (ap (λ (w : Written). w.length) written.answer)
+
+pub wrote_ok : {bytes before after : List ℕ} (r : Result ℕ Unwritten) → WrittenAs 0 bytes before after (written_of r) →
+    length bytes ≤ length before → IsOk r
+wrote_ok r written long = rw (wrote r written long) refl

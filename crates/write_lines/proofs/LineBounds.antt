@@ -1,5 +1,5 @@
--- A line whose length was worked out before: refused where the buffer is shorter, or put at its front, each with a
--- bound of its length; and how long lines and their pieces are, by the digits of their numbers. Assumes nothing.
+-- A line whose length was worked out before, refused where the buffer is shorter; and how long lines and their pieces
+-- are, by the digits of their numbers. Assumes nothing.
 use Prim.Native.Nat.{ℕ, ◌+◌, ◌≤◌, ◌<◌}
 use native.Mathlib.Omega.{arith}
 use mathlib.Core.Path.{◌≡◌, refl}
@@ -10,31 +10,16 @@ use mir.Syntax.{w64}
 use mir.Val.{Fits}
 use Rattle.machine.specs.declared.signal.Signal.{Signal}
 use Rattle.machine.specs.declared.signal.Signal.TheVariants.{Absent, Value}
-use Rattle.machine.specs.declared.model.Written.{Written}
 use Rattle.machine.specs.Rehearse.{decimal, refused_at_line, refused_line, signal_text, signed_decimal}
 use Rattle.machine.specs.Writing.{WrittenAs, too_short}
 use Rattle.write_laws.specs.Decimal.{word_digits}
-use Rattle.write_bytes.specs.Put.{Put}
-use Rattle.write_bytes.specs.Fitting.{left_out, put_in, size_told}
+use Rattle.write_bytes.specs.Fitting.{left_out}
 use Rattle.write_lines.specs.LineNumbers.{numbers_text}
 
--- a text that is written, with a bound of its length
-abbrev pub Bounded : ℕ → List ℕ → List ℕ → List ℕ → Written → Type 0
-Bounded most text before after w = WrittenAs 0 text before after w × (w.length ≤ most)
-
-bounded : {text before after : List ℕ} {w : Written} (most : ℕ) → WrittenAs 0 text before after w → length text ≤ most →
-    Bounded most text before after w
-bounded most written short = (written, rw (size_told written) short)
-
--- one that has no room, and one that was put
-pub no_room : (most : ℕ) (text buf : List ℕ) (n : ℕ) → n ≡ length text → length text ≤ most → length buf < n →
-    Bounded most text buf buf (record { number = too_short; length = n })
-no_room most text buf n size few short = rw size (bounded most (left_out text buf (rw size at short)) few)
-
-pub room : {bound end : ℕ} {text before after : List ℕ} (most : ℕ) → Put bound text 0 before after end →
-    length text ≤ most →
-    length text ≤ length before → Bounded most text before after (record { number = 0; length = end })
-room most put few long = bounded most (put_in long put) few
+-- a text that has no room, by its length that was worked out
+pub no_room : (text buf : List ℕ) (n : ℕ) → n ≡ length text → length buf < n →
+    WrittenAs 0 text buf buf (record { number = too_short; length = n })
+no_room text buf n size short = rw size (left_out text buf (rw size at short))
 
 -- how long the lines of refusals are, and the numbers of a line
 pub refused_size : (number : ℕ) → length (refused_line number) ≡ length (decimal number) + 9

@@ -8,13 +8,14 @@ ghost use Rattle.words_store.specs.ModelIn.{WordsThere, model_in, part_count};
 ghost use Rattle.machine.specs.Writing.{WrittenAs};
 ghost use Rattle.machine.specs.Model.{most_parts};
 ghost use Rattle.write_bytes.specs.Put.{Put};
+ghost use Rattle.refusals.specs.Unwritten.{written_of};
 ghost use Rattle.write_lines.specs.LentLines.{LineInto, lent_answer};
 
 use crate::length::output_length;
 use crate::line::{numbers_length, put_numbers, write_refused};
 use crate::text::put_output;
-use machine::model::Written;
-use refusals::numbers::{NOT_SOUND, TOO_SHORT};
+use machine::model::Outcome;
+use refusals::{Refusal, Unwritten};
 use words_store::form::spelled;
 use words_store::lookup::{output_at, parts_of, point_of};
 use write_bytes::put::put_byte;
@@ -31,12 +32,9 @@ fn outputs_length(table: &[u64], state: &[u64]) -> usize
     requires few_parts { part_count table.now ≤ most_parts }
     ensures { result ≡ length (outputs_text (model_in table.now state.now).parts) }
 {
-    let count = parts_of(table);
     let mut length: usize = 0;
-    let mut i: usize = 0;
-    while i < count {
+    for i in 0..parts_of(table) {
         length += output_length(output_at(state, i));
-        i += 1;
     }
     length
 }
@@ -49,13 +47,9 @@ fn put_outputs(line: &mut [u8], at: usize, table: &[u64], state: &[u64]) -> usiz
         (outputs_text (model_in table.now state.now).parts) at line.old
         line.new result }
 {
-    let count = parts_of(table);
     let mut next = at;
-    let mut i: usize = 0;
-    while i < count {
-        let output = output_at(state, i);
-        next = put_output(line, next, output);
-        i += 1;
+    for i in 0..parts_of(table) {
+        next = put_output(line, next, output_at(state, i));
     }
     next
 }
@@ -66,39 +60,29 @@ fn put_outputs(line: &mut [u8], at: usize, table: &[u64], state: &[u64]) -> usiz
 pub fn write_spelled(
     table: &[u64],
     state: &[u64],
-    number: u64,
-    step: u64,
-    rounds: u64,
-    revisions: u64,
+    outcome: Outcome,
     buf: &mut [u8],
-) -> Written
+) -> Result<usize, Unwritten>
     requires words_there { WordsThere table.now state.now }
     requires few_parts { part_count table.now ≤ most_parts }
     ensures written_as { (ceiling : ℕ) →
-        WrittenAs 0 (answer_line (lent_answer table.now
-        state.now number step rounds revisions ceiling)) buf.old buf.new result }
-    ensures length_bound { result.length ≤ 1024 }
+        WrittenAs 0 (answer_line (lent_answer table.now state.now outcome.number outcome.step
+        outcome.rounds outcome.revisions ceiling)) buf.old buf.new (written_of result) }
+    ensures length_bound { (written_of result).length ≤ 1024 }
 {
-    if number != 0 {
-        return write_refused(number, buf);
+    if outcome.number != 0 {
+        return write_refused(outcome.number, buf);
     }
     let now = point_of(state);
     if buf.len() < MOST_NUMBERS + MOST_OUTPUT * parts_of(table) {
-        let numbers = numbers_length(now.t.0, now.n, step, rounds, revisions);
-        let length = numbers + outputs_length(table, state) + 1;
+        let length = numbers_length(now, outcome) + outputs_length(table, state) + 1;
         if buf.len() < length {
-            return Written {
-                number: TOO_SHORT,
-                length: length,
-            };
+            return Err(Unwritten::Short(length));
         }
     }
-    let at = put_numbers(buf, now.t.0, now.n, step, rounds, revisions);
+    let at = put_numbers(buf, now, outcome);
     let at = put_outputs(buf, at, table, state);
-    Written {
-        number: 0,
-        length: put_byte(buf, at, b'\n'),
-    }
+    Ok(put_byte(buf, at, b'\n'))
 }
 
 // The line of a call that ended so, whatever the words are: 24 where they spell no model, then as `write_spelled`.
@@ -106,21 +90,13 @@ pub fn write_spelled(
 pub fn write_lent(
     table: &[u64],
     state: &[u64],
-    number: u64,
-    step: u64,
-    rounds: u64,
-    revisions: u64,
+    outcome: Outcome,
     buf: &mut [u8],
-) -> Written
-    ensures line_into { LineInto table.now state.now number step rounds revisions
-        buf.old buf.new result }
-    ensures length_bound { result.length ≤ 1024 }
+) -> Result<usize, Unwritten>
+    ensures line_into { LineInto table.now state.now outcome.number outcome.step outcome.rounds
+        outcome.revisions buf.old buf.new (written_of result) }
+    ensures length_bound { (written_of result).length ≤ 1024 }
 {
-    if !spelled(table, state) {
-        return Written {
-            number: NOT_SOUND,
-            length: 0,
-        };
-    }
-    write_spelled(table, state, number, step, rounds, revisions, buf)
+    Refusal::NotSound.when(!spelled(table, state))?;
+    write_spelled(table, state, outcome, buf)
 }

@@ -5,12 +5,14 @@ ghost use Rattle.std.specs.Prelude.{◌≡◌, ◌∷◌, [], ◌++◌, ◌+◌,
 ghost use Rattle.machine.specs.Rehearse.{blank, decimal, refused_at_line, refused_line, refused_text};
 ghost use Rattle.write_bytes.specs.Put.{Put};
 ghost use Rattle.machine.specs.Writing.{WrittenAs};
-ghost use Rattle.write_lines.specs.LineNumbers.{numbers_text};
+ghost use Rattle.refusals.specs.Unwritten.{written_of};
+ghost use Rattle.write_lines.specs.LineNumbers.{answer_numbers};
 
 use crate::length::digits_of;
 use crate::text::put_decimal;
-use machine::model::Written;
-use refusals::numbers::TOO_SHORT;
+use machine::model::Outcome;
+use machine::time::Point;
+use refusals::Unwritten;
 use write_bytes::put::{put_byte, put_text};
 
 // `refused N`, which begins the line of every refusal.
@@ -24,7 +26,8 @@ pub fn put_refusal(line: &mut [u8], number: u64) -> usize
 
 // How many bytes that takes, with the eight of the word and its blank.
 fn refusal_length(number: u64) -> usize
-    ensures { result ≡ length (refused_text ++ decimal number) }
+    ensures bytes { result ≡ length (refused_text ++ decimal number) }
+    ensures few_bytes { result ≤ 28 }
 {
     8 + digits_of(number)
 }
@@ -58,65 +61,48 @@ fn put_number(line: &mut [u8], at: usize, n: u64) -> usize
     put_byte(line, next, b' ')
 }
 
-// The numbers that begin the line of a committed advance.
-pub(crate) fn put_numbers(
-    line: &mut [u8],
-    t: u64,
-    n: u64,
-    step: u64,
-    rounds: u64,
-    revisions: u64,
-) -> usize
-    requires { length (numbers_text t n step rounds revisions) ≤ length line.old }
-    ensures { Put 104 (numbers_text t n step rounds revisions) 0 line.old line.new result }
+// The numbers that begin the line of a committed advance: the point at which it is now, and how it ended.
+pub(crate) fn put_numbers(line: &mut [u8], now: Point, outcome: Outcome) -> usize
+    requires { length (answer_numbers now outcome) ≤ length line.old }
+    ensures { Put 104 (answer_numbers now outcome) 0 line.old line.new result }
 {
-    let at = put_number(line, 0, t);
-    let at = put_number(line, at, n);
-    let at = put_number(line, at, step);
-    let at = put_number(line, at, rounds);
-    put_decimal(line, at, revisions)
+    let at = put_number(line, 0, now.t.0);
+    let at = put_number(line, at, now.n);
+    let at = put_number(line, at, outcome.step);
+    let at = put_number(line, at, outcome.rounds);
+    put_decimal(line, at, outcome.revisions)
 }
 
 // How many bytes those take, with a blank after each but the last.
-pub(crate) fn numbers_length(t: u64, n: u64, step: u64, rounds: u64, revisions: u64) -> usize
-    ensures { result ≡ length (numbers_text t n step rounds revisions) }
+pub(crate) fn numbers_length(now: Point, outcome: Outcome) -> usize
+    ensures { result ≡ length (answer_numbers now outcome) }
 {
-    digits_of(t) + digits_of(n) + digits_of(step) + digits_of(rounds) + digits_of(revisions) + 4
+    let point = digits_of(now.t.0) + digits_of(now.n);
+    let counts = digits_of(outcome.step) + digits_of(outcome.rounds) + digits_of(outcome.revisions);
+    point + counts + 4
 }
 
 // The line of a refused advance.
-pub(crate) fn write_refused(number: u64, buf: &mut [u8]) -> Written
-    ensures written_as { WrittenAs 0 (refused_line number) buf.old buf.new result }
-    ensures length_bound { result.length ≤ 64 }
+pub(crate) fn write_refused(number: u64, buf: &mut [u8]) -> Result<usize, Unwritten>
+    ensures written_as { WrittenAs 0 (refused_line number) buf.old buf.new (written_of result) }
+    ensures length_bound { (written_of result).length ≤ 64 }
 {
     let length = refusal_length(number) + 1;
     if buf.len() < length {
-        return Written {
-            number: TOO_SHORT,
-            length: length,
-        };
+        return Err(Unwritten::Short(length));
     }
-    Written {
-        number: 0,
-        length: put_refused_line(buf, number),
-    }
+    Ok(put_refused_line(buf, number))
 }
 
 // The line of a load or score refusal, at a position of the whole stream.
-pub fn write_refused_at(number: u64, position: usize, buf: &mut [u8]) -> Written
-    ensures written_as { WrittenAs 0 (refused_at_line number position) buf.old buf.new result }
-    ensures length_bound { result.length ≤ 64 }
+pub fn write_refused_at(number: u64, position: usize, buf: &mut [u8]) -> Result<usize, Unwritten>
+    ensures written_as { WrittenAs 0 (refused_at_line number position) buf.old buf.new (written_of result) }
+    ensures length_bound { (written_of result).length ≤ 64 }
 {
     let place = position as u64;
     let length = refusal_length(number) + 4 + digits_of(place) + 1;
     if buf.len() < length {
-        return Written {
-            number: TOO_SHORT,
-            length: length,
-        };
+        return Err(Unwritten::Short(length));
     }
-    Written {
-        number: 0,
-        length: put_refused_at_line(buf, number, place),
-    }
+    Ok(put_refused_at_line(buf, number, place))
 }

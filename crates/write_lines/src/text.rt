@@ -5,7 +5,6 @@ ghost use Rattle.machine.specs.Rehearse.{blank, decimal, signal_text, signed_dec
 ghost use Rattle.write_bytes.specs.Put.{Put};
 
 use machine::signal::Signal;
-use write_bytes::number::absolute;
 use write_bytes::put::put_byte;
 
 // The last digit of a number.
@@ -37,11 +36,8 @@ pub fn put_value(line: &mut [u8], at: usize, v: i64) -> usize
     requires { at + length (signed_decimal v) ≤ length line.old }
     ensures { Put 21 (signed_decimal v) at line.old line.new result }
 {
-    if v < 0 {
-        let next = put_byte(line, at, b'-');
-        return put_decimal(line, next, absolute(v));
-    }
-    put_decimal(line, at, absolute(v))
+    let next = if v < 0 { put_byte(line, at, b'-') } else { at };
+    put_decimal(line, next, v.unsigned_abs())
 }
 
 // A blank and an output: its value, or a hyphen where it is absent.

@@ -7,6 +7,6 @@ use Rattle.sheet_call.proofs.field.put_number_field.Goals as goal
 
 pub returns : goal.returns
 returns c =
-    let left = ap (λ (k : ℕ). c.args.width - k) c.digits_of-digits.ensures in
+    let left = ap (λ (k : ℕ). c.args.width - k) c.digits_of-digits.ensures.digits in
     put_then (field_put c.requires.fits left c.put_blanks-next.ensures c.put_decimal-next.ensures)
     c.put_byte.ensures

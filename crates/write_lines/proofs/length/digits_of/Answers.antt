@@ -20,7 +20,13 @@ loop-rest-smaller c = omega arith
 pub loop-rest-preserved : goal.loop-rest-preserved
 loop-rest-preserved c = omega (arith, tenth_digits c.loop-rest.rest c.loop-rest-test.true)
 
-pub returns : goal.returns
-returns c =
-    let last = c.loop-rest.rest in
-    omega (arith, ap length (one_digit last c.loop-rest-test.false))
+pub returns-clause-digits : goal.returns-clause-digits
+returns-clause-digits c = omega (arith, ap length (one_digit c.loop-rest.rest c.loop-rest-test.false))
+
+pub returns-clause-few_digits : goal.returns-clause-few_digits
+returns-clause-few_digits c =
+    omega (
+      arith,
+      ap length (one_digit c.loop-rest.rest c.loop-rest-test.false),
+      word_digits c.args.n (omega (arith, c.ranges.n)),
+    )

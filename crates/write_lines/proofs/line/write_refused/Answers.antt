@@ -1,0 +1,15 @@
+-- `write_refused` works out how long the line is, and puts it where it fits.
+use Rattle.std.proofs.Common.{arith}
+use Rattle.write_bytes.specs.Fitting.{put_in}
+use Rattle.write_lines.proofs.LineBounds.{no_room, refused_size}
+use Rattle.write_lines.proofs.line.write_refused.Goals as goal
+
+pub returns-then-buf-length-clause-written_as : goal.returns-then-buf-length-clause-written_as
+returns-then-buf-length-clause-written_as c =
+    no_room _ _ _ (simp refused_size (omega arith)) c.if-buf-length.true
+
+pub put_refused_line-requires : goal.put_refused_line-requires
+put_refused_line-requires c = simp refused_size (omega arith)
+
+pub returns-clause-written_as : goal.returns-clause-written_as
+returns-clause-written_as c = put_in (simp refused_size (omega arith)) c.put_refused_line.ensures
