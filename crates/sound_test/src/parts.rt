@@ -16,46 +16,29 @@ use part_rules::ratio::{period_fits, ratio_of};
 use words_store::lookup::{part_at, parts_of};
 
 // Whether a state may be that of a part of this kind with this ratio at tick t.
+#[tactic(auto, unfolding(crate::specs::Parts::state_holds))]
 fn state_fits(t: Ticks, ratio: u64, kind: Kind, state: State) -> bool
     ensures { result ≡ state_holds t.0 ratio kind state }
 {
-    let local = state.local;
-    if local.0 != t.local(ratio).0 {
-        return false;
-    }
-    if !is_value(state.held) {
-        return false;
-    }
-    if !speed_fits(kind, state.speed) {
-        return false;
-    }
-    let signal = state.signal;
-    if !is_signal(signal) {
-        return false;
-    }
-    let output = state.output;
-    is_signal(output)
+    state.local == t.local(ratio)
+        && is_value(state.held)
+        && speed_fits(kind, state.speed)
+        && is_signal(state.signal)
+        && is_signal(state.output)
 }
 
 // Whether a part may be one of so many parts at tick t, by the master's magnitude.
+#[tactic(auto, using(crate::proofs::Trimmed::trimmed_fits))]
 fn part_fits(p: Part, parts: usize, magnitude: u8, t: Ticks) -> bool
     requires { magnitude ≤ last_magnitude }
     ensures { result ≡ part_fits parts magnitude t.0 (trimmed_part p) }
 {
     let c = p.component;
-    if !component_fits(c, parts) {
-        return false;
-    }
     let ratio = ratio_of(magnitude, c.preference);
-    if p.ratio != ratio {
-        return false;
-    }
-    if !period_fits(c.p, ratio) {
-        return false;
-    }
-    let kind = c.kind;
-    let state = p.state;
-    state_fits(t, ratio, kind, state)
+    component_fits(c, parts)
+        && p.ratio == ratio
+        && period_fits(c.p, ratio)
+        && state_fits(t, ratio, c.kind, p.state)
 }
 
 // Whether every part may be one of the model's at tick `t`, by the master's magnitude.
@@ -67,13 +50,10 @@ pub(crate) fn parts_fit_in(table: &[u64], state: &[u64], magnitude: u8, t: Ticks
         (trimmed (model_in table.now state.now)).parts }
 {
     let count = parts_of(table);
-    let mut i: usize = 0;
-    while i < count {
-        let p = part_at(table, state, i);
-        if !part_fits(p, count, magnitude, t) {
+    for i in 0..count {
+        if !part_fits(part_at(table, state, i), count, magnitude, t) {
             return false;
         }
-        i += 1;
     }
     true
 }

@@ -22,6 +22,7 @@ pub struct Survey {
 
 // The survey of a table: the largest of the default magnitude and the preferences of the parts, their direct sources,
 // and the part order that is given.
+#[tactic(auto, unfolding(words_store::specs::ModelIn::ordered_part))]
 pub(crate) fn surveyed_in(table: &[u64]) -> Survey
     requires few_parts { part_count table.now ≤ most_parts }
     requires table_there { table_words (part_count table.now) ≤ length table.now }
@@ -35,13 +36,11 @@ pub(crate) fn surveyed_in(table: &[u64]) -> Survey
     let mut magnitude = magnitude_of(table);
     let mut direct = [none; PARTS];
     let mut order = [0u16; PARTS];
-    let mut i: usize = 0;
-    while i < count {
+    for i in 0..count {
         let c = component_at(table, i);
         magnitude = larger_of(magnitude, c.preference);
         direct[i] = direct_sources(c);
         order[i] = ordered_part(table, i) as u16;
-        i += 1;
     }
     Survey {
         magnitude,

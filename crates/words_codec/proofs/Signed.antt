@@ -1,5 +1,5 @@
--- The library's casts between signed and unsigned numbers of 64 bits are two's complement, as `specs/Words.antt` has it.
--- Assumes nothing.
+-- The library's casts between signed and unsigned numbers of 64 bits are two's complement, as `specs/Words.antt` has
+-- it. Assumes nothing.
 use Rattle.std.specs.Prelude.{ℕ, suc, ◌-◌, ◌≡◌, refl, cond, ltb, ℤ, pos, negsuc}
 use Rattle.std.proofs.Common.{arith, ap}
 use Rattle.std.specs.Int.{w64, cast_unsigned, cast_signed}

@@ -1,5 +1,5 @@
--- The laws of the words of fields. Where a field is one word, the word of a value is at most the largest word of the field's form, and is
--- read back as the value. Assumes nothing.
+-- The laws of the words of fields: the word of a value is at most the largest that a value has, and is read back as the
+-- value. Assumes nothing.
 use Rattle.std.specs.Prelude.{ℕ, ◌+◌, ◌-◌, ◌%◌, ◌≤◌, ◌≡◌, refl, ℤ, pos, negsuc}
 use Rattle.std.proofs.Common.{arith, ap, lt-ltb, le-ltb, ne_eqb}
 use Rattle.machine.specs.declared.part.Kind.{Kind}
