@@ -1,7 +1,7 @@
 -- The parts of a model in words, asked one after the other, by what the code reads of each: the part, and what its port
 -- 0 reads. Shown is what a part of a sound model meets, what its reply is in the model, and how a round and a test of
 -- all parts go on after it, and end. The idea: the model has the trimmed parts of the words, and a reply reads nothing
--- that trimming cuts away. The four loops of this crate cite the one section `PartAsked`. Assumes nothing.
+-- that trimming cuts away. The three loops of this crate cite the one section `PartAsked`. Assumes nothing.
 use Rattle.std.specs.Prelude.{ℕ, ◌+◌, ◌/◌, ◌≤◌, ◌<◌, min, ◌≡◌, Bool, true, false, ◌||◌, List, [], ◌∷◌, length, drop}
 use Rattle.std.proofs.Common.{arith, add-one, ◌∙◌, drop_of_length-le, drop-cons}
 use Rattle.std.proofs.Math.Path.{sym, ap, ap₂, subst}

@@ -1,14 +1,15 @@
 -- A trial asked for objections before it is settled: what the parts would object to once they are settled is asked of
--- each part, settled by its reading, one by one; and which kinds can object. Assumes nothing.
-use Rattle.std.specs.Prelude.{ℕ, ◌≡◌, refl, Bool, true, false, ◌||◌, List, [], ◌∷◌, map}
-use Rattle.std.proofs.Common.{ap, true≢false}
+-- each part, settled by its reading, one by one; and which kind alone can object. Assumes nothing.
+use Rattle.std.specs.Prelude.{ℕ, ◌≡◌, ◌≢◌, refl, Bool, false, ◌||◌, List, [], ◌∷◌, map}
+use Rattle.std.proofs.Common.{arith, ap}
 use Rattle.machine.specs.declared.part.Kind.{Kind}
+use Rattle.machine.specs.declared.part.Kind.TheVariants.{Detector}
 use Rattle.machine.specs.declared.part.Part.{Part}
 use Rattle.machine.specs.declared.model.Model.{Model}
 use Rattle.machine.specs.Lists.{any}
 use Rattle.machine.specs.Model.{reading0}
 use Rattle.machine.specs.Step.{settled, all_settled, step_made}
-use Rattle.machine.specs.Accept.{Class, waiting, delaying, detecting, driving, free, class}
+use Rattle.machine.specs.Accept.{class}
 use Rattle.machine.specs.Advance.{objects, objects_as, any_objects}
 use Rattle.step_parts.specs.StepShown.{step_shown}
 
@@ -32,27 +33,12 @@ unfolding any_objects any_objects_settled step_made step_shown all_settled
 objects_made m h k = any_map (objects k) (λ (p : Part). settled (reading0 (step_shown m h).parts p) p)
     (step_shown m h).parts
 
--- the class that can object, and no other does
-abbrev is_detecting : Class → Bool
-is_detecting waiting = false
-is_detecting delaying = false
-is_detecting detecting = true
-is_detecting driving = false
-is_detecting free = false
-
-never_objects : (c : Class) (h : ℕ) (p : Part) → is_detecting c ≡ false → objects_as c h p ≡ false
+-- a detector alone objects
+never_objects : (k : Kind) (h : ℕ) (p : Part) → k ≢ Detector → objects_as (class k) h p ≡ false
 unfolding objects_as
-never_objects waiting h p e = refl
-never_objects delaying h p e = refl
-never_objects detecting h p e = absurd (true≢false e)
-never_objects driving h p e = refl
-never_objects free h p e = refl
+never_objects k h p e = grind arith
 
--- the kinds of that class
-abbrev pub detects : Kind → Bool
-detects k = is_detecting (class k)
-
-pub passes_trial : (h : ℕ) (ps : List Part) (p : Part) → detects p.component.kind ≡ false →
+pub passes_trial : (h : ℕ) (ps : List Part) (p : Part) → p.component.kind ≢ Detector →
     objects_settled h ps p ≡ false
 unfolding objects settled
-passes_trial h ps p e = never_objects (class p.component.kind) h (settled (reading0 ps p) p) e
+passes_trial h ps p e = never_objects p.component.kind h (settled (reading0 ps p) p) e

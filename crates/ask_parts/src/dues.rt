@@ -17,18 +17,13 @@ pub fn any_due_in(table: &[u64], state: &[u64]) -> bool
     requires state_sound { sound (trimmed (model_in table.now state.now)) ≡ true }
     ensures { result ≡ any_due (trimmed (model_in table.now state.now)) }
 {
-    let count = parts_of(table);
     let now = point_of(state);
-    let mut i: usize = 0;
-    while i < count {
+    for i in 0..parts_of(table) {
         let p = part_at(table, state, i);
-        let c = p.component;
-        let s = c.port0;
-        let x = heard_at(state, s);
+        let x = heard_at(state, p.component.port0);
         if due_of(p, now, x) {
             return true;
         }
-        i += 1;
     }
     false
 }

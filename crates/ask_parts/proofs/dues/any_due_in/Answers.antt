@@ -1,5 +1,5 @@
 -- `any_due_in` is `any_due` of the model that the words mean. The invariant: that a part is due, from here on, is that
--- some part is. The measure is what is left of the count.
+-- some part is.
 use Rattle.std.specs.Prelude.{refl}
 use Rattle.std.proofs.Common.{arith, sym, ◌∙◌}
 use Rattle.machine.specs.Model.{trimmed}
@@ -15,7 +15,7 @@ use Rattle.ask_parts.proofs.dues.any_due_in.Goals.{After-part_at-p}
 asked_of : (c : After-part_at-p) → PartAsked c.args.table.now c.args.state.now c.loop-i.i c.part_at-p.result
 asked_of c =
     let asks = c.requires in
-    let low = rw c.parts_of-count.ensures at c.loop-i-test.true in
+    let low = rw c.parts_of-i-end.ensures at c.loop-i-test.true in
     sound_asked c.args.table.now c.args.state.now asks.words_there asks.state_sound c.loop-i.i low c.part_at-p.result
     c.part_at-p.ensures
 
@@ -36,7 +36,7 @@ returns-then-due_of c =
     let ts = c.args.table.now in
     let ss = c.args.state.now in
     let loop = c.loop-i in
-    let low = rw c.parts_of-count.ensures at c.loop-i-test.true in
+    let low = rw c.parts_of-i-end.ensures at c.loop-i-test.true in
     let asked = asked_of (goal.at.returns-then-due_of c).After-part_at-p in
     let hit =
     due_here asked c.point_of-now.result c.heard_at-x.result c.point_of-now.ensures c.heard_at-x.ensures ∙
@@ -48,7 +48,7 @@ loop-i-preserved c =
     let ts = c.args.table.now in
     let ss = c.args.state.now in
     let loop = c.loop-i in
-    let low = rw c.parts_of-count.ensures at c.loop-i-test.true in
+    let low = rw c.parts_of-i-end.ensures at c.loop-i-test.true in
     let asked = asked_of (goal.at.loop-i-preserved c).After-part_at-p in
     let miss =
     due_here asked c.point_of-now.result c.heard_at-x.result c.point_of-now.ensures c.heard_at-x.ensures ∙
@@ -63,5 +63,5 @@ returns c =
     let ts = c.args.table.now in
     let ss = c.args.state.now in
     let loop = c.loop-i in
-    let past = rw c.parts_of-count.ensures at c.loop-i-test.false in
+    let past = rw c.parts_of-i-end.ensures at c.loop-i-test.false in
     sym (any_end ts ss (is_due (trimmed (model_in ts ss))) loop.i past) ∙ loop.invariant.rest

@@ -29,7 +29,8 @@ loop-i-preserved c =
     let low = rw c.parts_of-i-end.ensures at c.loop-i-test.true in
     elim c.if-settles.branch [
       | then-settles w ↦ rw w.new-is
-          (settled_more ts new c.requires.wired loop.i loop.new loop.invariant low w.part_at-p.result w.part_at-p.ensures
+          (settled_more ts new c.requires.wired loop.i loop.new loop.invariant low w.part_at-p.result
+          w.part_at-p.ensures
           w.heard_at-x.result
           w.settled_part.result
           w.put_state.new.state
