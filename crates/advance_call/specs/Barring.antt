@@ -1,6 +1,6 @@
 -- What bars a call of advance, by whether the model is sound, the tick where it is, and the wanted step; and what
 -- `advance` promises of an answer that is barred. Assumes nothing.
-use Rattle.std.specs.Prelude.{ℕ, ◌+◌, ◌≡◌, refl, Bool, true, false, cond, ◌&&◌, leb}
+use Rattle.std.specs.Prelude.{ℕ, ◌+◌, ◌≡◌, refl, Bool, true, cond, ◌&&◌, leb}
 use Rattle.std.proofs.Common.{arith, sym, ap, ◌∙◌, leb-true, ne_eqb}
 use Rattle.std.proofs.Math.Bool.{and-true}
 use Rattle.machine.specs.declared.time.Point.{Point}
@@ -18,21 +18,11 @@ unfoldable pub barred_by : Bool → ℕ → ℕ → ℕ
 barred_by is_sound t w = cond is_sound (cond (leb 1 w && leb w longest_wanted) (cond (leb (t + w) last_tick) 0 23) 20)
     24
 
--- the last of them, by where the wanted step leads: a step of 0 is out of its range, and another leads out of the time
--- where t + w is above the last tick
-wanted_by : (a b : Bool) (p : Point) (w : ℕ) → leb 1 w ≡ a →
-    ◌≡◌ {A = ℕ} (cond (a && b) (cond (in_time (led_to p w)) 0 23) 20)
-    (cond (a && b) (cond (leb (tick p + w) last_tick) 0 23) 20)
+-- a step other than 0 leads to a point of the time where t + w is at most the last tick
+pub led_in_time : (p : Point) (w : ℕ) → leb 1 w ≡ true → in_time (led_to p w) ≡ leb (tick p + w) last_tick
 unfolding in_time led_to
-wanted_by true b p w e =
+led_in_time p w e =
     let one = leb-true 1 w e in simp (ne_eqb w 0 (λ z. omega arith), and-true (leb (tick p + w) last_tick))
-wanted_by false b p w e = refl
-
-pub barred_past : (is_sound : Bool) (p : Point) (w : ℕ) →
-    cond is_sound (cond (leb 1 w && leb w longest_wanted) (cond (in_time (led_to p w)) 0 23) 20) 24 ≡
-    barred_by is_sound (tick p) w
-unfolding barred_by
-barred_past is_sound p w = ap (λ (n : ℕ). cond is_sound n 24) (wanted_by (leb 1 w) (leb w longest_wanted) p w refl)
 
 -- it is the machine's
 pub barred_trimmed : (m : Model) (w k : ℕ) (is_sound : Bool) → is_sound ≡ sound (trimmed m) →

@@ -3,14 +3,17 @@
 -- nothing.
 use Rattle.std.specs.Prelude.{ℕ, ◌<◌, ◌≡◌, Bool, true, cond, not, ◌&&◌, List, eqb, leb, length}
 use Rattle.machine.specs.declared.model.Model.{Model}
+use Rattle.machine.specs.Time.{in_time, last_microstep, led_to}
 use Rattle.machine.specs.Model.{trimmed}
+use Rattle.machine.specs.Sound.{sound}
 use Rattle.machine.specs.Advance.{searched, barred, barred_outcome, outcome, answer_with}
 use Rattle.machine.specs.declared.model.Outcome.{Outcome}
-use Rattle.words_store.specs.ModelIn.{model_in, part_count, state_words}
+use Rattle.words_store.specs.ModelIn.{model_in, part_count, state_words, stored_point}
 use Rattle.words_store.specs.Form.{spelled}
 use Rattle.words_store.specs.Clean.{CleanAfter, SameState}
 use Rattle.words_store.specs.Updated.{SameBehind}
 use Rattle.step_parts.specs.StepInto.{StatesSpelled}
+use Rattle.advance_call.specs.Searching.{last_past}
 
 -- the model that the words of a table and of a state mean, which the machine is asked of
 abbrev pub lent_model : List ℕ → List ℕ → Model
@@ -34,6 +37,12 @@ pub record SearchedInto (table old : List ℕ) (w : ℕ) (new₀ new₁ : List �
 -- 25 where nothing else bars the call and the words lent for the new state are too few
 unfoldable pub unless_short : Bool → Model → ℕ → Outcome
 unless_short enough m w = cond (eqb (barred m w) 0 && not enough) (barred_outcome 25) (outcome m w)
+
+-- the number of what bars such a call before its search: 20 or 23, and then 25; 0 where nothing does
+abbrev pub number_with : List ℕ → List ℕ → ℕ → ℕ → ℕ
+number_with ts os w room =
+    let number = barred (lent_model ts os) w in
+    cond (eqb number 0) (cond (leb (state_words (part_count ts)) room) 0 25) number
 
 -- how a call ends whose words spell a model, with `room` words lent for the new state
 unfoldable pub outcome_with : List ℕ → List ℕ → ℕ → ℕ → Outcome
@@ -65,3 +74,9 @@ AdvancedInto table old w new₀ new₁ r = CalledInto (outcome_into table old w 
 -- and one of words that spell a model
 abbrev pub AdvancedSound : (table old : List ℕ) → ℕ → (new₀ new₁ : List ℕ) → Outcome → Type 0
 AdvancedSound table old w new₀ new₁ r = CalledInto (outcome_with table old w (length new₀)) table old new₀ new₁ r
+
+-- where the words mean a sound model, a step of 0 from the point read there leads past the time at the last microstep
+pub last_lent : (ts ss : List ℕ) → sound (lent_model ts ss) ≡ true →
+    not (in_time (led_to (stored_point ss) 0)) ≡ eqb (lent_model ts ss).point.n last_microstep
+unfolding trimmed model_in
+last_lent ts ss is_sound = last_past (lent_model ts ss) is_sound

@@ -1,13 +1,13 @@
 -- From the machine's answer to what a call on lent words promises: an answer of the search, told of the model that the
 -- words mean, is what the search in words owes; a call that is barred writes nothing; and where nothing bars it the
 -- search's promise is the call's. What the words lent for the new state held before does not count. Assumes nothing.
-use Rattle.std.specs.Prelude.{ℕ, ◌≤◌, ◌<◌, ◌≡◌, refl, Bool, true, false, not, ◌&&◌, ◌⊎◌, List, eqb, length}
-use Rattle.std.proofs.Common.{arith, sym, ap, subst, ◌∙◌, inl, inr, eq-eqb, ne_eqb, le-leb}
-use Rattle.std.proofs.lemmas.Bool.{lt-leb}
+use Rattle.std.specs.Prelude.{ℕ, ◌≤◌, ◌<◌, ◌≡◌, refl, Bool, true, false, not, ◌&&◌, ◌⊎◌, List, eqb, leb, length}
+use Rattle.std.proofs.Common.{arith, sym, ap, subst, ◌∙◌, inl, inr, eq-eqb, ne_eqb, le-leb, eqb-true, leb-true, leb-false}
+use Rattle.std.proofs.lemmas.Bool.{eqb-false, lt-leb}
 use Rattle.machine.specs.declared.time.Point.{Point}
 use Rattle.machine.specs.declared.model.Answer.{Answer}
 use Rattle.machine.specs.Time.{tick}
-use Rattle.machine.specs.Model.{trimmed, trimmed_answer}
+use Rattle.machine.specs.Model.{most_parts, trimmed, trimmed_answer}
 use Rattle.machine.specs.Sound.{sound}
 use Rattle.machine.specs.Advance.{searched, barred, barred_outcome, outcome, answer_with}
 use Rattle.machine.specs.declared.model.Outcome.{Outcome}
@@ -15,6 +15,7 @@ use Rattle.laws.specs.Bools.{and_false_cases, either}
 use Rattle.advance_laws.specs.Outcomes.{outcome_barred, outcome_searched}
 use Rattle.words_store.specs.ModelIn.{slot, part_count, state_words, stored_point, model_in}
 use Rattle.words_store.specs.Form.{any_word, spelled}
+use Rattle.words_store.specs.Spelling.{spelled_few, spelled_room}
 use Rattle.words_store.specs.Clean.{CleanAfter, SameState}
 use Rattle.words_store.specs.Updated.{SameBehind}
 use Rattle.step_parts.specs.StepInto.{StatesSpelled}
@@ -24,7 +25,7 @@ use Rattle.words_store.specs.Free.{SameButFree, same_count, same_meant, same_spe
 use Rattle.advance_call.specs.Searching.{Searched}
 use Rattle.advance_call.specs.Barring.{barred_by, barred_trimmed}
 use Rattle.advance_call.specs.Into.{lent_model, SearchedInto, CalledInto, AdvancedInto, AdvancedSound}
-use Rattle.advance_call.specs.Into.{unless_short, outcome_with, outcome_into}
+use Rattle.advance_call.specs.Into.{unless_short, number_with, outcome_with, outcome_into}
 
 -- an answer without its model
 abbrev pub ended : Answer → Outcome
@@ -104,6 +105,42 @@ short_call ts os new₀ w none short =
     called_barred (outcome_with ts os w (length new₀)) ts os new₀ 25 (with_short ts os w (length new₀) none short)
     (λ z. omega arith)
 
+-- a call that is refused before its search, and one that is not: the machine bars it not, and enough words are lent
+refused_with : (ts os new₀ : List ℕ) (w k : ℕ) → (eqb (barred (lent_model ts os) w) 0 ≡ true) ⊎
+    (eqb (barred (lent_model ts os) w) 0 ≡ false) →
+    (leb (state_words (part_count ts)) (length new₀) ≡ true) ⊎
+    (leb (state_words (part_count ts)) (length new₀) ≡ false) →
+    k ≡ number_with ts os w (length new₀) → (k ≡ 0 → ⊥) → AdvancedSound ts os w new₀ new₀ (barred_outcome k)
+refused_with ts os new₀ w k (inl free) (inl enough) e other = absurd (other (rw (free, enough) at e))
+refused_with ts os new₀ w k (inl free) (inr short) e other =
+    rw (rw (free, short) at e)
+    (short_call ts os new₀ w (eqb-true (barred (lent_model ts os) w) 0 free)
+    (leb-false (state_words (part_count ts)) (length new₀) short))
+refused_with ts os new₀ w k (inr bars) enough e other = barred_call ts os new₀ w k (rw bars at e) other
+
+pub refused_call : (ts os new₀ : List ℕ) (w k : ℕ) → k ≡ number_with ts os w (length new₀) → (k ≡ 0 → ⊥) →
+    AdvancedSound ts os w new₀ new₀ (barred_outcome k)
+refused_call ts os new₀ w k =
+    refused_with ts os new₀ w k (either (eqb (barred (lent_model ts os) w) 0))
+    (either (leb (state_words (part_count ts)) (length new₀)))
+
+asked_with : (ts os : List ℕ) (w room : ℕ) → (eqb (barred (lent_model ts os) w) 0 ≡ true) ⊎
+    (eqb (barred (lent_model ts os) w) 0 ≡ false) →
+    (leb (state_words (part_count ts)) room ≡ true) ⊎ (leb (state_words (part_count ts)) room ≡ false) →
+    0 ≡ number_with ts os w room → (barred (lent_model ts os) w ≡ 0) × (state_words (part_count ts) ≤ room)
+asked_with ts os w room (inl free) (inl enough) e =
+    (eqb-true (barred (lent_model ts os) w) 0 free, leb-true (state_words (part_count ts)) room enough)
+asked_with ts os w room (inl free) (inr short) e =
+    let none : ◌≡◌ {A = ℕ} 0 25 = rw (free, short) at e in omega arith
+asked_with ts os w room (inr bars) enough e =
+    absurd (eqb-false (barred (lent_model ts os) w) 0 bars (sym (rw bars at e)))
+
+pub asked_call : (ts os : List ℕ) (w room : ℕ) → 0 ≡ number_with ts os w room →
+    (barred (lent_model ts os) w ≡ 0) × (state_words (part_count ts) ≤ room)
+asked_call ts os w room =
+    asked_with ts os w room (either (eqb (barred (lent_model ts os) w) 0))
+    (either (leb (state_words (part_count ts)) room))
+
 -- a call that nothing bars is the search
 pub searched_call :
     (ts os new₀ new₁ : List ℕ) (w : ℕ) (r : Outcome) → spelled ts os ≡ true → barred (lent_model ts os) w ≡ 0 →
@@ -144,6 +181,13 @@ unsound_call ts os new₀ w fails =
     (unsound_outcome ts os w (length new₀) (and_false_cases (spelled ts os) (sound (lent_model ts os)) fails)
     (either (spelled ts os)))
     (λ z. omega arith)
+
+-- words that spell a model are there, and as many as a model may have parts
+pub spelled_there : (ts os : List ℕ) → spelled ts os ≡ true →
+    (2 ≤ length ts) × (2 ≤ length os) × (part_count ts ≤ most_parts)
+spelled_there ts os spells =
+    let had = spelled_room ts os spells in
+    (omega (arith, had.table), omega (arith, had.state), spelled_few ts os spells)
 
 -- the number that bars a call of a sound model, by the point that was read
 pub bars_lent : (ts os : List ℕ) (now : Point) (w k : ℕ) → sound (lent_model ts os) ≡ true → now ≡ stored_point os →

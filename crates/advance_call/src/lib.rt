@@ -7,13 +7,15 @@ ghost use Rattle.std.specs.Prelude.{◌≡◌, true};
 ghost use Rattle.machine.specs.Sound.{sound};
 ghost use Rattle.machine.specs.Advance.{barred_outcome};
 ghost use Rattle.machine.specs.Calls.{Advanced};
+ghost use Rattle.refusals.specs.Numbers.{refusal_number, refused_number};
 ghost use Rattle.words_store.specs.Form.{spelled};
-ghost use Rattle.advance_call.specs.Into.{AdvancedInto, AdvancedSound, lent_model};
+ghost use Rattle.advance_call.specs.Searching.{answer_of};
+ghost use Rattle.advance_call.specs.Into.{AdvancedInto, AdvancedSound, lent_model, number_with};
 
-use crate::barring::barred_number;
+use crate::barring::barred;
 use crate::search::searched_into;
 use machine::model::{Answer, Model, Outcome, PARTS};
-use refusals::numbers::{NOT_SOUND, TOO_SHORT};
+use refusals::Refusal;
 use sound_test::is_sound_in;
 use words_store::lookup::{STATE_ROOM, TABLE_ROOM, parts_of, point_of, state_words};
 use words_transfer::intake::put_fitting;
@@ -36,14 +38,7 @@ pub fn advance(m: Model, w: u64) -> Answer
     ensures { Advanced m w result }
 {
     if m.count > PARTS {
-        return Answer {
-            model: m,
-            number: 24,
-            step: 0,
-            rounds: 0,
-            revisions: 0,
-            ceiling: 0,
-        };
+        return answered(m, barred_outcome(Refusal::NotSound));
     }
     let mut table = [0u64; TABLE_ROOM];
     let mut old = [0u64; STATE_ROOM];
@@ -51,37 +46,48 @@ pub fn advance(m: Model, w: u64) -> Answer
     put_fitting(m, &mut table, &mut old);
     let ended = advance_into(&table, &old, w, &mut new);
     if ended.number != 0 {
-        return Answer {
-            model: m,
-            number: ended.number,
-            step: ended.step,
-            rounds: ended.rounds,
-            revisions: ended.revisions,
-            ceiling: ended.ceiling,
-        };
+        return answered(m, ended);
     }
     let next = recalled(m, &new);
+    answered(next, ended)
+}
+
+// The answer of a call that ended so and leaves this model.
+fn answered(model: Model, v: Outcome) -> Answer
+    ensures { result ≡ answer_of model v.number v.step v.rounds v.revisions v.ceiling }
+{
     Answer {
-        model: next,
-        number: ended.number,
-        step: ended.step,
-        rounds: ended.rounds,
-        revisions: ended.revisions,
-        ceiling: ended.ceiling,
+        model,
+        number: v.number,
+        step: v.step,
+        rounds: v.rounds,
+        revisions: v.revisions,
+        ceiling: v.ceiling,
     }
 }
 
-// How a call ends that a number bars: counts of 0.
-fn barred_outcome(number: u64) -> Outcome
-    ensures { result ≡ barred_outcome number }
+// How a call ends that a refusal bars: counts of 0.
+fn barred_outcome(refusal: Refusal) -> Outcome
+    ensures { result ≡ barred_outcome (refusal_number refusal) }
 {
     Outcome {
-        number: number,
+        number: refusal.number(),
         step: 0,
         rounds: 0,
         revisions: 0,
         ceiling: 0,
     }
+}
+
+// The tests 20, 23 and 25 of a call on words that spell a sound model, with `room` words lent for its new state.
+#[tactic(auto, using(crate::specs::IntoLaws::spelled_there, crate::specs::IntoLaws::bars_lent))]
+fn barred_into(table: &[u64], old: &[u64], w: u64, room: usize) -> Result<(), Refusal>
+    requires model_spelled { spelled table.now old.now ≡ true }
+    requires model_sound { sound (lent_model table.now old.now) ≡ true }
+    ensures { refused_number result ≡ number_with table.now old.now w room }
+{
+    barred(true, point_of(old), w)?;
+    Refusal::TooShort.when(room < state_words(parts_of(table)))
 }
 
 // One advance on lent words, of a state that the caller's proof knows to spell a sound model: the tests 20, 23 and 25
@@ -92,16 +98,10 @@ pub fn advance_sound_into(table: &[u64], old: &[u64], w: u64, new: &mut [u64]) -
     requires model_sound { sound (lent_model table.now old.now) ≡ true }
     ensures { AdvancedSound table.now old.now w new.old new.new result }
 {
-    let now = point_of(old);
-    let number = barred_number(true, now, w);
-    if number != 0 {
-        return barred_outcome(number);
+    match barred_into(table, old, w, new.len()) {
+        Ok(()) => searched_into(table, old, w, new),
+        Err(refusal) => barred_outcome(refusal),
     }
-    let count = parts_of(table);
-    if new.len() < state_words(count) {
-        return barred_outcome(TOO_SHORT);
-    }
-    searched_into(table, old, w, new)
 }
 
 // One advance on lent words, whatever they are: 24 where they spell no sound model, then as `advance_sound_into`.
@@ -109,7 +109,7 @@ pub fn advance_into(table: &[u64], old: &[u64], w: u64, new: &mut [u64]) -> Outc
     ensures { AdvancedInto table.now old.now w new.old new.new result }
 {
     if !is_sound_in(table, old) {
-        return barred_outcome(NOT_SOUND);
+        return barred_outcome(Refusal::NotSound);
     }
     advance_sound_into(table, old, w, new)
 }

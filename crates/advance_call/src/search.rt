@@ -2,8 +2,9 @@
 //
 // Its contracts cite this crate's `specs/Into.antt` and `specs/Searching.antt`, which go by `machine`'s
 // `specs/Advance.antt`, and `step_parts`'s `specs/StepInto.antt`.
-ghost use Rattle.std.specs.Prelude.{◌≡◌, true, eqb};
+ghost use Rattle.std.specs.Prelude.{◌≡◌, true};
 ghost use Rattle.machine.specs.Sound.{sound};
+ghost use Rattle.refusals.specs.Numbers.{refused_number};
 ghost use Rattle.words_store.specs.ModelIn.{WordsThere};
 ghost use Rattle.step_parts.specs.StepInto.{Steppable};
 ghost use Rattle.advance_call.specs.Into.{SearchedInto, lent_model};
@@ -15,36 +16,24 @@ use ask_parts::rounds::least_in;
 use ask_parts::trials::any_objects_in;
 use machine::model::Outcome;
 use machine::time::Ticks;
-use refusals::numbers::{DUE_AT_LAST_MICROSTEP, NO_STEP_ACCEPTED};
+use refusals::Refusal;
 use step_parts::settling::settled_into;
 use step_parts::step::trial_into;
 use words_store::lookup::point_of;
 use words_store::update::kept_in;
 
-// The number of the refusal of a step of `h` that all parts accept, 0 where it is made on trial.
-fn refusal_in(table: &[u64], state: &[u64], h: Ticks) -> u64
+// The refusal of a step of `h` that all parts accept, where it is not to be made on trial.
+#[tactic(auto, unfolding(crate::specs::Searching::refusal), using(crate::specs::Into::last_lent))]
+fn refusal_in(table: &[u64], state: &[u64], h: Ticks) -> Result<(), Refusal>
     requires words_there { WordsThere table.now state.now }
     requires model_sound { sound (lent_model table.now state.now) ≡ true }
-    ensures { result ≡ refusal (lent_model table.now state.now) h.0 }
+    ensures { refused_number result ≡ refusal (lent_model table.now state.now) h.0 }
 {
     if h.0 != 0 {
-        return 0;
+        return Ok(());
     }
-    if any_due_in(table, state) {
-        let now = point_of(state);
-        if leads_past(now, Ticks(0)) {
-            return DUE_AT_LAST_MICROSTEP;
-        }
-        return 0;
-    }
-    NO_STEP_ACCEPTED
-}
-
-// Whether a round at `h` that came to `least` changed nothing.
-fn changed_nothing(least: Ticks, h: Ticks) -> bool
-    ensures { result ≡ eqb least.0 h.0 }
-{
-    least.0 == h.0
+    Refusal::NoStepAccepted.when(!any_due_in(table, state))?;
+    Refusal::DueAtLastMicrostep.when(leads_past(point_of(state), Ticks(0)))
 }
 
 // How a call ends that nothing bars, its state left in `new`: rounds lower h under a ceiling until one changes nothing;
@@ -61,18 +50,17 @@ pub(crate) fn searched_into(table: &[u64], old: &[u64], w: u64, new: &mut [u64])
     let mut revisions: u64 = 0;
     'ceilings: loop {
         loop {
-            let least = least_in(table, old, Ticks(h), rounds);
+            let least = least_in(table, old, Ticks(h), rounds).0;
             rounds += 1;
-            if changed_nothing(least, Ticks(h)) {
-                let number = refusal_in(table, old, Ticks(h));
-                if number != 0 {
+            if least == h {
+                if let Err(refusal) = refusal_in(table, old, Ticks(h)) {
                     kept_in(table, old, new);
                     break 'ceilings Outcome {
-                        number: number,
+                        number: refusal.number(),
                         step: 0,
-                        rounds: rounds,
-                        revisions: revisions,
-                        ceiling: ceiling,
+                        rounds,
+                        revisions,
+                        ceiling,
                     };
                 }
                 trial_into(table, old, Ticks(h), new);
@@ -83,15 +71,15 @@ pub(crate) fn searched_into(table: &[u64], old: &[u64], w: u64, new: &mut [u64])
                 break 'ceilings Outcome {
                     number: 0,
                     step: h,
-                    rounds: rounds,
-                    revisions: revisions,
-                    ceiling: ceiling,
+                    rounds,
+                    revisions,
+                    ceiling,
                 };
             }
-            h = least.0;
+            h = least;
         }
         revisions += 1;
-        h = h / 2;
+        h /= 2;
         ceiling = h;
     }
 }
