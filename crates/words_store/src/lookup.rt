@@ -85,8 +85,8 @@ fn spans_at(table: &[u64], i: usize) -> [u32; SPANS]
 {
     let k = TABLE_RECORD * i + FIRST_SPAN;
     let mut spans = [0u32; SPANS];
-    for j in 0..SPANS {
-        spans[j] = (table[k + j] % 4294967296) as u32;
+    for (j, span) in spans.iter_mut().enumerate() {
+        *span = (table[k + j] % 4294967296) as u32;
     }
     spans
 }

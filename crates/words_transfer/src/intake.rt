@@ -42,8 +42,8 @@ fn put_spans(table: &mut [u64], i: usize, count: usize, spans: [u32; SPANS])
     ensures { SpansPut i count spans table.old table.new }
 {
     let k = TABLE_RECORD * i + FIRST_SPAN;
-    for j in 0..SPANS {
-        table[k + j] = if j < count { spans[j] as u64 } else { NO_SPAN };
+    for (j, span) in spans.iter().enumerate() {
+        table[k + j] = if j < count { *span as u64 } else { NO_SPAN };
     }
 }
 
@@ -60,11 +60,11 @@ fn put_wires(table: &mut [u64], i: usize, port0: Source, port1: Source, ratio: u
 }
 
 // What the table fixes of part `i`, its ratio, and the number at place `i` of the part order.
-fn put_component(table: &mut [u64], i: usize, c: Component, ratio: u64, number: u16)
+fn put_component(table: &mut [u64], i: usize, c: &Component, ratio: u64, number: u16)
     requires { table_words (i + 1) ≤ length table.old }
-    ensures { ComponentPut i c ratio number table.old table.new }
+    ensures { ComponentPut i c.now ratio number table.old table.new }
 {
-    put_operands(table, i, &c);
+    put_operands(table, i, c);
     put_spans(table, i, c.span_count, c.spans);
     put_wires(table, i, c.port0, c.port1, ratio, number);
 }
@@ -91,7 +91,7 @@ pub fn put_fitting(m: Model, table: &mut [u64], state: &mut [u64])
     put_point(state, m.point);
     for i in 0..m.count {
         let p = m.parts[i];
-        put_component(table, i, p.component, p.ratio, m.order[i]);
+        put_component(table, i, &p.component, p.ratio, m.order[i]);
         put_state(state, i, p.state);
     }
 }

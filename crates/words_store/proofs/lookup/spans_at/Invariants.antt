@@ -10,4 +10,4 @@ abbrev span : List ℕ → ℕ → ℕ → ℕ
 span words i j = slot words (18 * i + 8 + j) % 4294967296
 
 abbrev pub invariant-loop-j : goal.invariant-loop-j
-invariant-loop-j l = Filled (span l.table l.i) 8 l.j l.spans
+invariant-loop-j l = Filled (span l.table l.i) 8 l.j l.span-items
