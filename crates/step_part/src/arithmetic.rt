@@ -16,7 +16,7 @@ pub(crate) fn clamped(v: i64) -> i64
 }
 
 // A gain's output.
-#[tactic(auto, unfolding(machine::specs::Signal::product))]
+#[tactic(auto, using(crate::proofs::Values::values), unfolding(machine::specs::Signal::product))]
 pub(crate) fn product_of(a: i64, x: Signal) -> Signal
     requires a_value { is_value a ≡ true }
     requires x_value { is_signal x ≡ true }
@@ -29,7 +29,7 @@ pub(crate) fn product_of(a: i64, x: Signal) -> Signal
 }
 
 // An adder's output.
-#[tactic(auto, unfolding(machine::specs::Signal::total))]
+#[tactic(auto, using(crate::proofs::Values::values), unfolding(machine::specs::Signal::total))]
 pub(crate) fn total_of(x: Signal, y: Signal) -> Signal
     requires x_value { is_signal x ≡ true }
     requires y_value { is_signal y ≡ true }
@@ -45,17 +45,14 @@ pub(crate) fn total_of(x: Signal, y: Signal) -> Signal
 }
 
 // What a held number becomes over `d` local ticks.
-#[tactic(auto, unfolding(machine::specs::Signal::integral))]
+#[tactic(auto, using(crate::proofs::Values::values), unfolding(machine::specs::Signal::integral))]
 pub(crate) fn integral_of(held: i64, x: Signal, d: LocalTicks) -> i64
     requires held_value { is_value held ≡ true }
     requires x_value { is_signal x ≡ true }
     requires d_bound { d.0 ≤ 1_000_000_000 }
     ensures { result ≡ integral held x d.0 }
 {
-    match x {
-        Signal::Absent => clamped(held),
-        Signal::Value(v) => clamped(held + v * (d.0 as i64)),
-    }
+    clamped(held + integrated_of(x) * (d.0 as i64))
 }
 
 // The number that a signal counts as where it is integrated.

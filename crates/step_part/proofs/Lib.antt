@@ -1,0 +1,2 @@
+-- Lemmas for the goals of functions.
+pub mod Values
