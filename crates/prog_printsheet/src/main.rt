@@ -4,7 +4,7 @@
 // tell it by.
 #![tactic(auto)]
 
-ghost use Rattle.std.specs.Prelude.{◌≡◌, ◌≤◌, length};
+ghost use Rattle.std.specs.Prelude.{◌≡◌, length};
 ghost use Rattle.prog_printsheet.specs.SheetPrinted.{most_input};
 
 use crate::choice::choice_of;
@@ -15,7 +15,7 @@ use refusals::numbers::CUT;
 mod choice;
 
 // How many bytes of standard input are read: those of the choice, and 65,536 of the stream.
-const MOST: usize = 65548;
+const MOST: usize = CHOICE + 65536;
 
 // How many bytes have room for the line of a refusal.
 const LINE: usize = 64;
@@ -24,8 +24,7 @@ const LINE: usize = 64;
 fn print_short() -> bool {
     let mut line = [0u8; LINE];
     let said = refuse(true, CUT, 0, &mut line);
-    let end = said.used;
-    io::write_all(2, &line[..end])
+    io::write_all(2, &line[..said.used])
 }
 
 // All that is printed for an input, and whether it was written.
@@ -33,24 +32,22 @@ fn print_sheet(input: &[u8]) -> bool {
     if input.len() < CHOICE {
         return print_short();
     }
-    let choice = choice_of(input);
-    print_score(&input[CHOICE..], Format::Sheet(choice))
+    print_score(&input[CHOICE..], Format::Sheet(choice_of(input)))
 }
 
-// All that is printed for the first `n` bytes of `room`, and whether it was written. It is called with what was read
-// into a buffer: one that has room for all bytes that count, and for no other.
-fn print_read(room: &[u8], n: usize) -> bool
-    requires room_size { length room.now ≡ most_input }
-    requires n_within { n ≤ length room.now }
+// All that is printed for the bytes of standard input that count, and whether it was written. They are read into a
+// buffer that has room for all bytes that count, and for no other.
+fn print_read(room: &mut [u8]) -> bool
+    requires { length room.old ≡ most_input }
 {
+    let n = io::read_full(0, room);
     print_sheet(&room[..n])
 }
 
 // The bytes of standard input that count, printed as a sheet.
 fn main() {
     let mut room = [0u8; MOST];
-    let n = io::read_full(0, &mut room);
-    if !print_read(&room, n) {
+    if !print_read(&mut room) {
         io::write_all(2, b"printsheet: not all lines could be written\n");
     }
 }
