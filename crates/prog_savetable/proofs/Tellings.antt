@@ -3,8 +3,9 @@
 use Prim.Native.Nat.{ℕ, ◌≤◌}
 use native.Mathlib.Omega.{arith}
 use mathlib.Core.Path.{◌≡◌, refl, sym, ap, ◌∙◌}
-use mathlib.Core.Bool.{Bool, true, false, not}
+use mathlib.Core.Bool.{true, not}
 use mathlib.Core.List.{List}
+use Rattle.std.specs.Prelude.{Result, Ok, Err, is_err}
 use lib.Dec.{eqb}
 use lib.ListN.{length, length-take}
 use borrow.Author.Tests.{ne_eqb}
@@ -22,43 +23,37 @@ use Rattle.words_store.specs.ModelIn.{model_in}
 use Rattle.words_transfer.specs.ModelPut.{ModelPut}
 use Rattle.load_call.specs.LoadOwed.{accepted_is_a_table}
 use Rattle.save_call.specs.SavedInto.{SavedInto, sound_saved}
-use Rattle.prog_savetable.specs.Telling.{told_text, ToldOf}
+use Rattle.prog_savetable.specs.Telling.{told_length, told_text, ToldOf}
 
 -- a text that was written where there is room for it
-told_whole : (bs text before after : List ℕ) (w : Written) (refused : Bool) → refused ≡ not (eqb (load bs).number 0) →
-    text ≡ told_text bs →
-    WrittenAs 0 text before after w → length text ≤ length before → ToldOf bs after (record {
-      refused = refused;
-      length = w.length;
-    })
-told_whole bs text before after w refused known is written long =
+told_whole : (bs text before after : List ℕ) (w : Written) (r : Result ℕ ℕ) → told_length r ≡ w.length →
+    is_err r ≡ not (eqb (load bs).number 0) → text ≡ told_text bs → WrittenAs 0 text before after w →
+    length text ≤ length before → ToldOf bs after r
+told_whole bs text before after w r counted known is written long =
     let whole = written_whole 0 text before after w written (enough_room written long) in
     record {
       refused = known;
-      text = whole.front ∙ is;
-      within = omega (arith, length-take w.length after, ap length whole.front, whole.size);
+      text = rw counted (whole.front ∙ is);
+      within = rw counted (omega (arith, length-take w.length after, ap length whole.front, whole.size));
     }
 
 -- the line of a refused load
 pub refusal_told : (bs before after : List ℕ) (r : Loaded) (w : Written) → trimmed_loaded r ≡ load bs →
     (r.number ≡ 0 → ⊥) → longest_table ≤ length before →
     WrittenAs 0 (refused_at_line r.number r.position) before after w → w.length ≤ 64 →
-    ToldOf bs after (record { refused = true; length = w.length })
+    ToldOf bs after (Err w.length)
 unfolding trimmed_loaded told_text
 refusal_told bs before after r w is some room written short =
     let number : (load bs).number ≡ r.number = ap (λ (l : Loaded). l.number) (sym is) in
     let position : (load bs).position ≡ r.position = ap (λ (l : Loaded). l.position) (sym is) in
-    told_whole bs (refused_at_line r.number r.position) before after w true
+    told_whole bs (refused_at_line r.number r.position) before after w (Err w.length) refl
     (rw (number, ne_eqb r.number 0 some) refl)
     (rw (number, position, ne_eqb r.number 0 some) refl) written (omega (arith, room, short, size_told written))
 
 -- the bytes of the table of an accepted one, whose model was put into words
 pub table_told : (bs ts ss before after : List ℕ) (r : Loaded) (w : Written) → trimmed_loaded r ≡ load bs →
     r.number ≡ 0 → longest_table ≤ length before →
-    ModelPut r.model ts ss → SavedInto ts ss before after w → ToldOf bs after (record {
-      refused = false;
-      length = w.length;
-    })
+    ModelPut r.model ts ss → SavedInto ts ss before after w → ToldOf bs after (Ok w.length)
 unfolding trimmed_loaded told_text
 table_told bs ts ss before after r w is none room put saved =
     let m = trimmed (model_in ts ss) in
@@ -66,5 +61,5 @@ table_told bs ts ss before after r w is none room put saved =
     let model : m ≡ (load bs).model = put.is ∙ ap (λ (l : Loaded). l.model) is in
     let sounds : sound m ≡ true = ap sound put.is ∙ (accepted_is_a_table bs r is none).1.sound in
     let written = rw (sound_saved ts ss put.form sounds) at saved in
-    told_whole bs (saved_bytes m) before after w false (rw number refl) (rw (number, model) refl) written
+    told_whole bs (saved_bytes m) before after w (Ok w.length) refl (rw number refl) (rw (number, model) refl) written
     (omega (arith, room, (every_saved_model m sounds).short))

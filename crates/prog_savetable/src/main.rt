@@ -3,7 +3,7 @@
 // Where bytes could not be written it says so there, since a program has no exit status of its own to tell it by.
 #![tactic(auto)]
 
-ghost use Rattle.std.specs.Prelude.{◌≤◌, ◌≡◌, length, take};
+ghost use Rattle.std.specs.Prelude.{◌≤◌, ◌≡◌, length};
 ghost use Rattle.machine.specs.Rehearse.{most_read};
 ghost use Rattle.machine.specs.Save.{longest_table};
 ghost use Rattle.prog_savetable.specs.Telling.{ToldOf};
@@ -14,66 +14,47 @@ use words_store::lookup::{STATE_ROOM, TABLE_ROOM};
 use words_transfer::intake::put_fitting;
 use write_lines::line::write_refused_at;
 
-// How many bytes of standard input are read, as many as `rehearse` reads.
-const MOST: usize = 65536;
-
 // How many bytes there is room for: those of the longest table, which the line of a refusal is shorter than.
 const ROOM: usize = 1891;
 
-// What there is to tell of a stream: whether its load was refused, and how many bytes of a buffer tell it.
-#[derive(Clone, Copy)]
-struct Told {
-    refused: bool,
-    length: usize,
-}
-
-// The bytes of the table of a stream, or the line of its refusal.
-fn tell(stream: &[u8], out: &mut [u8]) -> Told
+// Puts what there is to tell of a stream in front of a buffer: the bytes of its table, or as an error the line of its
+// refusal. It answers how many bytes tell it.
+fn tell(stream: &[u8], out: &mut [u8]) -> Result<usize, usize>
     requires { longest_table ≤ length out.old }
     ensures { ToldOf stream.now out.new result }
 {
     let loaded = load(stream);
     if loaded.number != 0 {
         let length = write_refused_at(loaded.number, loaded.position, out).unwrap();
-        return Told {
-            refused: true,
-            length: length,
-        };
+        return Err(length);
     }
-    let model = loaded.model;
     let mut table = [0u64; TABLE_ROOM];
     let mut state = [0u64; STATE_ROOM];
-    put_fitting(model, &mut table, &mut state);
+    put_fitting(loaded.model, &mut table, &mut state);
     let saved = save(&table, &state, out);
-    Told {
-        refused: false,
-        length: saved.length,
-    }
+    Ok(saved.length)
 }
 
-// What there is to tell of the first `n` bytes of `room`. It is called with what was read into a buffer: one that has
-// room for all bytes that count, and for no other.
-fn tell_read(room: &[u8], n: usize, out: &mut [u8]) -> Told
-    requires room_size { length room.now ≡ most_read }
-    requires n_within { n ≤ length room.now }
-    requires has_room { longest_table ≤ length out.old }
-    ensures { ToldOf (take n room.now) out.new result }
+// The bytes of standard input that count. They are read into a buffer that has room for all of them, and for no other.
+fn read_stream(room: &mut [u8]) -> &[u8]
+    requires { length room.old ≡ most_read }
 {
-    tell(&room[..n], out)
+    let n = io::read_full(0, room);
+    &room[..n]
 }
 
 // The table of the first 65,536 bytes of standard input, saved.
 fn main() {
-    let mut room = [0u8; MOST];
-    let n = io::read_full(0, &mut room);
+    let mut room = io::large_buffer();
     let mut text = [0u8; ROOM];
-    let told = tell_read(&room, n, &mut text);
-    let end = told.length;
-    if told.refused {
-        io::write_all(2, &text[..end]);
-        return;
-    }
-    if !io::write_all(1, &text[..end]) {
-        io::write_all(2, b"savetable: not all bytes could be written\n");
+    match tell(read_stream(&mut room), &mut text) {
+        Err(length) => {
+            io::write_all(2, &text[..length]);
+        }
+        Ok(length) => {
+            if !io::write_all(1, &text[..length]) {
+                io::write_all(2, b"savetable: not all bytes could be written\n");
+            }
+        }
     }
 }
