@@ -1,6 +1,5 @@
 // What loading and the test of soundness ask of kinds, operands, magnitudes, ratios, sources, spans and
-// components, and the numbers of the kinds, which a model's bytes hold too. Each answer is the machine's own
-// definition of it.
+// components. Each answer is the machine's own definition of it.
 #![tactic(auto)]
 
 pub mod component;
