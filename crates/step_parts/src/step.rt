@@ -22,9 +22,7 @@ pub fn trial_into(table: &[u64], old: &[u64], h: Ticks, new: &mut [u64])
     ensures { TrialInto table.now old.now h.0 new.old new.new }
 {
     let from = point_of(old);
-    let Some(to) = from.step(h) else {
-        return;
-    };
+    let to = from.step(h).unwrap();
     moved_into(table, old, h, new);
     put_point(new, to);
     filled_into(table, old, new);
