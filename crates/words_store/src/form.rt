@@ -13,30 +13,36 @@ use crate::layout::{
 };
 use crate::lookup::{parts_of, state_words, table_words};
 use machine::model::PARTS;
-use machine::part::SPANS;
+use machine::part::{Kind, Mark, SPANS, Side};
 
-// The largest word, and the largest number of 32 bits.
+// The largest word, and the largest numbers of 32, of 16 and of 8 bits.
 const ANY: u64 = u64::MAX;
 
 const ANY_32: u64 = u32::MAX as u64;
 
-// The largest codes: of a kind, of a signal's presence, of a side and of a mark.
-const LAST_KIND: u64 = 12;
+const ANY_16: u64 = u16::MAX as u64;
+
+const ANY_8: u64 = u8::MAX as u64;
+
+// The largest codes: of a kind, of a port, of a signal's presence, of a side and of a mark.
+const LAST_KIND: u64 = Kind::Clapper as u64;
+
+const LAST_PORT: u64 = ANY_16 + 1;
 
 const LAST_PRESENCE: u64 = 1;
 
-const LAST_SIDE: u64 = 2;
+const LAST_SIDE: u64 = Side::Positive as u64;
 
-const LAST_MARK: u64 = 2;
+const LAST_MARK: u64 = Mark::Falling as u64;
 
 // The largest numbers in the words of a part: in those before its spans in the table, in its spans, in those after
 // them, and in its state. The lists of `specs/Form.antt` say which field each word is. They are no constants: a
 // constant is copied to be read.
-static OPERAND_LIMITS: [u64; 6] = [LAST_KIND, 255, ANY, ANY, ANY_32, ANY];
+static OPERAND_LIMITS: [u64; 6] = [LAST_KIND, ANY_8, ANY, ANY, ANY_32, ANY];
 
 static SPAN_LIMITS: [u64; SPANS] = [ANY_32; SPANS];
 
-static WIRE_LIMITS: [u64; 4] = [65536, 65536, ANY, 65535];
+static WIRE_LIMITS: [u64; 4] = [LAST_PORT, LAST_PORT, ANY, ANY_16];
 
 static STATE_LIMITS: [u64; STATE_RECORD] = [
     ANY,
@@ -118,7 +124,7 @@ pub fn spelled(table: &[u64], state: &[u64]) -> bool
         return false;
     }
     let count = parts_of(table);
-    table[0] <= 255
+    table[0] <= ANY_8
         && count <= PARTS
         && table.len() >= table_words(count)
         && state.len() >= state_words(count)

@@ -25,7 +25,8 @@ pub const TABLE_ROOM: usize = TABLE_RECORD * PARTS + HEADER;
 
 pub const STATE_ROOM: usize = STATE_RECORD * PARTS + HEADER;
 
-// How many words the table of that many parts has.
+// How many words the table of that many parts has. A table's and a state's each keep the name that callers and clauses
+// have for it: with a const parameter in its place the one line would be two.
 pub fn table_words(parts: usize) -> usize
     requires { table_words parts ≤ any_word }
     ensures { result ≡ table_words parts }

@@ -10,7 +10,7 @@ ghost use Rattle.words_transfer.specs.ModelPut.{HeaderPut, KeptBehind, ModelPut}
 ghost use Rattle.words_transfer.specs.PutInto.{PutInto};
 
 use machine::model::{Model, PARTS};
-use machine::part::{Component, SPANS, Source};
+use machine::part::{Component, Part};
 use refusals::numbers::{NOT_SOUND, TOO_SHORT};
 use words_codec::fields::Field;
 use words_store::layout::{
@@ -36,37 +36,41 @@ fn put_operands(table: &mut [u64], i: usize, c: &Component)
     table[k + SPAN_COUNT] = c.span_count as u64;
 }
 
-// The eight places for spans of part `i`, of which the first `count` are in use. The others are 0.
-fn put_spans(table: &mut [u64], i: usize, count: usize, spans: [u32; SPANS])
+// The eight places for spans of part `i`, of which those in use come first. The others are 0.
+fn put_spans(table: &mut [u64], i: usize, c: &Component)
     requires { table_words (i + 1) ≤ length table.old }
-    ensures { SpansPut i count spans table.old table.new }
+    ensures { SpansPut i c.now.span_count c.now.spans table.old table.new }
 {
     let k = TABLE_RECORD * i + FIRST_SPAN;
-    for (j, span) in spans.iter().enumerate() {
-        table[k + j] = if j < count { *span as u64 } else { NO_SPAN };
+    for (j, span) in c.spans.iter().enumerate() {
+        table[k + j] = if j < c.span_count {
+            *span as u64
+        } else {
+            NO_SPAN
+        };
     }
 }
 
 // The ports of part `i`, its ratio, and the number at place `i` of the part order.
-fn put_wires(table: &mut [u64], i: usize, port0: Source, port1: Source, ratio: u64, number: u16)
+fn put_wires(table: &mut [u64], i: usize, p: &Part, number: u16)
     requires { table_words (i + 1) ≤ length table.old }
-    ensures { WiresPut i port0 port1 ratio number table.old table.new }
+    ensures { WiresPut i p.now.component.port0 p.now.component.port1 p.now.ratio number table.old table.new }
 {
     let k = TABLE_RECORD * i;
-    table[k + PORT0] = port0.encode();
-    table[k + PORT1] = port1.encode();
-    table[k + RATIO] = ratio;
+    table[k + PORT0] = p.component.port0.encode();
+    table[k + PORT1] = p.component.port1.encode();
+    table[k + RATIO] = p.ratio.encode();
     table[k + ORDER] = number as u64;
 }
 
 // What the table fixes of part `i`, its ratio, and the number at place `i` of the part order.
-fn put_component(table: &mut [u64], i: usize, c: &Component, ratio: u64, number: u16)
+fn put_component(table: &mut [u64], i: usize, p: &Part, number: u16)
     requires { table_words (i + 1) ≤ length table.old }
-    ensures { ComponentPut i c.now ratio number table.old table.new }
+    ensures { ComponentPut i p.now.component p.now.ratio number table.old table.new }
 {
-    put_operands(table, i, c);
-    put_spans(table, i, c.span_count, c.spans);
-    put_wires(table, i, c.port0, c.port1, ratio, number);
+    put_operands(table, i, &p.component);
+    put_spans(table, i, &p.component);
+    put_wires(table, i, p, number);
 }
 
 // The default magnitude and the count of parts.
@@ -91,7 +95,7 @@ pub fn put_fitting(m: Model, table: &mut [u64], state: &mut [u64])
     put_point(state, m.point);
     for i in 0..m.count {
         let p = m.parts[i];
-        put_component(table, i, &p.component, p.ratio, m.order[i]);
+        put_component(table, i, &p, m.order[i]);
         put_state(state, i, p.state);
     }
 }

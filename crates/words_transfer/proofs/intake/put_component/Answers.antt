@@ -4,4 +4,5 @@ use Rattle.words_transfer.proofs.intake.put_component.Goals as goal
 
 pub returns : goal.returns
 returns c =
-    component_put c.args.i c.args.c.now _ _ _ _ _ _ c.put_operands.ensures c.put_spans.ensures c.put_wires.ensures
+    component_put c.args.i c.args.p.now.component _ _ _ _ _ _ c.put_operands.ensures c.put_spans.ensures
+    c.put_wires.ensures

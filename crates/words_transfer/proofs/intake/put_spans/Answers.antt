@@ -7,9 +7,11 @@ use Rattle.words_transfer.proofs.intake.put_spans.Goals as goal
 
 pub returns : goal.returns
 returns c =
-    let g = c.args in
+    let i = c.args.i in
+    let part = c.args.c.now in
     let table = c.loop-j.table in
     let done : c.loop-j.j ≡ 8 = omega arith in
-    spans_put g.i g.count g.spans g.table.now table
-    (subst (λ (n : ℕ). SpansFirst (18 * g.i + 8) n g.count g.spans g.table.now table) done c.loop-j.invariant)
+    spans_put i part.span_count part.spans c.args.table.now table
+    (subst (λ (n : ℕ). SpansFirst (18 * i + 8) n part.span_count part.spans c.args.table.now table) done
+    c.loop-j.invariant)
     (omega arith)
