@@ -1,5 +1,5 @@
--- The test of a part, of a trimmed one: trimming changes places for spans alone, and keeps all that the tests after that
--- of the component read. Assumes nothing.
+-- The test of a part, of a trimmed one: trimming changes places for spans alone, and keeps all that is tested after the
+-- component. Assumes nothing.
 use Rattle.std.specs.Prelude.{ℕ, ◌*◌, ◌≡◌, refl, ◌&&◌, eqb, leb}
 use Rattle.machine.specs.declared.part.Part.{Part}
 use Rattle.machine.specs.Model.{trimmed_component, trimmed_part}
