@@ -15,6 +15,7 @@ ghost use Rattle.order_place.specs.OrderByMarks.{InOrder};
 use machine::model::PARTS;
 use machine::part::{Component, Source};
 use part_rules::port::{direct0_of, direct1_of};
+use std::array;
 
 // The parts placed, in order. Of `order` the first `count` places are in use, and 0 is in the others: a model holds
 // its order so, with no heap.
@@ -49,11 +50,11 @@ pub fn direct_sources(part: Component) -> Direct
     }
 }
 
-// The direct sources of all parts.
+// The direct sources of all parts. An array's map would copy the components once more to the stack.
 fn all_direct(parts: [Component; PARTS]) -> [Direct; PARTS]
     ensures { result ≡ map direct_of parts }
 {
-    parts.map(direct_sources)
+    array::from_fn(|i| direct_sources(parts[i]))
 }
 
 // Whether the source is placed: its mark is clear.
