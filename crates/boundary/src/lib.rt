@@ -9,14 +9,16 @@
 
 ghost use Rattle.std.specs.Prelude.{◌≡◌, [], ◌∷◌, ◌≤◌, length, set};
 ghost use Rattle.machine.specs.Model.{most_parts};
+ghost use Rattle.refusals.specs.Unwritten.{written_of};
 ghost use Rattle.boundary.specs.PutFront.{put_front};
 ghost use Rattle.boundary.specs.Exported.{AdvancedWords, LoadedWords, PreviewedWords, PrintedInto, PrintedWords};
-ghost use Rattle.boundary.specs.Exported.{SavedWords, TakenIn, outcome_lent};
+ghost use Rattle.boundary.specs.Exported.{SavedWords, TakenIn, outcome_lent, outcome_words};
 
 use advance_call::advance_into;
 use load_call::load;
 use machine::model::{Model, Outcome, Written};
 use preview_call::preview_into;
+use refusals::Unwritten;
 use refusals::numbers::NOT_SOUND;
 use save_call::save;
 use sheet_call::sheet;
@@ -25,7 +27,8 @@ use words_transfer::intake::put_model;
 // How many words spell how a call ended.
 const OUTCOME: usize = 5;
 
-// A word of `out` written, where `out` has that place.
+// A word of `out` written, where `out` has that place. It is written by index: no clause says what a slice holds once a
+// place that `get_mut` lent goes back, which `returns` asks for.
 fn put_word(out: &mut [u64], at: usize, word: u64)
     ensures { out.new ≡ set out.old at word }
 {
@@ -43,15 +46,27 @@ fn put_found(out: &mut [u64], number: u64, position: u64)
 }
 
 // An advance's numbers, or a preview's.
-fn put_counts(out: &mut [u64], number: u64, step: u64, rounds: u64, revisions: u64, ceiling: u64)
-    ensures { out.new ≡
-        put_front (number ∷ step ∷ rounds ∷ revisions ∷ ceiling ∷ []) out.old }
+fn put_counts(out: &mut [u64], ended: Outcome)
+    ensures { out.new ≡ put_front (outcome_words ended) out.old }
 {
-    put_word(out, 0, number);
-    put_word(out, 1, step);
-    put_word(out, 2, rounds);
-    put_word(out, 3, revisions);
-    put_word(out, 4, ceiling);
+    put_word(out, 0, ended.number);
+    put_word(out, 1, ended.step);
+    put_word(out, 2, ended.rounds);
+    put_word(out, 3, ended.revisions);
+    put_word(out, 4, ended.ceiling);
+}
+
+// What a call that writes bytes returned, as its number and its length: the words of `out` have room for both.
+fn told(written: Result<usize, Unwritten>) -> Written
+    ensures { result ≡ written_of written }
+{
+    match written {
+        Ok(length) => Written { number: 0, length },
+        Err(unwritten) => Written {
+            number: unwritten.number(),
+            length: unwritten.needed(),
+        },
+    }
 }
 
 // How a call ended, by the words that an advance or a preview writes.
@@ -121,14 +136,7 @@ pub extern "C" fn dozhumek_advance(
         out.old out.new result }
 {
     let ended = advance_into(table, old, wanted, new);
-    put_counts(
-        out,
-        ended.number,
-        ended.step,
-        ended.rounds,
-        ended.revisions,
-        ended.ceiling,
-    );
+    put_counts(out, ended);
     ended.number
 }
 
@@ -149,14 +157,7 @@ pub extern "C" fn dozhumek_preview(
         out.old out.new result }
 {
     let ended = preview_into(table, old, wanted, new);
-    put_counts(
-        out,
-        ended.number,
-        ended.step,
-        ended.rounds,
-        ended.revisions,
-        ended.ceiling,
-    );
+    put_counts(out, ended);
     ended.number
 }
 
@@ -175,7 +176,7 @@ pub extern "C" fn dozhumek_save(
         buffer.old buffer.new
         out.old out.new result }
 {
-    let written = save(table, state, buffer);
+    let written = told(save(table, state, buffer));
     put_found(out, written.number, written.length as u64);
     written.number
 }

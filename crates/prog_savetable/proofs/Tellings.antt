@@ -22,7 +22,7 @@ use Rattle.write_bytes.specs.Fitting.{size_told, enough_room, written_whole}
 use Rattle.words_store.specs.ModelIn.{model_in}
 use Rattle.words_transfer.specs.ModelPut.{ModelPut}
 use Rattle.load_call.specs.LoadOwed.{accepted_is_a_table}
-use Rattle.save_call.specs.SavedInto.{SavedInto, sound_saved}
+use Rattle.save_call.specs.SavedInto.{SavedInto, lent_refusal, sound_saved}
 use Rattle.prog_savetable.specs.Telling.{told_length, told_text, ToldOf}
 
 -- a text that was written where there is room for it
@@ -50,7 +50,16 @@ refusal_told bs before after r w is some room written short =
     (rw (number, ne_eqb r.number 0 some) refl)
     (rw (number, position, ne_eqb r.number 0 some) refl) written (omega (arith, room, short, size_told written))
 
--- the bytes of the table of an accepted one, whose model was put into words
+-- the table of an accepted one, whose model was put into words, is saved, and no longer than the longest
+pub table_whole : (bs ts ss : List ℕ) (r : Loaded) → trimmed_loaded r ≡ load bs → r.number ≡ 0 →
+    ModelPut r.model ts ss →
+    (lent_refusal ts ss ≡ 0) × (length (saved_bytes (trimmed (model_in ts ss))) ≤ longest_table)
+table_whole bs ts ss r is none put =
+    let m = trimmed (model_in ts ss) in
+    let sounds : sound m ≡ true = ap sound put.is ∙ (accepted_is_a_table bs r is none).1.sound in
+    (sound_saved ts ss put.form sounds, (every_saved_model m sounds).short)
+
+-- its bytes
 pub table_told : (bs ts ss before after : List ℕ) (r : Loaded) (w : Written) → trimmed_loaded r ≡ load bs →
     r.number ≡ 0 → longest_table ≤ length before →
     ModelPut r.model ts ss → SavedInto ts ss before after w → ToldOf bs after (Ok w.length)
@@ -59,7 +68,6 @@ table_told bs ts ss before after r w is none room put saved =
     let m = trimmed (model_in ts ss) in
     let number : (load bs).number ≡ 0 = ap (λ (l : Loaded). l.number) (sym is) ∙ none in
     let model : m ≡ (load bs).model = put.is ∙ ap (λ (l : Loaded). l.model) is in
-    let sounds : sound m ≡ true = ap sound put.is ∙ (accepted_is_a_table bs r is none).1.sound in
-    let written = rw (sound_saved ts ss put.form sounds) at saved in
-    told_whole bs (saved_bytes m) before after w (Ok w.length) refl (rw number refl) (rw (number, model) refl) written
-    (omega (arith, room, (every_saved_model m sounds).short))
+    let whole = table_whole bs ts ss r is none put in
+    told_whole bs (saved_bytes m) before after w (Ok w.length) refl (rw number refl) (rw (number, model) refl)
+    (rw whole.0 at saved) (omega (arith, room, whole.1))

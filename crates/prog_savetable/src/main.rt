@@ -31,8 +31,8 @@ fn tell(stream: &[u8], out: &mut [u8]) -> Result<usize, usize>
     let mut table = [0u64; TABLE_ROOM];
     let mut state = [0u64; STATE_ROOM];
     put_fitting(loaded.model, &mut table, &mut state);
-    let saved = save(&table, &state, out);
-    Ok(saved.length)
+    let length = save(&table, &state, out).unwrap();
+    Ok(length)
 }
 
 // The bytes of standard input that count. They are read into a buffer that has room for all of them, and for no other.

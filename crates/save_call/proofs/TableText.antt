@@ -1,6 +1,6 @@
 -- The bytes of a table part by part: what one part more adds to them, how long they are, and what a table that fits
 -- grants of the words of each part. Assumes nothing.
-use Prim.Native.Nat.{ℕ, zero, suc, ◌+◌, ◌*◌, ◌-◌, ◌/◌, ◌%◌, ◌≤◌, ◌<◌}
+use Prim.Native.Nat.{ℕ, zero, suc, ◌+◌, ◌*◌, ◌-◌, ◌≤◌, ◌<◌}
 use native.Mathlib.Nat.{add-zero, add-suc}
 use native.Mathlib.Numerals.{add-one}
 use native.Mathlib.Omega.{arith}
@@ -8,23 +8,21 @@ use mathlib.Core.Path.{◌≡◌, refl, ap, ◌∙◌}
 use mathlib.Core.Bool.{true}
 use mathlib.Core.List.{List, [], ◌∷◌, ◌++◌, append_assoc, append-nil}
 use lib.ListN.{length, length-append}
-use lib.IntN.{ℤ, pos, negsuc}
 use lib.Dec.{ltb}
-use borrow.Author.Tests.{leb-true, ltb-true}
+use borrow.Author.Tests.{ltb-true}
 use Rattle.machine.specs.declared.part.Source.{Source}
 use Rattle.machine.specs.declared.part.Source.TheVariants.{Unwired, From}
 use Rattle.machine.specs.declared.part.Component.{Component}
-use Rattle.machine.specs.Signal.{is_value, largest_value}
 use Rattle.machine.specs.Kind.{operands_fit, ports}
 use Rattle.machine.specs.Model.{most_parts, blank_component, trimmed_component}
 use Rattle.machine.specs.Sound.{source_fits, table_fits}
-use Rattle.machine.specs.TableBytes.{operand_bytes, signed_operand, part_bytes, spans_bytes, parts_bytes, port_bytes}
+use Rattle.machine.specs.TableBytes.{part_bytes, spans_bytes, parts_bytes, port_bytes}
 use Rattle.machine.specs.TableBytes.{wires_bytes}
 use Rattle.laws.specs.Bools.{and_right}
 use Rattle.laws.specs.ListLaws.{all_at}
 use Rattle.sound_laws.specs.Facts.{ComponentFits, table_facts}
 use Rattle.sound_laws.specs.ByteLengths.{spans_length, part_length, few_spans}
-use Rattle.words_codec.specs.Words.{tabulate, encode_signed}
+use Rattle.words_codec.specs.Words.{tabulate}
 use Rattle.words_codec.specs.Tables.{length_table, table_at}
 use Rattle.words_store.specs.ModelIn.{part_count, stored_component}
 use Rattle.save_call.specs.LentTable.{lent_component, lent_table, SourceInByte, part_text, wires_text}
@@ -94,26 +92,6 @@ pub grows : (g h : ℕ → List ℕ) → ((i : ℕ) → g (i + 1) ≡ g i ++ h i
 grows g h more i n low =
     let sum : i + (n - i) ≡ n = omega arith in
     rw sum at (grown g h more i (n - i))
-
--- the lowest four bytes of a value's word are its signed operand's
-pub operand_low : (z : ℤ) → is_value z ≡ true → operand_bytes (encode_signed z) ≡ operand_bytes (signed_operand z)
-unfolding is_value encode_signed signed_operand operand_bytes
-operand_low (pos n) h = refl
-operand_low (negsuc n) h =
-    let small = leb-true (suc n) largest_value h in
-    let word : 18446744073709551615 - n ≡ 18446744069414584320 + (4294967295 - n) = omega arith in
-    simp (word, low (4294967295 - n))
-  where
-    low : (v : ℕ) → operand_bytes (18446744069414584320 + v) ≡ operand_bytes v
-    low v =
-        let first : (18446744069414584320 + v) / 256 ≡ 72057594021150720 + v / 256 = omega arith in
-        let second : (72057594021150720 + v / 256) / 256 ≡ 281474976645120 + v / 256 / 256 = omega arith in
-        let third : (281474976645120 + v / 256 / 256) / 256 ≡ 1099511627520 + v / 256 / 256 / 256 = omega arith in
-        let byte0 : (18446744069414584320 + v) % 256 ≡ v % 256 = omega arith in
-        let byte1 : (72057594021150720 + v / 256) % 256 ≡ v / 256 % 256 = omega arith in
-        let byte2 : (281474976645120 + v / 256 / 256) % 256 ≡ v / 256 / 256 % 256 = omega arith in
-        let byte3 : (1099511627520 + v / 256 / 256 / 256) % 256 ≡ v / 256 / 256 / 256 % 256 = omega arith in
-        rw (first, second, third, byte0, byte1, byte2, byte3) refl
 
 -- what holds of the words of part i where the table fits
 pub record SavablePart (ts : List ℕ) (i : ℕ) : Type 0 where

@@ -10,7 +10,6 @@ ghost use Rattle.save_call.specs.LentTable.{lent_table};
 use crate::writer::{put_begin, put_component, put_wires};
 use load_operands::refusal::END_BYTE;
 use machine::part::Source;
-use part_rules::source::is_wired;
 use words_store::lookup::{
     component_at, magnitude_of, parts_of, port0_at, port1_at, span_count_at,
 };
@@ -24,13 +23,14 @@ pub struct Lengths {
 }
 
 // How many bytes the Wire into a port takes.
+#[tactic(auto, unfolding(machine::specs::TableBytes::port_bytes))]
 fn wire_length(s: Source) -> usize
     ensures { result ≡ length (port_bytes 0 0 s) }
 {
-    if is_wired(s) {
-        return 4;
+    match s {
+        Source::Unwired => 0,
+        Source::From(_) => 4,
     }
-    0
 }
 
 // The lengths of a table that fits.
@@ -41,19 +41,13 @@ pub(crate) fn lengths_of(table: &[u64]) -> Lengths
     ensures wires_length { result.wires ≡ length (wires_bytes 0 (lent_table table.now).parts) }
     ensures few_bytes { (result.parts ≤ 1760) × (result.wires ≤ 256) }
 {
-    let count = parts_of(table);
     let mut parts: usize = 0;
     let mut wires: usize = 0;
-    let mut i: usize = 0;
-    while i < count {
+    for i in 0..parts_of(table) {
         parts += 15 + 5 * span_count_at(table, i);
         wires += wire_length(port0_at(table, i)) + wire_length(port1_at(table, i));
-        i += 1;
     }
-    Lengths {
-        parts: parts,
-        wires: wires,
-    }
+    Lengths { parts, wires }
 }
 
 // The bytes of a table that fits, into a buffer that has room for them, its wires from position `wires` on. One sweep
@@ -66,15 +60,12 @@ pub(crate) fn put_table(table: &[u64], wires: usize, out: &mut [u8]) -> usize
     ensures { Put (length (table_bytes (lent_table table.now)))
         (table_bytes (lent_table table.now)) 0 out.old out.new result }
 {
-    let count = parts_of(table);
     let mut at = put_begin(out, 0, magnitude_of(table));
     let mut next = wires;
-    let mut i: usize = 0;
-    while i < count {
+    for i in 0..parts_of(table) {
         let c = component_at(table, i);
         at = put_component(out, at, c);
         next = put_wires(out, next, i, c);
-        i += 1;
     }
     put_byte(out, next, END_BYTE)
 }

@@ -1,7 +1,7 @@
 // The commands of a table, put into a buffer. Each function puts some at a position and returns the position after
 // them; the machine's `specs/TableBytes.antt` says which bytes they are, and `write_bytes`'s `specs/Put.antt` what is
 // left in the buffer.
-ghost use Rattle.std.specs.Prelude.{◌≡◌, true, ◌∷◌, [], ◌++◌, ◌+◌, ◌*◌, ◌≤◌, ◌<◌, length, take};
+ghost use Rattle.std.specs.Prelude.{◌≡◌, true, ◌∷◌, [], ◌++◌, ◌+◌, ◌*◌, ◌≤◌, ◌<◌, length};
 ghost use Rattle.machine.specs.Kind.{kind_number, operands_fit};
 ghost use Rattle.machine.specs.Load.{begin_byte, part_byte, wire_byte};
 ghost use Rattle.machine.specs.Model.{trimmed_component};
@@ -11,9 +11,8 @@ ghost use Rattle.write_bytes.specs.Put.{Put};
 ghost use Rattle.save_call.specs.LentTable.{SourceInByte, part_text, wires_text};
 
 use load_operands::refusal::{BEGIN_BYTE, PART_BYTE, SPAN_BYTE, WIRE_BYTE};
-use machine::part::{Component, Kind, SPANS, Source};
-use words_codec::word::encode_signed;
-use write_bytes::put::put_byte;
+use machine::part::{Component, Kind, Source};
+use write_bytes::put::{put_byte, put_text};
 
 // Begin.
 pub(crate) fn put_begin(out: &mut [u8], at: usize, magnitude: u8) -> usize
@@ -24,15 +23,22 @@ pub(crate) fn put_begin(out: &mut [u8], at: usize, magnitude: u8) -> usize
     put_byte(out, next, magnitude)
 }
 
-// The lowest four bytes of a number, the lowest first.
-fn put_operand(out: &mut [u8], at: usize, v: u64) -> usize
+// A number of four bytes, the lowest first.
+fn put_operand(out: &mut [u8], at: usize, v: u32) -> usize
     requires { at + 4 ≤ length out.old }
     ensures { Put 4 (operand_bytes v) at out.old out.new result }
 {
-    let next = put_byte(out, at, (v % 256) as u8);
-    let next = put_byte(out, next, (v / 256 % 256) as u8);
-    let next = put_byte(out, next, (v / 256 / 256 % 256) as u8);
-    put_byte(out, next, (v / 256 / 256 / 256 % 256) as u8)
+    put_text(out, at, &v.to_le_bytes())
+}
+
+// A value, signed, in four bytes.
+fn put_signed(out: &mut [u8], at: usize, v: i64) -> usize
+    requires room { at + 4 ≤ length out.old }
+    requires value { is_value v ≡ true }
+    ensures { Put 4 (operand_bytes (signed_operand v)) at out.old out.new result }
+{
+    let operand = v as i32;
+    put_operand(out, at, operand.cast_unsigned())
 }
 
 // The first three bytes of a Part.
@@ -46,16 +52,16 @@ fn put_kind(out: &mut [u8], at: usize, kind: Kind, preference: u8) -> usize
     put_byte(out, next, preference)
 }
 
-// Its operands, of which a and b are values: the lowest four bytes of a value's word are its signed operand.
+// Its operands, of which a and b are values.
 fn put_operands(out: &mut [u8], at: usize, a: i64, b: i64, p: u32) -> usize
     requires room { at + 12 ≤ length out.old }
     requires values { (is_value a ≡ true) × (is_value b ≡ true) }
     ensures { Put 12 (operand_bytes (signed_operand a) ++ (operand_bytes (signed_operand b) ++ operand_bytes p))
         at out.old out.new result }
 {
-    let next = put_operand(out, at, encode_signed(a));
-    let next = put_operand(out, next, encode_signed(b));
-    put_operand(out, next, p as u64)
+    let next = put_signed(out, at, a);
+    let next = put_signed(out, next, b);
+    put_operand(out, next, p)
 }
 
 // One Span.
@@ -64,20 +70,17 @@ fn put_span(out: &mut [u8], at: usize, v: u32) -> usize
     ensures { Put 5 (spans_bytes (v ∷ [])) at out.old out.new result }
 {
     let next = put_byte(out, at, SPAN_BYTE);
-    put_operand(out, next, v as u64)
+    put_operand(out, next, v)
 }
 
-// The first `count` spans of a row.
-fn put_spans(out: &mut [u8], at: usize, spans: [u32; SPANS], count: usize) -> usize
-    requires few_spans { count ≤ 8 }
-    requires room { at + 5 * count ≤ length out.old }
-    ensures { Put (5 * count) (spans_bytes (take count spans)) at out.old out.new result }
+// Spans, one after the other.
+fn put_spans(out: &mut [u8], at: usize, spans: &[u32]) -> usize
+    requires { at + 5 * length spans.now ≤ length out.old }
+    ensures { Put (5 * length spans.now) (spans_bytes spans.now) at out.old out.new result }
 {
     let mut next = at;
-    let mut i: usize = 0;
-    while i < count {
-        next = put_span(out, next, spans[i]);
-        i += 1;
+    for span in spans {
+        next = put_span(out, next, *span);
     }
     next
 }
@@ -90,11 +93,9 @@ pub(crate) fn put_component(out: &mut [u8], at: usize, c: Component) -> usize
     ensures { Put (15 + 5 * c.span_count) (part_text (trimmed_component c)) at out.old
         out.new result }
 {
-    let kind = c.kind;
-    let spans = c.spans;
-    let next = put_kind(out, at, kind, c.preference);
+    let next = put_kind(out, at, c.kind, c.preference);
     let next = put_operands(out, next, c.a, c.b, c.p);
-    put_spans(out, next, spans, c.span_count)
+    put_spans(out, next, &c.spans[..c.span_count])
 }
 
 // One Wire.
@@ -129,8 +130,6 @@ pub(crate) fn put_wires(out: &mut [u8], at: usize, receiver: usize, c: Component
     requires room { at + length (wires_text receiver c) ≤ length out.old }
     ensures { Put 8 (wires_text receiver c) at out.old out.new result }
 {
-    let port0 = c.port0;
-    let port1 = c.port1;
-    let next = put_port(out, at, receiver, 0, port0);
-    put_port(out, next, receiver, 1, port1)
+    let next = put_port(out, at, receiver, 0, c.port0);
+    put_port(out, next, receiver, 1, c.port1)
 }

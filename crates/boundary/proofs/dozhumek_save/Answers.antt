@@ -4,5 +4,5 @@ use Rattle.boundary.proofs.dozhumek_save.Goals as goal
 
 pub returns : goal.returns
 returns c =
-    written_words _ _ _ c.save-written.new.out _ c.put_found.new.out c.save-written.result
-    c.save-written.ensures c.put_found.ensures
+    written_words _ _ _ c.save.new.out _ c.put_found.new.out c.told-written.result
+    (rw (← c.told-written.ensures) at c.save.ensures) c.put_found.ensures

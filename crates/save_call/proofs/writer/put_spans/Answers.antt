@@ -1,12 +1,7 @@
--- `put_spans` puts spans one by one. The invariant: the first i spans were put, in a buffer as long as it was; the
--- measure is how many are left.
-use Prim.Native.Nat.{ℕ, ◌+◌, ◌*◌, ◌<◌}
-use native.Mathlib.Numerals.{add-one}
-use native.Mathlib.Omega.{arith}
-use mathlib.Core.Path.{◌≡◌, refl, sym, ap, ◌∙◌}
-use mathlib.Core.List.{List, [], ◌∷◌, ◌++◌, append_assoc}
-use lib.ListN.{length, get_or, take}
-use lib.Seq.{take-suc}
+-- `put_spans` puts spans one by one.
+use Rattle.std.proofs.Common.{ℕ, ◌+◌, ◌*◌, ◌<◌, ◌≡◌, List, [], ◌∷◌, ◌++◌, length, get_or, take, add-one, arith, refl, sym}
+use Rattle.std.proofs.Common.{ap, ◌∙◌, append_assoc, take_all}
+use Rattle.std.proofs.Math.Seq.{take-suc}
 use Rattle.machine.specs.TableBytes.{spans_bytes}
 use Rattle.write_bytes.specs.Put.{Put}
 use Rattle.write_bytes.specs.Pieces.{put_nothing, put_then, put_as}
@@ -27,18 +22,17 @@ span_more vs {i = i} inside first last =
     let put = put_then first last in
     put_as put more (rw (← more) (omega arith))
 
-pub loop-i-init : goal.loop-i-init
+pub loop-span-init : goal.loop-span-init
 unfolding spans_bytes
-loop-i-init c = (omega arith, refl, put_nothing _ _)
+loop-span-init c = put_nothing _ _
 
-pub loop-i-preserved : goal.loop-i-preserved
-loop-i-preserved c =
-    (omega arith, omega arith, span_more _ (omega arith) c.loop-i.invariant.2 c.put_span-next.ensures)
+pub put_span-next-requires : goal.put_span-next-requires
+put_span-next-requires c = omega (arith, c.loop-span.invariant.position, c.loop-span.invariant.short)
 
-pub shape_of-out : goal.shape_of-out
-shape_of-out c = c.loop-i.invariant.1
+pub loop-span-preserved : goal.loop-span-preserved
+loop-span-preserved c = span_more _ (omega arith) c.loop-span.invariant c.put_span-next.ensures
 
 pub returns : goal.returns
 returns c =
-    let all : c.loop-i.i ≡ c.args.count = omega arith in
-    rw all at c.loop-i.invariant.2
+    let all : c.loop-span.span-index ≡ length c.args.spans.now = omega arith in
+    rw (all, take_all (length c.args.spans.now) c.args.spans.now (omega arith)) at c.loop-span.invariant
