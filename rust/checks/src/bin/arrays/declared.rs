@@ -4,7 +4,7 @@ use crate::failed;
 use std::collections::BTreeSet;
 
 /// The words and signs of a source, without comments.
-fn words_of(source: &str) -> Vec<String> {
+pub fn words_of(source: &str) -> Vec<String> {
     let mut words: Vec<String> = Vec::new();
     for line in source.lines() {
         let line = line.split("//").next().unwrap();

@@ -5,6 +5,8 @@
 //!     arrays signals FILE.mir...      fails if an array or a slice of signals is anywhere: its elements are signals,
 //!                                     or hold one; but for an array of parts, as a model has it
 //!     arrays declared FILE.rt...      the same of the records that the sources declare, which no function may use
+//!     arrays sources FILE...          fails if a function of the sources, FILE.rt, is not in the middle code,
+//!                                     FILE.mir, or one of the middle code is neither of the sources nor made of them
 //!     arrays plan PLAN FILE.mir...    fails if PLAN, docs/MEMORY.md, does not name just the arrays, and the records
 //!                                     with arrays, that the functions of the crates hold by value
 //!     arrays rows FILE.mir...         prints what the plan has to name
@@ -13,8 +15,10 @@
 
 mod code;
 mod declared;
+mod instances;
 mod middle;
 mod plan;
+mod sources;
 
 use std::process::exit;
 
@@ -30,12 +34,13 @@ fn main() {
     let found = match words.first().map(String::as_str) {
         Some("signals") => code::search_signals(&words[1..]),
         Some("declared") => declared::search_declared(&words[1..]),
+        Some("sources") => sources::compare_sources(&words[1..]),
         Some("plan") if words.len() > 2 => plan::compare_plan(&words[1], &words[2..]),
         Some("rows") => {
             plan::print_rows(&words[1..]);
             Vec::new()
         }
-        _ => failed("arrays signals FILE.mir... | declared FILE.rt... | plan PLAN FILE.mir... | rows FILE.mir..."),
+        _ => failed("arrays signals | declared | sources | plan PLAN | rows, and the files"),
     };
     for line in &found {
         println!("memory: {line}");

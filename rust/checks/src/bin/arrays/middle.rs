@@ -156,16 +156,47 @@ pub fn parsed(code: &str) -> Node {
     node
 }
 
-#[derive(Clone, PartialEq, Eq, PartialOrd, Ord)]
+/// A type, or a length, which stands where a type can: the parameters of generic code are both.
+#[derive(Clone, Debug, PartialEq, Eq, PartialOrd, Ord)]
 pub enum Type {
     Number(u64),
     Bool,
     Unit,
     Pointer,
-    Named(String),
+    /// A record with what is given for its parameters. A tuple is one, and so is what a closure captures.
+    Named(String, Vec<Type>),
     Reference(Box<Type>),
     Slice(Box<Type>),
-    Array(Box<Type>, u64),
+    Array(Box<Type>, Box<Type>),
+    Length(u64),
+    /// A parameter of the function, or of the record, that has the type.
+    Parameter(u64),
+    /// Any type or length: what is given for a parameter is not known.
+    Any,
+}
+
+impl Type {
+    /// The type with what is given for its parameters.
+    pub fn put(&self, given: &[Type]) -> Type {
+        let inner = |of: &Type| Box::new(of.put(given));
+        match self {
+            Type::Parameter(number) => given.get(*number as usize).unwrap_or(self).clone(),
+            Type::Named(name, own) => Type::Named(name.clone(), own.iter().map(|of| of.put(given)).collect()),
+            Type::Reference(target) => Type::Reference(inner(target)),
+            Type::Slice(element) => Type::Slice(inner(element)),
+            Type::Array(element, length) => Type::Array(inner(element), inner(length)),
+            _ => self.clone(),
+        }
+    }
+
+    /// How deep types are in it.
+    pub fn depth(&self) -> usize {
+        match self {
+            Type::Named(_, given) => 1 + given.iter().map(Type::depth).max().unwrap_or(0),
+            Type::Reference(inner) | Type::Slice(inner) | Type::Array(inner, _) => 1 + inner.depth(),
+            _ => 0,
+        }
+    }
 }
 
 /// The type that a node spells.
@@ -177,17 +208,27 @@ pub fn type_of(node: &Node) -> Type {
         ("Unit", _) => Type::Unit,
         ("Ptr", _) => Type::Pointer,
         ("Int" | "Float", _) => Type::Number(holds.number()),
-        ("Named", 2) => Type::Named(words[0].field("name").text().to_string()),
+        ("Param", _) => Type::Parameter(holds.number()),
+        ("Const" | "Lit", _) => Type::Length(holds.number()),
+        ("Named", 2) => Type::Named(words[0].field("name").text().to_string(), types_of(&words[1])),
         ("Ref", 3) => Type::Reference(Box::new(type_of(&words[2]))),
-        ("Array", 2) if words[1].case().0 == "Lit" => {
-            Type::Array(Box::new(type_of(&words[0])), words[1].case().1.number())
-        }
+        ("Array", 2) => Type::Array(Box::new(type_of(&words[0])), Box::new(type_of(&words[1]))),
         ("Struct", 2) if words[0].text() == "&[]" => match words[1].list().first().map(type_of) {
             Some(Type::Reference(element)) => Type::Slice(element),
             _ => other_form("a slice"),
         },
         _ => other_form(&format!("a type {name}")),
     }
+}
+
+/// The types that a list of nodes spells.
+pub fn types_of(list: &Node) -> Vec<Type> {
+    list.list().iter().map(type_of).collect()
+}
+
+/// Types with commas between them.
+fn listed(types: &[Type]) -> String {
+    types.iter().map(Type::to_string).collect::<Vec<_>>().join(", ")
 }
 
 impl std::fmt::Display for Type {
@@ -197,10 +238,19 @@ impl std::fmt::Display for Type {
             Type::Bool => write!(to, "bool"),
             Type::Unit => write!(to, "()"),
             Type::Pointer => write!(to, "pointer"),
-            Type::Named(name) => write!(to, "{name}"),
+            Type::Named(name, given) if given.is_empty() => write!(to, "{name}"),
+            Type::Named(name, given) if name.starts_with("(,") => write!(to, "({})", listed(given)),
+            Type::Named(name, given) => match name.as_str() {
+                "core::option::Option" => write!(to, "Option<{}>", listed(given)),
+                "core::result::Result" => write!(to, "Result<{}>", listed(given)),
+                _ => write!(to, "{name}<{}>", listed(given)),
+            },
             Type::Reference(target) => write!(to, "&{target}"),
             Type::Slice(element) => write!(to, "&[{element}]"),
             Type::Array(element, length) => write!(to, "[{element}; {length}]"),
+            Type::Length(number) => write!(to, "{number}"),
+            Type::Parameter(number) => write!(to, "P{number}"),
+            Type::Any => write!(to, "_"),
         }
     }
 }

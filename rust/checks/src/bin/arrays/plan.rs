@@ -59,9 +59,11 @@ impl Row {
     }
 }
 
-/// Whether a pattern, which may end in `*`, names a function.
+/// Whether a pattern, which may have one `*` in it for any letters, names a function.
 fn within(pattern: &str, function: &str) -> bool {
-    pattern.strip_suffix('*').map_or(pattern == function, |start| function.starts_with(start))
+    pattern.split_once('*').map_or(pattern == function, |(start, end)| {
+        function.strip_prefix(start).is_some_and(|rest| rest.ends_with(end))
+    })
 }
 
 /// The differences between the plan's arrays and those that functions hold.
@@ -92,19 +94,30 @@ fn compare_arrays(file: &str, planned: &[Row], arrays: &[(String, u64, String)])
     found
 }
 
+/// The bytes of what functions hold, each with its name. Of any type they are not known, and such a thing cannot be
+/// planned.
+fn known_bytes(code: &Code, of: &Type) -> Result<u64, String> {
+    code.bytes(of).ok_or_else(|| format!("{of} is held by value, and nobody gives a type or a length for it"))
+}
+
 /// The differences between the plan's records and those with arrays that functions hold.
 fn compare_records(file: &str, planned: &[Row], code: &Code) -> Vec<String> {
-    let holders = code.holders();
+    let mut holders = BTreeMap::new();
     let mut found = Vec::new();
-    for (name, crates) in &holders {
-        let bytes = code.bytes(&Type::Named(name.clone()));
+    for (of, crates) in code.holders() {
+        match known_bytes(code, &of) {
+            Ok(bytes) => drop(holders.insert(of.to_string(), (bytes, crates))),
+            Err(unknown) => found.push(unknown),
+        }
+    }
+    for (name, (bytes, crates)) in &holders {
         let held: Vec<&str> = crates.iter().map(String::as_str).collect();
         let held = held.join(", ");
         match planned.iter().find(|row| row.names == [name.clone()]) {
             None => {
                 found.push(format!("{name}, {bytes} bytes, is held by value in {held}, and {file} does not name it"))
             }
-            Some(row) if row.bytes != [bytes] || row.places.iter().cloned().collect::<BTreeSet<_>>() != *crates => {
+            Some(row) if row.bytes != [*bytes] || row.places.iter().cloned().collect::<BTreeSet<_>>() != *crates => {
                 found.push(format!("{file}:{}: {name} has {bytes} bytes and is held by value in {held}", row.line))
             }
             _ => (),
@@ -120,9 +133,15 @@ fn compare_records(file: &str, planned: &[Row], code: &Code) -> Vec<String> {
 pub fn compare_plan(file: &str, files: &[String]) -> Vec<String> {
     let code = read(files);
     let plan = std::fs::read_to_string(file).unwrap_or_else(|_| failed(&format!("{file} cannot be read")));
-    let arrays: Vec<(String, u64, String)> =
-        code.arrays().into_iter().map(|(of, function)| (of.to_string(), code.bytes(&of), function)).collect();
-    let mut found = compare_arrays(file, &rows(&plan, ["Array", "Bytes", "Functions"]), &arrays);
+    let mut arrays: Vec<(String, u64, String)> = Vec::new();
+    let mut found = Vec::new();
+    for (of, function) in code.arrays() {
+        match known_bytes(&code, &of) {
+            Ok(bytes) => arrays.push((of.to_string(), bytes, function)),
+            Err(unknown) => found.push(format!("{function}: {unknown}")),
+        }
+    }
+    found.extend(compare_arrays(file, &rows(&plan, ["Array", "Bytes", "Functions"]), &arrays));
     found.extend(compare_records(file, &rows(&plan, ["Record", "Bytes", "Crates"]), &code));
     let records = code.holders().len();
     if arrays.is_empty() || records == 0 {
@@ -134,6 +153,11 @@ pub fn compare_plan(file: &str, files: &[String]) -> Vec<String> {
     found
 }
 
+/// Bytes as a row has them.
+fn cell(bytes: Option<u64>) -> String {
+    bytes.map_or_else(|| "not known".to_string(), |number| number.to_string())
+}
+
 /// Prints the rows that the plan has to have.
 pub fn print_rows(files: &[String]) {
     let code = read(files);
@@ -143,10 +167,10 @@ pub fn print_rows(files: &[String]) {
         by_array.entry((of, of_crate)).or_default().push(format!("`{function}`"));
     }
     for ((of, _), functions) in &by_array {
-        println!("| `{of}` | {} | {} | |", code.bytes(of), functions.join(", "));
+        println!("| `{of}` | {} | {} | |", cell(code.bytes(of)), functions.join(", "));
     }
-    for (name, crates) in code.holders() {
+    for (of, crates) in code.holders() {
         let crates: Vec<String> = crates.iter().map(|name| format!("`{name}`")).collect();
-        println!("| `{name}` | {} | {} | |", code.bytes(&Type::Named(name.clone())), crates.join(", "));
+        println!("| `{of}` | {} | {} | |", cell(code.bytes(&of)), crates.join(", "));
     }
 }
