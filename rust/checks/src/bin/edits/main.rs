@@ -106,8 +106,16 @@ fn put(named: &Named, folder: &Path) -> Result<(), String> {
     Ok(())
 }
 
-/// The function that a wrong program changes first, by the line that begins it, or the changed line where there is
-/// none.
+/// The impl or the trait that has a function, by its own line, where the function's line is further in than that.
+fn owner<'a>(before: &[&'a str], function: &str) -> &'a str {
+    let depth = |line: &str| line.len() - line.trim_start().len();
+    let begins = |line: &str| ["impl", "trait", "pub trait"].iter().any(|word| line.trim_start().starts_with(word));
+    let mut above = before.iter().rev().filter(|line| begins(line) && depth(line) < depth(function));
+    above.next().copied().unwrap_or_default()
+}
+
+/// The function that a wrong program changes first, by the line that begins it and that of its impl, or the changed line
+/// where there is none.
 fn function_changed(named: &Named, program: &WrongProgram) -> String {
     let replacement = &program.replacements[0];
     let path = PathBuf::from("crates").join(&named.krate).join(&replacement.file);
@@ -117,7 +125,8 @@ fn function_changed(named: &Named, program: &WrongProgram) -> String {
         |line: &&str| replacement.file.starts_with("src/") && (line.contains("fn ") || line.contains("const "));
     let own = replacement.old.lines().next().filter(|line| line.contains("const "));
     let line = own.or_else(|| before.lines().rev().find(begins)).unwrap_or(&replacement.old);
-    format!("{} {}", replacement.file, line.trim())
+    let owner = owner(&before.lines().collect::<Vec<_>>(), line);
+    format!("{} {} {}", replacement.file, owner.trim(), line.trim())
 }
 
 /// What is wrong with an edit's form.
