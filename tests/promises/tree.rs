@@ -142,7 +142,8 @@ fn comment_above(lines: &[&str], at: usize, otherwise: &str) -> String {
 /// The names and words of the tree.
 #[derive(Default)]
 pub struct Names {
-    /// What is declared: crates, modules, files, types, cases, fields, functions, definitions and laws.
+    /// What is declared: crates, modules, files, types, cases, fields, functions, definitions and laws; and what a file
+    /// takes of the kit's library, which the checker has found there.
     pub declared: HashSet<String>,
     /// All words of code, parameters among them.
     pub words: HashSet<String>,
@@ -165,6 +166,7 @@ impl Names {
         self.declared.insert(name.to_string());
         self.declared.extend(name.split_once('.').map(|(stem, _)| stem.to_string()));
         for line in file.text.lines().filter(|line| !comment(line)) {
+            self.declared.extend(taken_of_library(line));
             self.words.extend(line.split(|c| !in_name(c)).map(str::to_string));
             if file.path.ends_with(".rt") {
                 self.words.extend(line.split(|c| !in_name(c) || c == '-').map(str::to_string));
@@ -181,10 +183,18 @@ pub fn in_name(c: char) -> bool {
     c.is_alphanumeric() || matches!(c, '-' | '_' | '′' | '∸')
 }
 
+/// The names that a line takes of the kit's library: `use Rattle.std.specs.Prelude.{Option, Some}`.
+fn taken_of_library(line: &str) -> Vec<String> {
+    let path = line.trim_start().trim_start_matches("ghost ").strip_prefix("use Rattle.std.");
+    let listed = path.and_then(|path| path.split_once('{')).and_then(|(_, rest)| rest.split_once('}'));
+    let names = listed.map_or("", |(names, _)| names).split(", ");
+    names.filter(|name| !name.is_empty() && name.chars().all(in_name)).map(str::to_string).collect()
+}
+
 /// What a line of code declares: the word after a keyword, or a field or case at its beginning.
 fn declared_in_code(line: &str) -> Option<String> {
     let words: Vec<&str> = line.split(|c: char| !in_name(c)).filter(|word| !word.is_empty()).collect();
-    let keyword = |word: &&str| matches!(*word, "fn" | "struct" | "enum" | "const" | "mod" | "type");
+    let keyword = |word: &&str| matches!(*word, "fn" | "struct" | "enum" | "trait" | "const" | "mod" | "type");
     let named = words.iter().position(keyword).and_then(|at| words.get(at + 1));
     let own = words.iter().find(|word| **word != "pub").filter(|word| {
         let rest = line.split_once(**word).map_or("", |(_, rest)| rest);
