@@ -10,6 +10,7 @@ ghost use Rattle.preview_call.specs.PreviewedInto.{PreviewedInto, shows};
 
 use advance_call::{advance, advance_into};
 use machine::model::{Model, Outcome, Preview};
+use refusals::Refusal;
 use words_store::form::spelled;
 use words_store::lookup::{parts_of, state_words};
 use words_store::update::kept_in;
@@ -19,26 +20,20 @@ pub fn preview(m: Model, w: u64) -> Preview
     ensures { Previewed m w result }
 {
     let answer = advance(m, w);
-    let given = m;
-    Preview {
-        given: given,
-        answer: answer,
-    }
+    Preview { given: m, answer }
 }
 
 // Whether words spell a model, and a state of it fits into so many words, asked after a call that ended with a number:
 // where that is not 24, the call has found that they spell one.
+#[tactic(auto, unfolding(crate::specs::PreviewedInto::shows), using(advance_call::specs::IntoLaws::spelled_there))]
 fn can_show(table: &[u64], old: &[u64], number: u64, room: usize) -> bool
     requires { (number ≡ 24 → ⊥) → spelled table.now old.now ≡ true }
     ensures { result ≡ shows table.now old.now room }
 {
-    if number == 24 {
-        if !spelled(table, old) {
-            return false;
-        }
+    if number == Refusal::NotSound.number() && !spelled(table, old) {
+        return false;
     }
-    let count = parts_of(table);
-    state_words(count) <= room
+    state_words(parts_of(table)) <= room
 }
 
 // What an advance by at most `w` would answer, on lent words, whatever they are: the numbers of `advance_into`, and in
@@ -49,10 +44,7 @@ pub fn preview_into(table: &[u64], old: &[u64], w: u64, new: &mut [u64]) -> Outc
     ensures { PreviewedInto table.now old.now w new.old new.new result }
 {
     let ended = advance_into(table, old, w, new);
-    if ended.rounds != 0 {
-        return ended;
-    }
-    if can_show(table, old, ended.number, new.len()) {
+    if ended.rounds == 0 && can_show(table, old, ended.number, new.len()) {
         kept_in(table, old, new);
     }
     ended
