@@ -41,7 +41,9 @@ pub fn longest_of_drive(p: Part, t: Ticks, h: Ticks) -> Ticks
 {
     let end = Ticks(t.0 + h.0);
     let d = gain_of(p, end.local(p.ratio));
-    let spans = &p.component.spans[..p.component.span_count];
+    // The spans are lent from a copy, so that the rest of the part is not written to memory for it.
+    let spans = p.component.spans;
+    let spans = &spans[..p.component.span_count];
     if allowed(spans, d) {
         h
     } else {
