@@ -38,6 +38,7 @@ fn tell(stream: &[u8], out: &mut [u8]) -> Result<usize, usize>
 // The bytes of standard input that count. They are read into a buffer that has room for all of them, and for no other.
 fn read_stream(room: &mut [u8]) -> &[u8]
     requires { length room.old ≡ most_read }
+    ensures { length result.now ≤ most_read }
 {
     let n = io::read_full(0, room);
     &room[..n]
