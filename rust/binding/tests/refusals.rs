@@ -86,18 +86,15 @@ fn the_table_of_the_manual() {
     assert_eq!(rows.len(), due.len(), "the manual has more rows or fewer");
 }
 
-/// A name of the proved code's list as this list has it: each word begins with a capital.
-fn capitalised(name: &str) -> String {
-    let words = name.split('_').map(|word| word[..1].to_string() + &word[1..].to_lowercase());
-    words.collect()
-}
-
 #[test]
 fn the_list_of_the_proved_code() {
     let text = fs::read_to_string(concat!(env!("CARGO_MANIFEST_DIR"), "/../../crates/refusals/src/lib.rt")).unwrap();
-    let list =
-        text.lines().filter_map(|line| line.strip_prefix("pub const ")?.strip_suffix(';')?.split_once(": u64 = "));
-    let proved: Vec<(String, u64)> = list.map(|(name, number)| (capitalised(name), number.parse().unwrap())).collect();
+    let (_, after) = text.split_once("pub enum Refusal {\n").expect("the list is the cases of an enum");
+    let (list, _) = after.split_once("\n}").expect("the enum ends");
+    let cases = list.lines().map(str::trim).filter(|line| !line.starts_with("//"));
+    let case =
+        |line: &str| line.strip_suffix(',')?.split_once(" = ").map(|(name, n)| (name.into(), n.parse().unwrap()));
+    let proved: Vec<(String, u64)> = cases.map(|line| case(line).expect("a case has its number")).collect();
     let due: Vec<(String, u64)> = Refusal::all().map(|refusal| (format!("{refusal:?}"), refusal.number())).collect();
     assert_eq!(proved, due);
 }
