@@ -153,16 +153,37 @@ pub fn compare_plan(file: &str, files: &[String]) -> Vec<String> {
     found
 }
 
-/// Bytes as a row has them.
+/// Bytes as a row has them: `4,960`.
 fn cell(bytes: Option<u64>) -> String {
-    bytes.map_or_else(|| "not known".to_string(), |number| number.to_string())
+    let Some(number) = bytes else { return "not known".to_string() };
+    let digits = number.to_string();
+    let comma = |at: usize| if at > 0 && (digits.len() - at).is_multiple_of(3) { "," } else { "" };
+    digits.char_indices().map(|(at, digit)| format!("{}{digit}", comma(at))).collect()
+}
+
+/// What a derived Debug prints is bytes in its function, whose name ends so.
+const DEBUG: &str = "Debug::fmt";
+
+/// Prints one row for the bytes of all derived Debugs: the fewest and the most, and a pattern for each crate.
+fn print_debug_row(code: &Code, arrays: &[(Type, String)]) {
+    let lengths: BTreeSet<u64> = arrays.iter().filter_map(|(of, _)| code.bytes(of)).collect();
+    let crates: BTreeSet<String> =
+        arrays.iter().filter_map(|(_, function)| Some(format!("`{}::*{DEBUG}`", code.crate_of(function)?))).collect();
+    if let (Some(least), Some(most)) = (lengths.first(), lengths.last()) {
+        let crates: Vec<String> = crates.into_iter().collect();
+        println!("| `[u8; {least}]` to `[u8; {most}]` | {least} to {most} | {} | |", crates.join(", "));
+    }
 }
 
 /// Prints the rows that the plan has to have.
 pub fn print_rows(files: &[String]) {
     let code = read(files);
+    let bytes = |of: &Type| matches!(of, Type::Array(element, _) if **element == Type::Number(8));
+    let (debug, others): (Vec<_>, Vec<_>) =
+        code.arrays().into_iter().partition(|(of, function)| bytes(of) && function.ends_with(DEBUG));
+    print_debug_row(&code, &debug);
     let mut by_array: BTreeMap<(Type, String), Vec<String>> = BTreeMap::new();
-    for (of, function) in code.arrays() {
+    for (of, function) in others {
         let of_crate = function.split("::").next().unwrap().to_string();
         by_array.entry((of, of_crate)).or_default().push(format!("`{function}`"));
     }
