@@ -2,7 +2,8 @@
 -- words mean, is what the search in words owes; a call that is barred writes nothing; and where nothing bars it the
 -- search's promise is the call's. What the words lent for the new state held before does not count. Assumes nothing.
 use Rattle.std.specs.Prelude.{ℕ, ◌≤◌, ◌<◌, ◌≡◌, refl, Bool, true, false, not, ◌&&◌, ◌⊎◌, List, eqb, leb, length}
-use Rattle.std.proofs.Common.{arith, sym, ap, subst, ◌∙◌, inl, inr, eq-eqb, ne_eqb, le-leb, eqb-true, leb-true, leb-false}
+use Rattle.std.proofs.Common.{arith, sym, ap, subst, ◌∙◌, inl, inr}
+use Rattle.std.proofs.Common.{eq-eqb, ne_eqb, le-leb, eqb-true, leb-true, leb-false}
 use Rattle.std.proofs.lemmas.Bool.{eqb-false, lt-leb}
 use Rattle.machine.specs.declared.time.Point.{Point}
 use Rattle.machine.specs.declared.model.Answer.{Answer}

@@ -5,6 +5,7 @@ use Prim.Native.Nat.{ℕ, ◌≤◌, ◌<◌}
 use native.Mathlib.Omega.{arith}
 use mathlib.Core.Path.{◌≡◌, refl, sym, subst}
 use mathlib.Core.Bool.{true, false}
+use Rattle.std.specs.Prelude.{Some}
 use mathlib.Core.List.{List}
 use lib.ListN.{length}
 use Rattle.machine.specs.declared.model.Answer.{Answer}
@@ -97,7 +98,7 @@ module _
 
   pub wanted_moved : (next used end : ℕ) (before after : List ℕ) → v.number ≡ 0 →
       Put 1024 (line_of (outcome_answer ts b v) f) used before after end →
-      PlayedWanted ts os w next f b before used after (record { ended = false; at = next; used = end; moved = true })
+      PlayedWanted ts os w next f b before used after (record { next = Some next; used = end; moved = true })
   wanted_moved next used end before after z put =
       let model = moved_model ts os a b w v words.form room_for called z in
       let told = answer_told ts os a b w v words.form room_for called (lent_model ts b) model in
@@ -109,7 +110,6 @@ module _
           sounds = rw model (answer_sound (lent_model ts os) w words.sounds);
           shows = words.shows;
         };
-        goes = refl;
         position = refl;
       }
 
@@ -130,7 +130,7 @@ module _
 
   pub wanted_kept : (next used end : ℕ) (before after : List ℕ) → (v.number ≡ 0 → ⊥) →
       Put 1024 (line_of (outcome_answer ts os v) f) used before after end →
-      PlayedWanted ts os w next f os before used after (record { ended = false; at = next; used = end; moved = false })
+      PlayedWanted ts os w next f os before used after (record { next = Some next; used = end; moved = false })
   wanted_kept next used end before after other put =
       let model = kept_model ts os a b w v words.form room_for called other in
       let told = answer_told ts os a b w v words.form room_for called (lent_model ts os) model in
@@ -138,6 +138,5 @@ module _
         line = subst (λ (r : Answer). Put 1024 (line_of r f) used before after end) told put;
         model = model;
         playable = words;
-        goes = refl;
         position = refl;
       }

@@ -4,7 +4,8 @@
 use Prim.Native.Nat.{ℕ, zero, suc, ◌+◌, ◌-◌, ◌≤◌, ◌<◌}
 use native.Mathlib.Omega.{arith}
 use mathlib.Core.Path.{◌≡◌, refl, sym, ap, ◌∙◌}
-use mathlib.Core.Bool.{Bool, true, false, not, cond, true≢false}
+use mathlib.Core.Bool.{Bool, true, false, not, cond}
+use Rattle.std.specs.Prelude.{Option, Some, None}
 use mathlib.Core.List.{List, [], ◌++◌, append_assoc, append-nil}
 use lib.ListN.{length, take, drop, length-append, length-take, length-drop, drop_of_length-le}
 use lib.Seq.{take_all, take_at, drop_at, drop-drop}
@@ -80,6 +81,15 @@ played_enough (suc n) (suc k) bs at m f few many = by_score (score_at bs at) ref
         ap (λ text. line_of (advance m w) f ++ text) (rest next (advance m w).model f (omega arith) (omega arith))
     by_score (Refused number position) e rest = refl
 
+-- what two options hold that are the same
+held : Option ℕ → ℕ
+held None = 0
+held (Some a) = a
+
+pub some_same : {a b : ℕ} → Some a ≡ Some b → a ≡ b
+unfolding held
+some_same e = ap held e
+
 module _ (bs : List ℕ) (at : ℕ) (f : Format) where
   -- the lines from a position on, by what the score holds there
   lines_ended : (m : Model) → score_at bs at ≡ End → played_at bs at m f ≡ []
@@ -104,28 +114,28 @@ module _ (bs : List ℕ) (at : ℕ) (f : Format) where
   -- one command played, by what the score holds: its end
   module _ (ts os : List ℕ) where
     pub played_end : (buffer : List ℕ) (used : ℕ) → Playable ts os f → score_at bs at ≡ End → used ≤ length buffer →
-        CommandPlayed bs at ts os f os buffer used buffer (record { ended = true; at = at; used = used; moved = false })
+        CommandPlayed bs at ts os f os buffer used buffer (record { next = None; used = used; moved = false })
     unfolding lines_left
     played_end buffer used words e room =
         record {
           lines = rw (lines_ended (lent_model ts os) e) refl;
           room = room;
           playable = words;
-          later = λ goes. absurd (true≢false goes);
+          later = λ next goes. grind arith;
         }
 
     -- a refusal, whose line is the last
     pub played_refused : (number position used end : ℕ) (before after : List ℕ) → Playable ts os f →
         score_at bs at ≡ Refused number position → Put 1024 (refused_at_line number position) used before after end →
         end ≤ length after →
-        CommandPlayed bs at ts os f os before used after (record { ended = true; at = at; used = end; moved = false })
+        CommandPlayed bs at ts os f os before used after (record { next = None; used = end; moved = false })
     unfolding lines_left
     played_refused number position used end before after words e put room =
         record {
           lines = rw (lines_refused (lent_model ts os) number position e, append-nil, put.line) refl;
           room = room;
           playable = words;
-          later = λ goes. absurd (true≢false goes);
+          later = λ next goes. grind arith;
         }
 
     -- a wanted step
@@ -137,10 +147,10 @@ module _ (bs : List ℕ) (at : ℕ) (f : Format) where
         let place = wanted.position in
         let first = lines_wanted (lent_model ts os) (lent_model ts ns) w next e wanted.model in
         record {
-          lines = rw (wanted.goes, place, first, wanted.line.line) (sym (append_assoc (take used before) _ _));
+          lines = rw (place, first, wanted.line.line) (sym (append_assoc (take used before) _ _));
           room = room;
           playable = wanted.playable;
-          later = λ goes. rw place (wanted_later bs at w next e);
+          later = λ n goes. rw (some_same (sym goes ∙ place)) (wanted_later bs at w next e);
         }
 
 -- the words that a rehearsal is in, by the flag
@@ -162,7 +172,7 @@ pub turned_back :
     {bs ts b before after : List ℕ} {at used : ℕ} {f : Format} (r : Played) (a a₀ : List ℕ) (exchanged : Bool) →
     exchanged ≡ true → CommandPlayed bs at ts b f (cond r.moved a b) before used after r →
     CommandPlayed bs at ts (stands_in exchanged a₀ b) f (stands_in (not r.moved) a b) before used after
-    (record { ended = r.ended; at = r.at; used = r.used; moved = not r.moved })
+    (record { next = r.next; used = r.used; moved = not r.moved })
 turned_back {b = b} r a a₀ exchanged e one =
     let same = moved_back r.moved a b in
     record {
@@ -179,17 +189,18 @@ pub turned_forth :
 turned_forth r b b₀ exchanged e one = rw e one
 
 -- all lines after one command more of a score that did not end there
-pub played_on : {bs ts ss ns before after all : List ℕ} {at used : ℕ} {f : Format} {r : Played} → r.ended ≡ false →
+pub played_on : {bs ts ss ns before after all : List ℕ} {at used next : ℕ} {f : Format} {r : Played} →
+    r.next ≡ Some next →
     all ≡ take used before ++ played_at bs at (lent_model ts ss) f →
     CommandPlayed bs at ts ss f ns before used after r →
-    all ≡ take r.used after ++ played_at bs r.at (lent_model ts ns) f
+    all ≡ take r.used after ++ played_at bs next (lent_model ts ns) f
 unfolding lines_left
 played_on e so_far one = so_far ∙ (rw e at one.lines)
 
 -- a batch prints its text after what was printed before it
-pub one_batch_more : {bs ts os ns buffer : List ℕ} {f : Format} {at : ℕ} {r : Played} → r.ended ≡ false →
+pub one_batch_more : {bs ts os ns buffer : List ℕ} {f : Format} {at next : ℕ} {r : Played} → r.next ≡ Some next →
     PrintedSoFar bs f at (lent_model ts os) → Batched bs at ts os f ns buffer r →
-    PrintedSoFar bs f r.at (lent_model ts ns)
+    PrintedSoFar bs f next (lent_model ts ns)
 unfolding lines_left
 one_batch_more {buffer = buffer} {r = r} goes so_far batch =
     let lines = rw goes at batch.lines in

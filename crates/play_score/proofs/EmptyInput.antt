@@ -4,7 +4,8 @@
 use Prim.Native.Nat.{ℕ}
 use native.Mathlib.Omega.{arith}
 use mathlib.Core.Path.{refl}
-use mathlib.Core.Bool.{true, false, true≢false}
+use mathlib.Core.Bool.{false}
+use Rattle.std.specs.Prelude.{Some, None, Err}
 use mathlib.Core.List.{List, [], ◌∷◌}
 use Rattle.machine.specs.Load.{read_turn, read_from, load}
 use Rattle.machine.specs.Score.{score_at}
@@ -22,22 +23,21 @@ nothing_printed =
       table = [];
       state = [];
       buffer = refused_at_line 1 0;
-      opening = record { ended = true; errors = false; at = 0; used = 15 };
-      opened = record { printed = refl; room = omega arith; ready = λ goes. absurd (true≢false goes) };
-      to_end = refl;
+      opening = Err (record { errors = false; used = 15 });
+      opened = record { printed = refl; room = omega arith; ready = λ at goes. grind arith };
+      to_end = tt;
     }
 
 -- a batch without room, and one that ends
 abbrev without_room : Batch
-without_room = record { told = record { ended = false; at = 0; used = 0; moved = false }; state = []; buffer = [] }
+without_room = record { told = record { next = Some 0; used = 0; moved = false }; state = []; buffer = [] }
 
 abbrev with_the_end : Batch
-with_the_end = record { told = record { ended = true; at = 0; used = 0; moved = false }; state = []; buffer = [] }
+with_the_end = record { told = record { next = None; used = 0; moved = false }; state = []; buffer = [] }
 
-pub nothing_played : (ts ss : List ℕ) → ToEnd [] ts Plain false 0 ss (without_room ∷ with_the_end ∷ [])
+pub nothing_played : (ts ss : List ℕ) → ToEnd [] ts Plain (Some 0) ss (without_room ∷ with_the_end ∷ [])
 unfolding lines_left played_at played_from score_at
 nothing_played ts ss = (
-  refl,
-  record { lines = refl; room = omega arith; later = λ goes room. absurd (omega arith) },
-  (refl, record { lines = refl; room = omega arith; later = λ goes. absurd (true≢false goes) }, refl),
+  record { lines = refl; room = omega arith; later = λ next goes room. absurd (omega arith) },
+  (record { lines = refl; room = omega arith; later = λ next goes. grind arith }, tt),
 )

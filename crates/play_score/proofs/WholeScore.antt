@@ -1,27 +1,29 @@
 -- A whole score is printed: what is said at its beginning and the texts of all batches are what is printed
 -- (`specs/WholeScore.antt`). Shown by induction on the batches, each taking its text off what is to come, and by the
 -- lengths of texts. Assumes nothing.
-use Rattle.std.specs.Prelude.{ℕ, ◌+◌, ◌≡◌, Bool, true, false, cond, List, [], ◌∷◌, ◌++◌, length, take}
+use Rattle.std.specs.Prelude.{ℕ, ◌+◌, ◌≡◌, refl, Bool, true, false, cond, Option, Some, None}
+use Rattle.std.specs.Prelude.{List, [], ◌∷◌, ◌++◌, length, take}
 use Rattle.std.proofs.Common.{arith, sym, ap, ◌∙◌, length-append}
 use Rattle.advance_call.specs.Into.{lent_model}
 use Rattle.play_score.specs.declared.format.Format.{Format}
-use Rattle.play_score.specs.declared.print.Opening.{Opening}
 use Rattle.play_score.specs.Lines.{Printout, score_printout}
-use Rattle.play_score.specs.Playing.{lines_left, said_and}
+use Rattle.play_score.specs.Playing.{lines_left, said_and, Opening, errors_of, used_of, next_of}
 use Rattle.play_score.specs.WholeScore.{Batch, batch_text, printed_by, ToEnd, InBatches, said_by, WholeScore}
 
 -- batches up to the end print all that was to come
-batches_print : (bs ts : List ℕ) (f : Format) (ended : Bool) (at : ℕ) (ss : List ℕ) (batches : List Batch) →
-    ToEnd bs ts f ended at ss batches → printed_by batches ≡ lines_left bs ended at (lent_model ts ss) f
+batches_print : (bs ts : List ℕ) (f : Format) (next : Option ℕ) (ss : List ℕ) (batches : List Batch) →
+    ToEnd bs ts f next ss batches → printed_by batches ≡ lines_left bs next (lent_model ts ss) f
 unfolding printed_by batch_text lines_left
-batches_print bs ts f ended at ss [] end = rw end
-batches_print bs ts f ended at ss (b ∷ batches) (goes, batch, rest) =
-    rw (goes, batches_print bs ts f b.told.ended b.told.at b.state batches rest) (sym batch.lines)
+batches_print bs ts f None ss [] end = refl
+batches_print bs ts f None ss (b ∷ batches) none = absurd none
+batches_print bs ts f (Some at) ss [] none = absurd none
+batches_print bs ts f (Some at) ss (b ∷ batches) (batch, rest) =
+    rw (batches_print bs ts f b.told.next b.state batches rest) (sym batch.lines)
 
 all_printed : (bs : List ℕ) (f : Format) (batches : List Batch) (p : InBatches bs f batches) →
     score_printout bs f ≡ said_by p.buffer p.opening batches
 all_printed bs f batches p =
-    rw (batches_print bs p.table f p.opening.ended p.opening.at p.state batches p.to_end)
+    rw (batches_print bs p.table f (next_of p.opening) p.state batches p.to_end)
     p.opened.printed
 
 -- the length of what two lists of batches print
@@ -45,11 +47,11 @@ out_length false text rest = length-append text rest
 same_length : (buffer : List ℕ) (r : Opening) (xs ys : List Batch) → said_by buffer r xs ≡ said_by buffer r ys →
     length (printed_by xs) ≡ length (printed_by ys)
 same_length buffer r xs ys same =
-    let text = take r.used buffer in
+    let text = take (used_of r) buffer in
     omega (
       arith,
-      out_length r.errors text (printed_by xs),
-      out_length r.errors text (printed_by ys),
+      out_length (errors_of r) text (printed_by xs),
+      out_length (errors_of r) text (printed_by ys),
       ap (λ (x : Printout). length x.out) same,
     )
 

@@ -1,6 +1,6 @@
 -- What is printed of a stream in a format: the machine's lines of a rehearsal, or sheet lines with three chosen parts.
 -- Assumes nothing.
-use Rattle.std.specs.Prelude.{ℕ, zero, suc, cond, List, [], ◌++◌, eqb, ltb, length}
+use Rattle.std.specs.Prelude.{ℕ, zero, suc, cond, List, [], ◌++◌, Option, Some, None, eqb, ltb, length}
 use Rattle.machine.specs.declared.model.Model.{Model}
 use Rattle.machine.specs.declared.model.Loaded.{Loaded}
 use Rattle.machine.specs.declared.model.Answer.{Answer}
@@ -53,25 +53,30 @@ on_errors text = record { out = []; errors = text }
 abbrev pub choice_bytes : ℕ
 choice_bytes = 12
 
--- the position of the first choice that names none of so many parts, or that after all three
-unfoldable pub missing_at : ℕ → Choice → ℕ
+-- the position of the first choice that names none of so many parts, where one does
+unfoldable pub missing_at : ℕ → Choice → Option ℕ
 missing_at count ch =
-    cond (ltb ch.first count) (cond (ltb ch.second count) (cond (ltb ch.third count) choice_bytes 8) 4) 0
+    cond (ltb ch.first count)
+    (cond (ltb ch.second count) (cond (ltb ch.third count) None (Some 8)) (Some 4))
+    (Some 0)
 
 -- the same of a format: no choice is missing for plain lines
-unfoldable pub missing_in : ℕ → Format → ℕ
-missing_in count Plain = choice_bytes
+unfoldable pub missing_in : ℕ → Format → Option ℕ
+missing_in count Plain = None
 missing_in count (Sheet ch) = missing_at count ch
 
 -- the number of a choice that names no part
 abbrev pub no_such_part : ℕ
 no_such_part = 26
 
+-- what is printed where a choice is missing, and where none is: these lines
+abbrev pub chosen_printout : Option ℕ → List ℕ → Printout
+chosen_printout None lines = on_output lines
+chosen_printout (Some position) lines = on_errors (refused_at_line no_such_part position)
+
 -- what is printed for an accepted load, which left this model and the score at this position
 unfoldable pub accepted_printout : List ℕ → ℕ → Model → Format → Printout
-accepted_printout bs at m f =
-    let missing = missing_in (length m.parts) f in
-    cond (eqb missing choice_bytes) (on_output (played_at bs at m f)) (on_errors (refused_at_line no_such_part missing))
+accepted_printout bs at m f = chosen_printout (missing_in (length m.parts) f) (played_at bs at m f)
 
 -- and for a stream that was loaded so: the load's refusal is a line of the output
 unfoldable pub loaded_printout : List ℕ → Loaded → Format → Printout

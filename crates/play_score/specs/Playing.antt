@@ -2,6 +2,7 @@
 -- were to come, told of the model that the words of a table mean, with those of the state that the rehearsal is in.
 -- Assumes nothing.
 use Rattle.std.specs.Prelude.{ℕ, ◌≤◌, ◌<◌, ◌≡◌, Bool, true, false, cond, List, [], ◌++◌, length, take}
+use Rattle.std.specs.Prelude.{Option, Some, None, Result, Ok, Err}
 use Rattle.machine.specs.declared.model.Model.{Model}
 use Rattle.machine.specs.declared.model.Outcome.{Outcome}
 use Rattle.machine.specs.Model.{most_parts}
@@ -16,7 +17,7 @@ use Rattle.sheet_call.specs.SheetInto.{outcome_answer}
 use Rattle.play_score.specs.declared.format.Format.{Format}
 use Rattle.play_score.specs.declared.format.Format.TheVariants.{Plain, Sheet}
 use Rattle.play_score.specs.declared.play.Played.{Played}
-use Rattle.play_score.specs.declared.print.Opening.{Opening}
+use Rattle.play_score.specs.declared.print.Said.{Said}
 use Rattle.play_score.specs.Lines.{Printout, on_output, line_of, played_at, score_printout}
 
 -- how many words have room for the table of any model, and for a state of it
@@ -53,9 +54,10 @@ pub record AnswerIn (ts ss : List ℕ) (v : Outcome) (f : Format) : Type 0 where
   pub form : spelled ts ss ≡ true
   pub shows : Shows f (part_count ts)
 
--- the lines still to come where a score was played up to a position: none once it ended
-unfoldable pub lines_left : List ℕ → Bool → ℕ → Model → Format → List ℕ
-lines_left bs ended at m f = cond ended [] (played_at bs at m f)
+-- the lines still to come where a score was played up to the next command's position: none once it ended
+unfoldable pub lines_left : List ℕ → Option ℕ → Model → Format → List ℕ
+lines_left bs None m f = []
+lines_left bs (Some at) m f = played_at bs at m f
 
 -- A step was wanted of the state os, and the rehearsal is now in ns: the line of the machine's answer is after the
 -- buffer's first bytes, and the state is the answer's.
@@ -65,8 +67,7 @@ pub record PlayedWanted
   pub line : Put 1024 (line_of (advance (lent_model ts os) w) f) used before after r.used
   pub model : lent_model ts ns ≡ (advance (lent_model ts os) w).model
   pub playable : Playable ts ns f
-  pub goes : r.ended ≡ false
-  pub position : r.at ≡ next
+  pub position : r.next ≡ Some next
 
 -- One score command was played of the state os, and the rehearsal is now in ns: the buffer's first bytes and all
 -- lines from there on are the same text as before. Where the score did not end, the next command lies later, and the
@@ -76,10 +77,10 @@ pub record CommandPlayed
     Type 0 where
   pub lines :
       take used before ++ played_at bs at (lent_model ts os) f ≡
-      take r.used after ++ lines_left bs r.ended r.at (lent_model ts ns) f
+      take r.used after ++ lines_left bs r.next (lent_model ts ns) f
   pub room : r.used ≤ length after
   pub playable : Playable ts ns f
-  pub later : r.ended ≡ false → (at < r.at) × (at < length bs)
+  pub later : (next : ℕ) → r.next ≡ Some next → (at < next) × (at < length bs)
 
 -- Some score commands were played: all lines from a position on are those in the buffer and those still to come.
 -- Where the score did not end and the buffer has room for a line, the next command lies later, and the first one lay
@@ -87,29 +88,45 @@ pub record CommandPlayed
 pub record Batched (bs : List ℕ) (at : ℕ) (ts ss : List ℕ) (f : Format) (ns buffer : List ℕ) (r : Played) : Type 0 where
   pub lines :
       played_at bs at (lent_model ts ss) f ≡
-      take r.used buffer ++ lines_left bs r.ended r.at (lent_model ts ns) f
+      take r.used buffer ++ lines_left bs r.next (lent_model ts ns) f
   pub room : r.used ≤ length buffer
-  pub later : r.ended ≡ false → 1024 ≤ length buffer → (at < r.at) × (at < length bs)
+  pub later : (next : ℕ) → r.next ≡ Some next → 1024 ≤ length buffer → (at < next) × (at < length bs)
 
 -- what is printed by a beginning that said this text, and by what then comes
 abbrev pub said_and : Bool → (text rest : List ℕ) → Printout
 said_and errors text rest = cond errors (record { out = rest; errors = text }) (on_output (text ++ rest))
 
--- A line was said, and printing ends there.
-pub record LineOpened (errors : Bool) (line buffer : List ℕ) (r : Opening) : Type 0 where
+-- A line was said, with which printing ends.
+pub record LineOpened (errors : Bool) (line buffer : List ℕ) (r : Said) : Type 0 where
   pub said : take r.used buffer ≡ line
   pub room : r.used ≤ length buffer
-  pub ends : r.ended ≡ true
   pub told : r.errors ≡ errors
+
+-- how the printing of a stream begins: the position of the first score command, or what was said where it ends
+abbrev pub Opening : Type 0
+Opening = Result ℕ Said
+
+-- whether what was said goes to standard error, how many bytes of a buffer were said, and the next command's position
+abbrev pub errors_of : Opening → Bool
+errors_of (Ok at) = false
+errors_of (Err s) = s.errors
+
+abbrev pub used_of : Opening → ℕ
+used_of (Ok at) = 0
+used_of (Err s) = s.used
+
+abbrev pub next_of : Opening → Option ℕ
+next_of (Ok at) = Some at
+next_of (Err s) = None
 
 -- The printing of a stream began: what was said and what is to come are what is printed. Where it goes on, its words
 -- can be played.
 pub record Opened (bs : List ℕ) (f : Format) (ts ss buffer : List ℕ) (r : Opening) : Type 0 where
   pub printed :
       score_printout bs f ≡
-      said_and r.errors (take r.used buffer) (lines_left bs r.ended r.at (lent_model ts ss) f)
-  pub room : r.used ≤ length buffer
-  pub ready : r.ended ≡ false → Playable ts ss f
+      said_and (errors_of r) (take (used_of r) buffer) (lines_left bs (next_of r) (lent_model ts ss) f)
+  pub room : used_of r ≤ length buffer
+  pub ready : (at : ℕ) → r ≡ Ok at → Playable ts ss f
 
 -- of what is printed for a stream some text was printed, and all lines from a position on, of a model, are still to
 -- come

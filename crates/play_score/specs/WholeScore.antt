@@ -1,11 +1,10 @@
 -- A whole score: what is said at its beginning and the texts of all batches, one after the other up to its end, are
 -- what is printed. This says so; `proofs/WholeScore.antt` shows it. Assumes nothing.
-use Rattle.std.specs.Prelude.{ℕ, ◌<◌, ◌≡◌, Bool, true, false, List, [], ◌∷◌, ◌++◌, length, take}
+use Rattle.std.specs.Prelude.{ℕ, ◌<◌, ◌≡◌, List, [], ◌∷◌, ◌++◌, length, take, Option, Some, None}
 use Rattle.play_score.specs.declared.format.Format.{Format}
 use Rattle.play_score.specs.declared.play.Played.{Played}
-use Rattle.play_score.specs.declared.print.Opening.{Opening}
 use Rattle.play_score.specs.Lines.{Printout, score_printout}
-use Rattle.play_score.specs.Playing.{said_and, Batched, Opened}
+use Rattle.play_score.specs.Playing.{said_and, Batched, Opening, errors_of, used_of, next_of, Opened}
 
 -- a batch: what it came to, the state that the rehearsal is then in, and the buffer after it
 pub record Batch : Type 0 where
@@ -23,11 +22,12 @@ printed_by [] = []
 printed_by (b ∷ batches) = batch_text b ++ printed_by batches
 
 -- batches that keep their promise, each from where the one before left the score, up to its end
-abbrev pub ToEnd : (bs ts : List ℕ) → Format → (ended : Bool) → (at : ℕ) → (ss : List ℕ) → List Batch → Type 0
-ToEnd bs ts f ended at ss [] = ended ≡ true
-ToEnd bs ts f ended at ss (b ∷ batches) =
-    (ended ≡ false) × Batched bs at ts ss f b.state b.buffer b.told ×
-    ToEnd bs ts f b.told.ended b.told.at b.state batches
+abbrev pub ToEnd : (bs ts : List ℕ) → Format → (next : Option ℕ) → (ss : List ℕ) → List Batch → Type 0
+ToEnd bs ts f None ss [] = Unit {0}
+ToEnd bs ts f None ss (b ∷ batches) = ⊥
+ToEnd bs ts f (Some at) ss [] = ⊥
+ToEnd bs ts f (Some at) ss (b ∷ batches) =
+    Batched bs at ts ss f b.state b.buffer b.told × ToEnd bs ts f b.told.next b.state batches
 
 -- a stream printed in batches: how it began, and that the batches lead from there to its end
 pub record InBatches (bs : List ℕ) (f : Format) (batches : List Batch) : Type 0 where
@@ -36,11 +36,11 @@ pub record InBatches (bs : List ℕ) (f : Format) (batches : List Batch) : Type 
   pub buffer : List ℕ
   pub opening : Opening
   pub opened : Opened bs f table state buffer opening
-  pub to_end : ToEnd bs table f opening.ended opening.at state batches
+  pub to_end : ToEnd bs table f (next_of opening) state batches
 
 -- what is printed by a beginning and some batches
 abbrev pub said_by : (buffer : List ℕ) → Opening → List Batch → Printout
-said_by buffer r batches = said_and r.errors (take r.used buffer) (printed_by batches)
+said_by buffer r batches = said_and (errors_of r) (take (used_of r) buffer) (printed_by batches)
 
 -- The statement, for every stream and every list of batches that print it: together they print what is printed. A batch
 -- that has a text cannot be left out, nor printed twice.

@@ -23,7 +23,7 @@ pub const SECOND: usize = 4;
 pub const THIRD: usize = 8;
 
 // The numbers of the parts whose outputs a sheet shows.
-#[derive(Clone, Copy)]
+#[derive(Clone, Copy, Debug, PartialEq, Eq)]
 pub struct Choice {
     pub first: usize,
     pub second: usize,
@@ -31,34 +31,36 @@ pub struct Choice {
 }
 
 // What is printed of an answer: a plain line, or a sheet line with the chosen parts.
-#[derive(Clone, Copy)]
+#[derive(Clone, Copy, Debug, PartialEq, Eq)]
 pub enum Format {
     Plain,
     Sheet(Choice),
 }
 
-// The position of the first choice that names none of so many parts, or that after all three.
-fn missing_choice(count: usize, choice: Choice) -> usize
+// The position of the first choice that names none of so many parts, where one does.
+#[tactic(auto, unfolding(crate::specs::Lines::missing_at))]
+fn missing_choice(count: usize, choice: Choice) -> Option<usize>
     ensures { result ≡ missing_at count choice }
 {
     if choice.first >= count {
-        return 0;
+        return Some(0);
     }
     if choice.second >= count {
-        return SECOND;
+        return Some(SECOND);
     }
     if choice.third >= count {
-        return THIRD;
+        return Some(THIRD);
     }
-    CHOICE
+    None
 }
 
 // The same of a format. No choice is missing for plain lines.
-pub(crate) fn missing_of(count: usize, format: Format) -> usize
+#[tactic(auto, unfolding(crate::specs::Lines::missing_in))]
+pub(crate) fn missing_of(count: usize, format: Format) -> Option<usize>
     ensures { result ≡ missing_in count format }
 {
     match format {
-        Format::Plain => CHOICE,
+        Format::Plain => None,
         Format::Sheet(choice) => missing_choice(count, choice),
     }
 }
@@ -92,10 +94,15 @@ pub(crate) fn put_answer(
             used + length
         }
         Format::Sheet(choice) => {
-            let first = choice.first;
-            let second = choice.second;
-            let third = choice.third;
-            let w = sheet(table, state, v, first, second, third, &mut lines[used..]);
+            let w = sheet(
+                table,
+                state,
+                v,
+                choice.first,
+                choice.second,
+                choice.third,
+                &mut lines[used..],
+            );
             used + w.length
         }
     }

@@ -13,25 +13,23 @@ ghost use Rattle.play_score.specs.Playing.{
 
 use crate::format::{Format, LINE, put_answer, put_refused_at};
 use advance_call::advance_sound_into;
-use load_operands::score::score_at;
+use load_operands::score::{Wanted, score_at};
 
-// What playing came to: whether the score ended; the position of the next command; how many bytes the lines in the
+// What playing came to: the position of the next command, none where the score ended; how many bytes the lines in the
 // buffer take; and whether the rehearsal is now in the other state.
-#[derive(Clone, Copy)]
+#[derive(Clone, Copy, Debug, PartialEq, Eq)]
 pub struct Played {
-    pub ended: bool,
-    pub at: usize,
+    pub next: Option<usize>,
     pub used: usize,
     pub moved: bool,
 }
 
-// One advance of the state `old` by at most `wanted`, into `new`, with its line after the first `used` bytes. The
-// next command is at `next`. After a refused call the rehearsal is still in the old state.
+// One advance of the state `old` by at most the wanted step, into `new`, with its line after the first `used` bytes.
+// After a refused call the rehearsal is still in the old state.
 fn play_wanted(
     table: &[u64],
     old: &[u64],
-    wanted: u64,
-    next: usize,
+    wanted: Wanted,
     format: Format,
     new: &mut [u64],
     lines: &mut [u8],
@@ -41,23 +39,21 @@ fn play_wanted(
     requires state_room { most_state_words ≤ length new.old }
     requires line_room { used + 1024 ≤ length lines.old }
     ensures { let left = cond result.moved new.new old.now in
-        PlayedWanted table.now old.now wanted next format
+        PlayedWanted table.now old.now wanted.step wanted.next format
         left lines.old used lines.new result }
 {
-    let v = advance_sound_into(table, old, wanted, new);
+    let v = advance_sound_into(table, old, wanted.step, new);
     if v.number != 0 {
         let end = put_answer(format, table, old, v, lines, used);
         return Played {
-            ended: false,
-            at: next,
+            next: Some(wanted.next),
             used: end,
             moved: false,
         };
     }
     let end = put_answer(format, table, new, v, lines, used);
     Played {
-        ended: false,
-        at: next,
+        next: Some(wanted.next),
         used: end,
         moved: true,
     }
@@ -83,27 +79,16 @@ fn play_command(
 {
     match score_at(stream, at) {
         Ok(None) => Played {
-            ended: true,
-            at: at,
-            used: used,
+            next: None,
+            used,
             moved: false,
         },
-        Ok(Some(wanted)) => play_wanted(
-            table,
-            old,
-            wanted.step,
-            wanted.next,
-            format,
-            new,
-            lines,
-            used,
-        ),
+        Ok(Some(wanted)) => play_wanted(table, old, wanted, format, new, lines, used),
         Err(refused) => {
             let number = refused.refusal.number();
             let last = put_refused_at(number, refused.position, lines, used);
             Played {
-                ended: true,
-                at: at,
+                next: None,
                 used: last,
                 moved: false,
             }
@@ -136,10 +121,8 @@ fn play_exchanged(
     if exchanged {
         let back = play_command(stream, at, table, second, format, first, lines, used);
         return Played {
-            ended: back.ended,
-            at: back.at,
-            used: back.used,
             moved: !back.moved,
+            ..back
         };
     }
     play_command(stream, at, table, first, format, second, lines, used)
@@ -172,17 +155,16 @@ pub fn play_batch(
         let played = play_exchanged(
             stream, at, turned, table, first, second, format, lines, used,
         );
-        if played.ended {
+        let Some(next) = played.next else {
             return played;
-        }
-        at = played.at;
+        };
+        at = next;
         used = played.used;
         turned = played.moved;
     }
     Played {
-        ended: false,
-        at: at,
-        used: used,
+        next: Some(at),
+        used,
         moved: turned,
     }
 }

@@ -13,47 +13,40 @@ ghost use Rattle.play_score.specs.Playing.{
   PrintedSoFar,
 };
 
-use crate::format::{CHOICE, Format, missing_of};
+use crate::format::{Format, missing_of};
 use crate::play::play_batch;
 use load_call::load;
-use refusals::numbers::NOT_PRINTABLE;
+use refusals::Refusal;
 use words_store::lookup::{STATE_ROOM, TABLE_ROOM};
 use words_transfer::intake::put_fitting;
 use write_lines::line::write_refused_at;
 
-// How printing begins: whether it ends there; whether what is said goes to standard error; the position of the first
-// score command; and how many bytes of a buffer are said.
-#[derive(Clone, Copy)]
-pub struct Opening {
-    pub ended: bool,
+// What is said where printing ends at its beginning: whether it goes to standard error, and how many bytes of a buffer
+// it takes.
+#[derive(Clone, Copy, Debug, PartialEq, Eq)]
+pub struct Said {
     pub errors: bool,
-    pub at: usize,
     pub used: usize,
 }
 
 // The line of a refusal, with which printing ends.
-pub fn refuse(errors: bool, number: u64, position: usize, lines: &mut [u8]) -> Opening
+pub fn refuse(errors: bool, number: u64, position: usize, lines: &mut [u8]) -> Said
     requires { 64 ≤ length lines.old }
     ensures { LineOpened errors (refused_at_line number position) lines.new result }
 {
-    let length = write_refused_at(number, position, lines).unwrap();
-    Opening {
-        ended: true,
-        errors: errors,
-        at: 0,
-        used: length,
-    }
+    let used = write_refused_at(number, position, lines).unwrap();
+    Said { errors, used }
 }
 
-// How the printing of a stream begins. Where nothing is refused, the loaded model is put into the words of `table` and
-// `state`, and all lines are still to come.
+// How the printing of a stream begins: the position of the first score command, or what is said where it ends. Where
+// nothing is refused, the loaded model is put into the words of `table` and `state`, and all lines are still to come.
 pub fn open_score(
     stream: &[u8],
     format: Format,
     table: &mut [u64],
     state: &mut [u64],
     lines: &mut [u8],
-) -> Opening
+) -> Result<usize, Said>
     requires table_room { most_table_words ≤ length table.old }
     requires state_room { most_state_words ≤ length state.old }
     requires line_room { 64 ≤ length lines.old }
@@ -62,20 +55,14 @@ pub fn open_score(
 {
     let loaded = load(stream);
     if loaded.number != 0 {
-        return refuse(false, loaded.number, loaded.position, lines);
+        return Err(refuse(false, loaded.number, loaded.position, lines));
     }
     let model = loaded.model;
-    let missing = missing_of(model.count, format);
-    if missing != CHOICE {
-        return refuse(true, NOT_PRINTABLE, missing, lines);
+    if let Some(missing) = missing_of(model.count, format) {
+        return Err(refuse(true, Refusal::NotPrintable.number(), missing, lines));
     }
     put_fitting(model, table, state);
-    Opening {
-        ended: false,
-        errors: false,
-        at: loaded.position,
-        used: 0,
-    }
+    Ok(loaded.position)
 }
 
 // All lines from a score's position on, of the first state, batch after batch, and whether they were written. A write
@@ -99,14 +86,13 @@ fn print_batches(
     let mut exchanged = false;
     loop {
         let played = play_batch(stream, at, exchanged, table, first, second, format, lines);
-        let end = played.used;
-        if !io::write_all(1, &lines[..end]) {
+        if !io::write_all(1, &lines[..played.used]) {
             return false;
         }
-        if played.ended {
+        let Some(next) = played.next else {
             return true;
-        }
-        at = played.at;
+        };
+        at = next;
         exchanged = played.moved;
     }
 }
@@ -118,24 +104,19 @@ pub fn print_score(stream: &[u8], format: Format) -> bool {
     let mut table = [0u64; TABLE_ROOM];
     let mut first = [0u64; STATE_ROOM];
     let mut second = [0u64; STATE_ROOM];
-    let opened = open_score(stream, format, &mut table, &mut first, &mut lines);
-    let end = opened.used;
-    if opened.errors {
-        return io::write_all(2, &lines[..end]);
+    match open_score(stream, format, &mut table, &mut first, &mut lines) {
+        Ok(at) => print_batches(
+            stream,
+            at,
+            &table,
+            &mut first,
+            &mut second,
+            format,
+            &mut lines,
+        ),
+        Err(said) => {
+            let output = if said.errors { 2 } else { 1 };
+            io::write_all(output, &lines[..said.used])
+        }
     }
-    if !io::write_all(1, &lines[..end]) {
-        return false;
-    }
-    if opened.ended {
-        return true;
-    }
-    print_batches(
-        stream,
-        opened.at,
-        &table,
-        &mut first,
-        &mut second,
-        format,
-        &mut lines,
-    )
 }

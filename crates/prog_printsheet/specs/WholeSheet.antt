@@ -5,7 +5,7 @@ use Rattle.std.specs.Prelude.{ℕ, ◌≤◌, ◌<◌, ◌≡◌, refl, true, Li
 use Rattle.std.proofs.Common.{lt-ltb, le-ltb}
 use Rattle.machine.specs.Rehearse.{refused_at_line}
 use Rattle.play_score.specs.declared.format.Format.TheVariants.{Sheet}
-use Rattle.play_score.specs.declared.print.Opening.{Opening}
+use Rattle.play_score.specs.declared.print.Said.{Said}
 use Rattle.play_score.specs.Lines.{choice_bytes}
 use Rattle.play_score.specs.Playing.{said_and, LineOpened}
 use Rattle.play_score.specs.WholeScore.{Batch, InBatches, said_by}
@@ -22,7 +22,7 @@ sheet_printed all batches long p =
     rw (le-ltb (length input) choice_bytes long)
     (whole_score.whole (stream_in input) (Sheet (choice_in input)) batches p)
 
-pub short_printed : (all buffer : List ℕ) (r : Opening) →
+pub short_printed : (all buffer : List ℕ) (r : Said) →
     length (take most_input all) < choice_bytes → LineOpened true (refused_at_line 1 0) buffer r →
     printout all ≡ said_and r.errors (take r.used buffer) []
 unfolding printout read_printout

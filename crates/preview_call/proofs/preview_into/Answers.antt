@@ -18,7 +18,8 @@ can_show-requires c =
     found_spelled _ _ _ _ c.advance_into-ended.new.new c.advance_into-ended.result c.advance_into-ended.ensures
 
 pub kept_in-requires-clause-old_there : goal.kept_in-requires-clause-old_there
-kept_in-requires-clause-old_there c = there _ _ c.advance_into-ended.new.new (sym c.can_show.ensures ∙ c.if-can_show.true)
+kept_in-requires-clause-old_there c =
+    there _ _ c.advance_into-ended.new.new (sym c.can_show.ensures ∙ c.if-can_show.true)
 
 pub kept_in-requires-clause-new_there : goal.kept_in-requires-clause-new_there
 kept_in-requires-clause-new_there c =

@@ -3,9 +3,9 @@
 -- buffer holds a line; and the slices keep their lengths. The measure is what is left of the stream.
 use native.Mathlib.Omega.{arith}
 use mathlib.Core.Path.{refl, sym, ◌∙◌}
-use mathlib.Core.Bool.{true≢false}
+use Rattle.std.specs.Prelude.{◌≡◌, Some, None}
 use Rattle.play_score.specs.Playing.{lines_left}
-use Rattle.play_score.proofs.Commands.{played_on}
+use Rattle.play_score.proofs.Commands.{some_same, played_on}
 use Rattle.play_score.proofs.play.play_batch.Goals as goal
 
 pub loop-lines-init : goal.loop-lines-init
@@ -25,28 +25,28 @@ play_exchanged-played-requires c =
       line_room = omega arith;
     }
 
-pub returns-then-played : goal.returns-then-played
-returns-then-played c =
+pub returns-in_default : goal.returns-in_default
+returns-in_default c =
     let played = c.play_exchanged-played.ensures in
     record {
       batched = record {
         lines = c.loop-lines.invariant.4 ∙ played.lines;
         room = played.room;
-        later = λ goes room. absurd (true≢false (sym c.if-played.true ∙ goes));
+        later = λ next goes room. let none : None ≡ Some next = sym c.in_default.is ∙ goes in grind arith;
       };
       still_playable = played.playable;
     }
 
 pub loop-lines-smaller : goal.loop-lines-smaller
 loop-lines-smaller c =
-    let later = c.play_exchanged-played.ensures.later c.if-played.false in
+    let later = c.play_exchanged-played.ensures.later c.in-Some.next c.in-Some.is in
     omega (arith, later.0, later.1)
 
 pub loop-lines-preserved : goal.loop-lines-preserved
 loop-lines-preserved c =
     let played = c.play_exchanged-played.ensures in
-    let on = played_on c.if-played.false c.loop-lines.invariant.4 played in
-    let later = played.later c.if-played.false in
+    let on = played_on c.in-Some.is c.loop-lines.invariant.4 played in
+    let later = played.later c.in-Some.next c.in-Some.is in
     let least = c.loop-lines.invariant.6 in (
       played.room,
       omega arith,
@@ -63,6 +63,10 @@ unfolding lines_left
 returns c =
     let had = c.loop-lines.invariant in
     record {
-      batched = record { lines = had.4; room = had.0; later = λ goes room. had.7 (omega arith) };
+      batched = record {
+        lines = had.4;
+        room = had.0;
+        later = λ next goes room. rw (some_same goes) at (had.7 (omega arith));
+      };
       still_playable = had.5;
     }

@@ -1,6 +1,6 @@
 -- `open_score` says what refuses the load or the choice, and puts the model of a load that is accepted and has the
 -- chosen parts into words.
-use native.Mathlib.Omega.{arith}
+use Rattle.std.proofs.Common.{arith, sym, ◌∙◌}
 use Rattle.load_call.specs.LoadOwed.{accepted_few}
 use Rattle.play_score.proofs.Openings.{load_refused, part_missing, score_ready}
 use Rattle.play_score.proofs.print.open_score.Goals as goal
@@ -10,10 +10,10 @@ returns-then-loaded-ne0 c =
     load_refused _ _ c.load-loaded.result c.load-loaded.ensures.loads _ _ _ _ c.if-loaded-ne0.true
     c.refuse.ensures
 
-pub returns-then-missing-ne-CHOICE : goal.returns-then-missing-ne-CHOICE
-returns-then-missing-ne-CHOICE c =
-    part_missing _ _ c.load-loaded.result c.load-loaded.ensures.loads c.if-loaded-ne0.false _ _ _ _ _
-    c.missing_of-missing.ensures c.if-missing-ne-CHOICE.true c.refuse-then-missing-ne-CHOICE.ensures
+pub returns-in-Some : goal.returns-in-Some
+returns-in-Some c =
+    part_missing _ _ c.load-loaded.result c.load-loaded.ensures.loads c.if-loaded-ne0.false _ _ _ _ c.in-Some.missing
+    (sym c.in-Some.is ∙ c.missing_of.ensures) (rw c.number.ensures at c.refuse-in-Some.ensures)
 
 pub put_fitting-requires : goal.put_fitting-requires
 put_fitting-requires c =
@@ -26,5 +26,5 @@ put_fitting-requires c =
 
 pub returns : goal.returns
 returns c =
-    score_ready _ _ c.load-loaded.result c.load-loaded.ensures.loads c.if-loaded-ne0.false _ _ _ _
-    c.missing_of-missing.ensures c.if-missing-ne-CHOICE.false c.put_fitting.ensures.model_put
+    score_ready _ _ c.load-loaded.result c.load-loaded.ensures.loads c.if-loaded-ne0.false _ _ _
+    (sym c.in_default.is ∙ c.missing_of.ensures) c.put_fitting.ensures.model_put

@@ -33,7 +33,7 @@ slice_bounds-write_all-end-in-loop-format c =
 pub loop-format-smaller : goal.loop-format-smaller
 loop-format-smaller c =
     let later =
-    c.play_batch-played.ensures.batched.later c.if-played.false
+    c.play_batch-played.ensures.batched.later c.in-Some.next c.in-Some.is
     (omega (arith, c.requires.line_room, c.loop-format.invariant.2)) in
     omega (arith, later.0, later.1)
 
@@ -43,6 +43,6 @@ loop-format-preserved c =
       omega arith,
       omega arith,
       omega arith,
-      one_batch_more c.if-played.false c.loop-format.invariant.3 batch.batched,
+      one_batch_more c.in-Some.is c.loop-format.invariant.3 batch.batched,
       batch.still_playable,
     )

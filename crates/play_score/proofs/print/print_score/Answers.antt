@@ -7,15 +7,11 @@ use Rattle.play_score.proofs.print.print_score.Goals as goal
 
 pub slice_bounds-write_all-end : goal.slice_bounds-write_all-end
 slice_bounds-write_all-end c =
-    simp length-take (omega (arith, c.open_score-opened.ensures.room))
-
-pub slice_bounds-write_all-end-2 : goal.slice_bounds-write_all-end-2
-slice_bounds-write_all-end-2 c =
-    simp length-take (omega (arith, c.open_score-opened.ensures.room))
+    let room = rw c.in-Err.is at c.open_score.ensures.room in simp length-take (omega (arith, room))
 
 pub print_batches-requires : goal.print_batches-requires
 print_batches-requires c =
-    let on = opened_goes_on c.if-opened.false c.if-opened-2.false c.open_score-opened.ensures in
+    let on = opened_goes_on c.in-Ok.is c.open_score.ensures in
     record {
       playable = on.0;
       printed_so_far = on.1;
