@@ -1,8 +1,8 @@
 -- A model by value, put into words: they spell a model, and it is that one, but for the places in no use. The idea: the
 -- parts are put one after the other, and a record's words lie after those of the records before it, so that what is put
 -- is still read back at the end. Assumes nothing.
-use Rattle.std.specs.Prelude.{ℕ, ◌+◌, ◌*◌, ◌%◌, ◌≤◌, ◌<◌, ◌≡◌, refl, true, List, map, length, get_or, set, take}
-use Rattle.std.proofs.Common.{arith, sym, ◌∙◌, inl, inr, length-set, get_or-set_same, get_or-set_other, get_or-take}
+use Rattle.std.specs.Prelude.{ℕ, ◌+◌, ◌*◌, ◌%◌, ◌≤◌, ◌<◌, ◌≡◌, refl, true, List, map, length, get_or, take}
+use Rattle.std.proofs.Common.{arith, sym, ◌∙◌, inl, inr, get_or-take}
 use Rattle.std.proofs.Common.{length-take-le, take_all, ext_get_or}
 use Rattle.std.proofs.Math.Path.{ap}
 use Rattle.std.proofs.lemmas.List.{length-map}
@@ -16,7 +16,7 @@ use Rattle.words_store.specs.ModelIn.{slot, part_count, table_words, state_words
 use Rattle.words_store.specs.ModelIn.{stored_part, stored_point, model_in}
 use Rattle.words_store.specs.Form.{component_spelled, spelled}
 use Rattle.words_store.specs.Clean.{CleanHeld, CleanOutput, CleanSpans, CleanWords, clean_kept}
-use Rattle.words_store.specs.Updated.{state_spelled, StatePut, PointPut, component_same}
+use Rattle.words_store.specs.Updated.{state_spelled, StatePut, component_same}
 use Rattle.words_store.specs.StoreFrame.{state_kept, spelled_kept, point_kept}
 use Rattle.words_store.specs.Spelling.{spelled_parts}
 use Rattle.words_store.specs.Respelled.{parts_all}
@@ -47,22 +47,6 @@ pub record HeaderPut (magnitude count : ℕ) (a b : List ℕ) : Type 0 where
   pub count_is : slot b 1 ≡ count
   pub others : KeptFrom 2 a b
 
--- the two words, written
-pub header_put : (a : List ℕ) (magnitude count : ℕ) → 2 ≤ length a → magnitude ≤ 255 →
-    HeaderPut magnitude count a (set (set a 0 magnitude) 1 count)
-header_put a magnitude count room octet =
-    let inside : 1 < length (set a 0 magnitude) = rw (length-set a 0 magnitude) (omega arith) in
-    record {
-      size = length-set (set a 0 magnitude) 1 count ∙ length-set a 0 magnitude;
-      magnitude_is = get_or-set_other (set a 0 magnitude) 1 0 count 0 (λ e. omega arith) ∙
-          get_or-set_same a 0 magnitude 0 (omega arith);
-      octet = octet;
-      count_is = get_or-set_same (set a 0 magnitude) 1 count 0 inside;
-      others = λ x far.
-          get_or-set_other (set a 0 magnitude) 1 x count 0 (λ e. omega arith) ∙
-          get_or-set_other a 0 x magnitude 0 (λ e. omega arith);
-    }
-
 -- part j of m is in the words, but for its places in no use, and so is the number at place j of its order, all in words
 -- within their limits, those free clean
 pub record PutAt (m : Model) (j : ℕ) (ts ss : List ℕ) : Type 0 where
@@ -86,22 +70,7 @@ pub record PutFirst (m : Model) (i : ℕ) (a s ts ss : List ℕ) : Type 0 where
   pub each : (j : ℕ) → j < i → PutAt m j ts ss
   pub behind : KeptBehind m.count a ts s ss
 
--- no part at first
-pub put_none : (m : Model) (a s ts ss : List ℕ) → HeaderPut m.magnitude m.count a ts → PointPut m.point s ss →
-    PutFirst m 0 ts ss ts ss
-put_none m a s ts ss header point =
-    record {
-      table_size = refl;
-      state_size = refl;
-      magnitude_is = header.magnitude_is;
-      octet = header.octet;
-      count_is = header.count_is;
-      point_is = point.is;
-      each = λ j low. absurd (omega arith);
-      behind = record { table = λ x far. refl; state = λ x far. refl };
-    }
-
--- and then one part more
+-- one part more
 module _
     (m : Model)
     (i : ℕ)
@@ -249,14 +218,4 @@ model_put m a s ts ss put few orders parts table_room state_room =
                   λ j low. (put.each j low).output_clean;
             };
           };
-    }
-
--- and what was kept since the header and the point were written was kept since before them
-pub behind_put_words :
-    (m : Model) (a b s t ts ss : List ℕ) → HeaderPut m.magnitude m.count a b → PointPut m.point s t →
-    KeptBehind m.count b ts t ss → KeptBehind m.count a ts s ss
-behind_put_words m a b s t ts ss header point behind =
-    record {
-      table = λ x far. behind.table x far ∙ header.others x (omega arith);
-      state = λ x far. behind.state x far ∙ point.others x (omega arith);
     }

@@ -2,8 +2,8 @@
 -- table hold, but for the places in no use, it is now the model that this table holds with that state, and its places
 -- in no use are as they were. The idea: trimming looks at no state, so that a part and the table's part, equal trimmed,
 -- are still so once both take one state. Assumes nothing.
-use Rattle.std.specs.Prelude.{ℕ, ◌+◌, ◌-◌, ◌≤◌, ◌<◌, ◌≡◌, refl, length, set}
-use Rattle.std.proofs.Common.{arith, ◌∙◌, length-set, length-drop, get_or-set_same, get_or-set_other, get_or-take}
+use Rattle.std.specs.Prelude.{ℕ, ◌+◌, ◌-◌, ◌≤◌, ◌<◌, ◌≡◌, length}
+use Rattle.std.proofs.Common.{arith, ◌∙◌, length-drop, get_or-take}
 use Rattle.std.proofs.Math.Path.{sym, ap}
 use mathlib.Core.List.{List, map}
 use Rattle.std.proofs.Math.ListN.{take, drop}
@@ -14,7 +14,6 @@ use Rattle.machine.specs.declared.model.Model.{Model}
 use Rattle.machine.specs.Model.{blank_part, part_at, with_state, with_parts, trimmed_part, trimmed, spare_spans}
 use Rattle.machine.specs.Model.{SameUnused}
 use Rattle.laws.specs.Alls.{same_at}
-use Rattle.words_codec.specs.Tables.{below_more}
 use Rattle.words_store.specs.ModelIn.{part_count, stored_state, stored_part, stored_point, model_in}
 use Rattle.words_store.specs.StoreFrame.{held_many, held_part}
 use Rattle.words_transfer.specs.ModelPut.{trimmed_front, trimmed_same}
@@ -30,31 +29,6 @@ pub record RecalledFirst (m : Model) (ss : List ℕ) (i : ℕ) (r : Model) : Typ
   pub size : length r.parts ≡ length m.parts
   pub front : (j : ℕ) → j < i → part_at r.parts j ≡ with_state (part_at m.parts j) (stored_state ss j)
   pub behind : (j : ℕ) → i ≤ j → part_at r.parts j ≡ part_at m.parts j
-
--- none at first, and then one part more
-pub recalled_none : (m : Model) (ss : List ℕ) → RecalledFirst m ss 0 m
-recalled_none m ss = record { same = refl; size = refl; front = λ j low. absurd (omega arith); behind = λ j far. refl }
-
-pub recalled_more :
-    (m : Model) (ss : List ℕ) (i : ℕ) (r : Model) (v : Part) → RecalledFirst m ss i r → i < length m.parts →
-    v ≡ with_state (part_at r.parts i) (stored_state ss i) →
-    RecalledFirst m ss (i + 1) (with_parts r r.point (set r.parts i v))
-recalled_more m ss i r v before inside is =
-    let within : i < length r.parts = omega (arith, before.size) in
-    record {
-      same = ap (λ (x : Model). with_parts x x.point (set r.parts i v)) before.same;
-      size = length-set r.parts i v ∙ before.size;
-      front = below_more (λ (j : ℕ). part_at (set r.parts i v) j ≡
-          with_state (part_at m.parts j) (stored_state ss j)) i
-          (λ j low. get_or-set_other r.parts i j v blank_part (λ e. omega arith) ∙ before.front j low)
-          (get_or-set_same r.parts i v blank_part within ∙ is ∙
-          ap (λ (p : Part). with_state p (stored_state ss i)) (before.behind i (omega arith)));
-      behind = λ j far. get_or-set_other r.parts i j v blank_part (λ e. omega arith) ∙ before.behind j (omega arith);
-    }
-
--- as many parts as before
-pub recalled_count : (m : Model) (ss : List ℕ) (i : ℕ) (r : Model) → RecalledFirst m ss i r → r.count ≡ m.count
-recalled_count m ss i r part = ap (λ (x : Model). x.count) part.same
 
 -- the other way round
 front_trimmed :

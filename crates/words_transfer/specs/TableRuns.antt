@@ -3,7 +3,7 @@
 -- Assumes nothing.
 use Rattle.std.specs.Prelude.{ℕ, ◌+◌, ◌*◌, ◌%◌, ◌≤◌, ◌<◌, ◌≡◌, refl, true, cond, List, [], ◌∷◌, leb, ltb, ℤ}
 use Rattle.std.specs.Prelude.{length, get_or, set, take}
-use Rattle.std.proofs.Common.{arith, sym, ap, ◌∙◌, inl, inr, length-set, get_or-set_same, get_or-set_other, le-leb}
+use Rattle.std.proofs.Common.{arith, sym, ap, ◌∙◌, inl, inr, length-set, get_or-set_same, le-leb}
 use Rattle.std.proofs.Common.{lt-ltb, le-ltb}
 use Rattle.std.proofs.lemmas.List.{length-replicate, get_or-replicate}
 use Rattle.machine.specs.declared.part.Kind.{Kind}
@@ -17,7 +17,7 @@ use Rattle.words_codec.specs.Encoded.{encode_source}
 use Rattle.words_codec.specs.Decoded.{decode_source}
 use Rattle.words_codec.specs.Sized.{FitsSource}
 use Rattle.words_codec.specs.Fields.{kind_limit, kind_same, source_limit, source_same}
-use Rattle.words_codec.specs.Tables.{length_table, table_at, below_more}
+use Rattle.words_codec.specs.Tables.{length_table, table_at}
 use Rattle.words_store.specs.ModelIn.{slot, table_words, stored_spans, stored_ratio, ordered_part}
 use Rattle.words_store.specs.Form.{any_word, any_32, operand_limits, spans_used, span_limits, wire_limits, words_within}
 use Rattle.words_store.specs.WordsWritten.{Outside, written, length_written, written_at, written_before}
@@ -147,33 +147,6 @@ pub record SpansFirst (k j count : ℕ) (spans a b : List ℕ) : Type 0 where
   pub front : (n : ℕ) → n < j → slot b (k + n) ≡ used_span count spans n
   pub fits : (n : ℕ) → n < j → used_span count spans n < 4294967296
   pub others : (x : ℕ) → Outside k (k + j) x → slot b x ≡ slot a x
-
--- none at first, and then one place more
-pub spans_none : (k count : ℕ) (spans a : List ℕ) → SpansFirst k 0 count spans a a
-spans_none k count spans a =
-    record {
-      size = refl;
-      front = λ n low. absurd (omega arith);
-      fits = λ n low. absurd (omega arith);
-      others =
-          λ x out. refl;
-    }
-
-pub spans_more : (k j count : ℕ) (spans a b : List ℕ) (v : ℕ) → SpansFirst k j count spans a b → k + j < length b →
-    v ≡ used_span count spans j → v < 4294967296 → SpansFirst k (j + 1) count spans a (set b (k + j) v)
-spans_more k j count spans a b v done inside e low =
-    record {
-      size = length-set b (k + j) v ∙ done.size;
-      front = below_more (λ (n : ℕ). slot (set b (k + j) v) (k + n) ≡ used_span count spans n) j
-          (λ n less. get_or-set_other b (k + j) (k + n) v 0 (λ same. omega arith) ∙ done.front n less)
-          (get_or-set_same b (k + j) v 0 inside ∙ e);
-      fits = below_more (λ (n : ℕ). used_span count spans n < 4294967296) j done.fits (rw e at low);
-      others = λ x out. others x out;
-    }
-  where
-    others : (x : ℕ) → Outside k (k + (j + 1)) x → slot (set b (k + j) v) x ≡ slot a x
-    others x (inl less) = get_or-set_other b (k + j) x v 0 (λ same. omega arith) ∙ done.others x (inl less)
-    others x (inr far) = get_or-set_other b (k + j) x v 0 (λ same. omega arith) ∙ done.others x (inr (omega arith))
 
 -- once all eight are written, those in use are read back and the others are 0
 pub spans_put : (i count : ℕ) (spans a b : List ℕ) → SpansFirst (18 * i + 8) 8 count spans a b → length spans ≡ 8 →
