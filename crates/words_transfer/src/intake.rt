@@ -36,6 +36,14 @@ fn put_operands(table: &mut [u64], i: usize, c: &Component)
     table[k + SPAN_COUNT] = c.span_count as u64;
 }
 
+// The word of a span's place: the span where one is there, else 0.
+fn span_word(span: u32, used: bool) -> u64
+    ensures value { result ≡ cond used span 0 }
+    ensures fits { result < 4294967296 }
+{
+    if used { span as u64 } else { NO_SPAN }
+}
+
 // The eight places for spans of part `i`, of which those in use come first. The others are 0.
 fn put_spans(table: &mut [u64], i: usize, c: &Component)
     requires { table_words (i + 1) ≤ length table.old }
@@ -43,11 +51,7 @@ fn put_spans(table: &mut [u64], i: usize, c: &Component)
 {
     let k = TABLE_RECORD * i + FIRST_SPAN;
     for (j, span) in c.spans.iter().enumerate() {
-        table[k + j] = if j < c.span_count {
-            *span as u64
-        } else {
-            NO_SPAN
-        };
+        table[k + j] = span_word(*span, j < c.span_count);
     }
 }
 
