@@ -114,8 +114,8 @@ fn owner<'a>(before: &[&'a str], function: &str) -> &'a str {
     above.next().copied().unwrap_or_default()
 }
 
-/// The function that a wrong program changes first, by the line that begins it and that of its impl, or the changed line
-/// where there is none.
+/// The function that a wrong program changes first, by the line that begins it and that of its impl, or the changed
+/// line where there is none.
 fn function_changed(named: &Named, program: &WrongProgram) -> String {
     let replacement = &program.replacements[0];
     let path = PathBuf::from("crates").join(&named.krate).join(&replacement.file);
