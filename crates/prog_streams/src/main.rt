@@ -45,20 +45,20 @@ fn spell(text: &[u8], bytes: &mut [u8]) -> usize
 }
 
 // The stream that a line spells, loaded and printed.
-fn judge(rt: &impl Print, line: &[u8]) {
+fn judge(line: &[u8]) {
     let text = line.split(|&c| c == b'#').next().unwrap_or(line);
     if spells_any(text) {
         let mut bytes = [0u8; ROOM];
         let n = spell(text, &mut bytes);
-        print_loaded(rt, load(&bytes[..n]));
+        print_loaded(load(&bytes[..n]));
     }
 }
 
 // All that the first 65,536 bytes of standard input spell, line by line.
-fn main(rt: HostRuntime) {
+fn main() {
     let mut input = io::large_buffer();
     let n = io::read_full(0, &mut input);
     for line in input[..n].split(|&c| c == b'\n') {
-        judge(&rt, line);
+        judge(line);
     }
 }

@@ -4,6 +4,18 @@ use machine::model::{Loaded, Model};
 use machine::part::{Component, Kind, Mark, Part, Side, Source, State};
 use machine::signal::Signal;
 use std::fmt;
+use std::fmt::Write;
+
+// Standard output. A piece that cannot be written is passed over.
+#[derive(Drop)]
+struct Output;
+
+impl fmt::Write for Output {
+    fn write_str(&mut self, piece: &str) -> fmt::Result {
+        io::write_all(1, piece.as_bytes());
+        Ok(())
+    }
+}
 
 // A value, as it is printed.
 #[derive(Drop)]
@@ -121,15 +133,16 @@ impl fmt::Display for Shown<'_, Model> {
 }
 
 // The number and the position of a refusal, or the position and what was loaded: a line for the model and one for each
-// part. A line that cannot be written is passed over.
-pub(crate) fn print_loaded(rt: &impl Print, r: Loaded) {
+// part.
+pub(crate) fn print_loaded(r: Loaded) {
+    let mut out = Output;
     if r.number != 0 {
-        let _ = println!(rt; "refused {} at {}", r.number, r.position);
+        let _ = writeln!(out, "refused {} at {}", r.number, r.position);
         return;
     }
     let m = &r.model;
-    let _ = println!(rt; "accepted up to {}: {}", r.position, Shown(m));
+    let _ = writeln!(out, "accepted up to {}: {}", r.position, Shown(m));
     for (k, part) in m.parts.iter().take(m.count).enumerate() {
-        let _ = println!(rt; "  part {k} {}", Shown(part));
+        let _ = writeln!(out, "  part {k} {}", Shown(part));
     }
 }
