@@ -12,7 +12,7 @@ use machine::part::{Component, Kind, Mark, Part, State};
 use machine::signal::Signal;
 use machine::time::Point;
 
-// `x` if it is present, else `y`.
+// `x` if it is present, else `y`. A signal is document 01's own enum, and no Option: the match is written out.
 fn first_present_of(x: Signal, y: Signal) -> Signal
     ensures { result ≡ first_present x y }
 {

@@ -15,7 +15,7 @@ pub fn period_of(p: u32, ratio: u64) -> Ticks
     requires { p * ratio ≤ last_tick }
     ensures { result.0 ≡ p * ratio }
 {
-    Ticks((p as u64) * ratio)
+    Ticks(u64::from(p) * ratio)
 }
 
 // Whether `t` is a positive multiple of the period.
