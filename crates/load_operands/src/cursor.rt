@@ -11,6 +11,7 @@ pub struct Cursor {
 }
 
 // The byte at a cursor.
+#[tactic(auto, using(crate::specs::Operands::cut_read))]
 pub fn byte(s: &[u8], c: Cursor) -> Option<(u8, Cursor)>
     ensures { ReadMeant s.now c.at 1 (byte_at s.now c.at) 0 result }
 {
@@ -21,6 +22,7 @@ pub fn byte(s: &[u8], c: Cursor) -> Option<(u8, Cursor)>
 }
 
 // The four bytes at a cursor as a number, the lowest first.
+#[tactic(auto, using(crate::specs::Operands::cut_read))]
 pub fn u32_at(s: &[u8], c: Cursor) -> Option<(u32, Cursor)>
     ensures { ReadMeant s.now c.at 4 (word_at s.now c.at) 0 result }
 {

@@ -1,134 +1,143 @@
-// The refusal numbers of commands, by the numbers and operands that they depend on; 0 means none.
+// The commands of a table by their bytes, and the refusals of commands, by what they depend on.
 // Its contracts cite `specs/Refusals.antt`, and the machine's `specs/Load.antt`.
-ghost use Rattle.std.specs.Prelude.{◌≡◌, cond, eqb};
-ghost use Rattle.machine.specs.Load.{begin_refusal, known_command};
-ghost use Rattle.load_operands.specs.Refusals.{command_number, operands_number, part_number, in_its_place};
-ghost use Rattle.load_operands.specs.Refusals.{port_number, span_number};
+ghost use Rattle.std.specs.Prelude.{◌≡◌, IfOk};
+ghost use Rattle.machine.specs.Load.{begin_refusal};
+ghost use Rattle.refusals.specs.Numbers.{refused_number};
+ghost use Rattle.load_operands.specs.Refusals.{
+  CommandFound,
+  command_byte,
+  command_number,
+  in_its_place,
+  operands_number,
+  part_number,
+  port_number,
+  span_number,
+};
 
 use crate::cursor::signed_of;
 use crate::operands::PartOperands;
 use machine::model::PARTS;
-use machine::part::{Kind, SPANS, Source};
+use machine::part::{Component, Kind, SPANS};
 use part_rules::operand::operands_fit;
 use part_rules::port::ports_of;
 use part_rules::range::{is_positive, magnitude_known, preference_known};
 use part_rules::source::is_wired;
-use refusals::numbers::{
-    ALREADY_WIRED, NOT_THERE, OUT_OF_PLACE, OUT_OF_RANGE, SPAN_NOT_RISING, TOO_MANY,
-    UNKNOWN_COMMAND, first_of, refusal,
-};
+use refusals::Refusal;
 
-// The bytes of Begin, Part, Span, Wire, End and a wanted step. A Wire's is the one left where the others are told
-// apart.
-pub const BEGIN_BYTE: u8 = 0x01;
+// The commands of a table, by their bytes.
+#[derive(Clone, Copy, Debug, PartialEq, Eq)]
+pub enum Command {
+    Begin = 0x01,
+    Part = 0x02,
+    Span = 0x03,
+    Wire = 0x04,
+    End = 0x05,
+}
 
-pub const PART_BYTE: u8 = 0x02;
+// The bytes of these, and of a wanted step.
+pub const BEGIN_BYTE: u8 = Command::Begin as u8;
 
-pub const SPAN_BYTE: u8 = 0x03;
+pub const PART_BYTE: u8 = Command::Part as u8;
 
-pub const WIRE_BYTE: u8 = 0x04;
+pub const SPAN_BYTE: u8 = Command::Span as u8;
 
-pub const END_BYTE: u8 = 0x05;
+pub const WIRE_BYTE: u8 = Command::Wire as u8;
+
+pub const END_BYTE: u8 = Command::End as u8;
 
 pub const WANT_BYTE: u8 = 0x06;
 
-// The refusal of a Begin with this magnitude.
-pub fn begin_refusal(e: u8) -> u64
-    ensures { result ≡ begin_refusal e }
-{
-    if magnitude_known(e) {
-        return 0;
+impl TryFrom<u8> for Command {
+    // A wanted step, which is out of place in a table, or an unknown command.
+    type Error = Refusal;
+
+    ghost try_from_gives = { CommandFound };
+
+    fn try_from(byte: u8) -> Result<Command, Refusal> {
+        match byte {
+            BEGIN_BYTE => Ok(Command::Begin),
+            PART_BYTE => Ok(Command::Part),
+            SPAN_BYTE => Ok(Command::Span),
+            WIRE_BYTE => Ok(Command::Wire),
+            END_BYTE => Ok(Command::End),
+            WANT_BYTE => Err(Refusal::OutOfPlace),
+            _ => Err(Refusal::UnknownCommand),
+        }
     }
-    5
+}
+
+// The refusal of a Begin with this magnitude.
+#[tactic(auto, unfolding(machine::specs::Load::begin_refusal))]
+pub fn begin_refusal(e: u8) -> Result<(), Refusal>
+    ensures { refused_number result ≡ begin_refusal e }
+{
+    Refusal::OutOfRange.when(!magnitude_known(e))
 }
 
 // The refusal of a Part's operands: its kind or preference is unknown, or an operand is out of its range.
-fn operands_refusal(o: PartOperands) -> u64
-    ensures { result ≡ operands_number o }
+#[tactic(auto, unfolding(crate::specs::Refusals::operands_number))]
+fn operands_refusal(o: PartOperands) -> Result<(), Refusal>
+    ensures { refused_number result ≡ operands_number o }
 {
     let Ok(kind) = Kind::try_from(o.kind) else {
-        return OUT_OF_RANGE;
+        return Err(Refusal::OutOfRange);
     };
-    if !preference_known(o.preference) {
-        return OUT_OF_RANGE;
-    }
+    Refusal::OutOfRange.when(!preference_known(o.preference))?;
     let fit = operands_fit(kind, signed_of(o.a), signed_of(o.b), o.p);
-    refusal(!fit, OUT_OF_RANGE)
+    Refusal::OutOfRange.when(!fit)
 }
 
 // The refusal of a Part after so many.
-pub fn part_refusal(count: usize, o: PartOperands) -> u64
-    ensures { result ≡ part_number count o }
+#[tactic(auto, unfolding(crate::specs::Refusals::part_number))]
+pub fn part_refusal(count: usize, o: PartOperands) -> Result<(), Refusal>
+    ensures { refused_number result ≡ part_number count o }
 {
-    let room = refusal(count >= PARTS, TOO_MANY);
-    let range = operands_refusal(o);
-    first_of(room, range)
+    Refusal::TooMany.when(count >= PARTS)?;
+    operands_refusal(o)
 }
 
 // The refusal of a Span with the value v after so many, the last of them given.
-pub fn span_refusal(count: usize, last: u32, v: u32) -> u64
-    ensures { result ≡ span_number count last v }
+#[tactic(auto, unfolding(crate::specs::Refusals::span_number))]
+pub fn span_refusal(count: usize, last: u32, v: u32) -> Result<(), Refusal>
+    ensures { refused_number result ≡ span_number count last v }
 {
-    let places = refusal(count >= SPANS, TOO_MANY);
-    let range = refusal(!is_positive(v), OUT_OF_RANGE);
-    let order = refusal(v <= last, SPAN_NOT_RISING);
-    first_of(places, first_of(range, order))
+    Refusal::TooMany.when(count >= SPANS)?;
+    Refusal::OutOfRange.when(!is_positive(v))?;
+    Refusal::SpanNotRising.when(v <= last)
 }
 
-// The source of a port, of the two.
-fn source_of(port0: Source, port1: Source, port: u8) -> Source
-    ensures { result ≡ cond (eqb port 0) port0 port1 }
+// The refusal of a Wire to a port of this component.
+#[tactic(auto, unfolding(crate::specs::Refusals::port_number))]
+pub fn port_refusal(c: Component, port: u8) -> Result<(), Refusal>
+    ensures { refused_number result ≡ port_number c.kind c.port0 c.port1 port }
 {
-    if port == 0 {
-        return port0;
-    }
-    port1
+    let source = if port == 0 { c.port0 } else { c.port1 };
+    Refusal::NotThere.when(port >= ports_of(c.kind))?;
+    Refusal::AlreadyWired.when(is_wired(source))
 }
 
-// The refusal of a Wire to a port of a part of this kind, whose ports are wired so.
-pub fn port_refusal(kind: Kind, port0: Source, port1: Source, port: u8) -> u64
-    ensures { result ≡ port_number kind port0 port1 port }
+// Whether a command is where it may: by whether Begin was read, and whether a span may follow.
+#[tactic(auto, unfolding(crate::specs::Refusals::in_its_place))]
+fn in_place(begun: bool, spannable: bool, command: Command) -> bool
+    ensures { result ≡ in_its_place begun spannable (command_byte command) }
 {
-    let source = source_of(port0, port1, port);
-    let unknown = refusal(port >= ports_of(kind), NOT_THERE);
-    let taken = refusal(is_wired(source), ALREADY_WIRED);
-    first_of(unknown, taken)
+    match command {
+        Command::Begin => !begun,
+        Command::Span => begun && spannable,
+        Command::Part | Command::Wire | Command::End => begun,
+    }
 }
 
-// Whether a command byte is known.
-fn known_command(b: u8) -> bool
-    ensures { result ≡ known_command b }
+// The command with this byte, where it is known and in place.
+#[tactic(auto, using(crate::specs::Refusals::command_known))]
+pub fn command_in_place(begun: bool, spannable: bool, b: u8) -> Result<Command, Refusal>
+    ensures refused { refused_number result ≡ command_number begun spannable b }
+    ensures byte { IfOk result (λ command. command_byte command ≡ b) }
 {
-    if b < BEGIN_BYTE {
-        return false;
+    let command = Command::try_from(b)?;
+    if in_place(begun, spannable, command) {
+        Ok(command)
+    } else {
+        Err(Refusal::OutOfPlace)
     }
-    b <= WANT_BYTE
-}
-
-// Whether a command byte is where it may.
-fn in_place(begun: bool, spannable: bool, b: u8) -> bool
-    ensures { result ≡ in_its_place begun spannable b }
-{
-    if b == BEGIN_BYTE {
-        return !begun;
-    }
-    if b == SPAN_BYTE {
-        if begun {
-            return spannable;
-        }
-        return false;
-    }
-    if b == WANT_BYTE {
-        return false;
-    }
-    begun
-}
-
-// The refusal of a command byte: unknown, or out of place.
-pub fn command_refusal(begun: bool, spannable: bool, b: u8) -> u64
-    ensures { result ≡ command_number begun spannable b }
-{
-    let unknown = refusal(!known_command(b), UNKNOWN_COMMAND);
-    let misplaced = refusal(!in_place(begun, spannable, b), OUT_OF_PLACE);
-    first_of(unknown, misplaced)
 }

@@ -5,6 +5,7 @@ ghost use Rattle.machine.specs.Score.{score_at};
 ghost use Rattle.load_operands.specs.ScoreRead.{score_of};
 
 use crate::cursor::{Cursor, byte, u32_at};
+use crate::refusal::{BEGIN_BYTE, END_BYTE, WANT_BYTE};
 use refusals::{Refusal, RefusedAt};
 
 // A wanted step of the score, and the position after its command.
@@ -23,7 +24,7 @@ pub fn score_at(s: &[u8], at: usize) -> Result<Option<Wanted>, RefusedAt>
         return Ok(None);
     };
     match b {
-        6 => {
+        WANT_BYTE => {
             let Some((step, c)) = u32_at(s, c) else {
                 return Err(Refusal::Cut.at(at));
             };
@@ -32,7 +33,7 @@ pub fn score_at(s: &[u8], at: usize) -> Result<Option<Wanted>, RefusedAt>
                 next: c.at,
             }))
         }
-        1..=5 => Err(Refusal::OutOfPlace.at(at)),
+        BEGIN_BYTE..=END_BYTE => Err(Refusal::OutOfPlace.at(at)),
         _ => Err(Refusal::UnknownCommand.at(at)),
     }
 }

@@ -2,11 +2,8 @@
 use native.Mathlib.Omega.{arith}
 use mathlib.Core.Path.{refl}
 use Rattle.machine.specs.Load.{byte_at}
-use Rattle.load_operands.specs.Operands.{cut_read, whole_read}
+use Rattle.load_operands.specs.Operands.{whole_read}
 use Rattle.load_operands.proofs.cursor.byte.Goals as goal
-
-pub returns-then-c-s : goal.returns-then-c-s
-returns-then-c-s c = cut_read _ _ 1 _ _ (omega arith)
 
 pub returns : goal.returns
 unfolding byte_at
