@@ -1,65 +1,49 @@
--- `span` is cut where its operand is; else its step is the definition's, at the last part, and a refused one leaves no
--- span.
-use Prim.Native.Nat.{ℕ, ◌+◌, ◌≤◌}
-use native.Mathlib.Omega.{arith}
-use mathlib.Core.Path.{◌≡◌, ◌∙◌, refl}
-use mathlib.Core.List.{List}
-use lib.ListN.{length}
-use borrow.Author.Tests.{le-leb}
-use Rattle.machine.specs.Load.{word_at, unless_refused}
-use Rattle.load_commands.specs.declared.progress.Progress.{Progress}
-use Rattle.load_commands.specs.Progress.{reading_of}
-use Rattle.load_commands.specs.Spanned.{RowThere, last_place, row_with, span_count, spanned_reading}
+-- `span` is cut where its operand is; else it is the definition's, at the last part; a span that is not refused has
+-- room.
+use Rattle.std.proofs.Common.{ℕ, ◌+◌, ◌<◌, ◌≡◌, arith, sym, [], length, get_or}
 use Rattle.load_operands.specs.Operands.{read_cases}
 use Rattle.load_operands.specs.Refusals.{span_number}
+use Rattle.load_operands.specs.Tests.{room_left}
 use Rattle.load_commands.specs.Beside.{span_stepped}
-use Rattle.load_commands.specs.CommandSteps.{cut_as, refused_beside, refused_left, span_refused_left, step_of}
-use Rattle.load_commands.specs.CommandSteps.{uncut}
+use Rattle.load_commands.specs.CommandSteps.{cut_as, onward_as, refused_as}
+use Rattle.load_commands.specs.Spanned.{last_place, span_count}
 use Rattle.load_commands.proofs.table_command.span.Goals as goal
-use Rattle.load_commands.proofs.table_command.span.Goals.{After-span_step-step}
 
--- a Span that is whole is the definition's
-span_as : (bs : List ℕ) (at : ℕ) (progress : Progress) (rows : List (List ℕ)) (last v next : ℕ) → at + 5 ≤ length bs →
-    v ≡ word_at bs (at + 1) → next ≡ at + 5 →
-    unless_refused (span_number (span_count progress) last v) at next
-    (spanned_reading (reading_of progress rows) (last_place progress) v) ≡
-    uncut bs at 5 (span_stepped bs at progress last rows)
-unfolding uncut span_stepped
-span_as bs at progress rows last v next whole same there = rw (there, same, le-leb (at + 5) (length bs) whole)
+-- a span that is not refused has room
+span_room : (count last v : ℕ) → 0 ≡ span_number count last v → count < 8
+unfolding span_number
+span_room count last v none = room_left 8 count _ (sym none)
 
--- the step that was made is the definition's, with the rows with the value read
-stepped : (c : After-span_step-step) (rows : List (List ℕ)) → RowThere c.args.progress rows →
-    step_of (row_with rows (last_place c.args.progress) (span_count c.args.progress) c.in-Some.v)
-    c.args.at c.span_step-step.result ≡
-    uncut c.args.s.now c.args.at 5 (span_stepped c.args.s.now c.args.at c.args.progress c.args.last rows)
-stepped c rows row =
-    let got = read_cases c.in-Some.ensures in
-    c.span_step-step.ensures.meant rows row ∙
-    span_as c.args.s.now c.args.at c.args.progress rows c.args.last _ _ (omega arith) got.1 (omega arith)
-
-pub returns-in_default : goal.returns-in_default
-returns-in_default c =
+pub returns-in_default-clause-meant : goal.returns-in_default-clause-meant
+returns-in_default-clause-meant c =
     let short = read_cases c.in_default.ensures in
-    let refused = c.refused_step-cut in
-    record {
-      meant = λ rows row. cut_as refused.result _ _ _ refused.ensures c.args.s.now 5 _ _ refl (omega arith);
-      left = span_refused_left refused.result _ _ (refused_left refused.result _ _ _ refused.ensures c.requires.2);
-    }
+    λ rows row. cut_as _ _ 5 _ (omega arith)
 
-pub returns-then-step-ne0 : goal.returns-then-step-ne0
-returns-then-step-ne0 c =
-    let called = (goal.at.returns-then-step-ne0 c).After-span_step-step in
-    let step = c.span_step-step in
-    record {
-      meant = λ rows row. refused_beside step.result _ _ _ c.if-step-ne0.true ∙ stepped called rows row;
-      left = span_refused_left step.result _ _ step.ensures.left;
-    }
+pub returns-in_err-span_refusal-clause-meant : goal.returns-in_err-span_refusal-clause-meant
+unfolding span_stepped
+returns-in_err-span_refusal-clause-meant c =
+    let got = read_cases c.in-Some.ensures in
+    let number = rw got.1 at c.in_err-span_refusal.ensures in
+    λ rows row.
+    refused_as _ _ 5 c.args.progress rows _ _ _ _ _ (omega arith) c.from_residual.ensures.1 number
 
-pub returns : goal.returns
-returns c =
-    let called = (goal.at.returns c).After-span_step-step in
-    let few = c.span_step-step.ensures.left.few in
-    record {
-      meant = λ rows row. stepped called rows row;
-      left = record { few = few; refused = λ some. absurd (some c.if-step-ne0.false) };
-    }
+pub with_span_counted-requires-clause-room : goal.with_span_counted-requires-clause-room
+with_span_counted-requires-clause-room c =
+    span_room (span_count c.args.progress) c.args.last c.in-Some.v c.in_ok-span_refusal.ensures
+
+pub returns-clause-meant : goal.returns-clause-meant
+unfolding span_stepped
+returns-clause-meant c =
+    let progress = c.args.progress in
+    let got = read_cases c.in-Some.ensures in
+    let next : c.in-Some.c.at ≡ c.args.at + 5 = omega arith in
+    let none = rw got.1 at c.in_ok-span_refusal.ensures in
+    let room = span_room (span_count progress) c.args.last c.in-Some.v c.in_ok-span_refusal.ensures in
+    λ rows row.
+    let inside : span_count progress < length (get_or rows (last_place progress) []) = rw row.eight room in
+    rw (c.with_span_counted.ensures rows c.in-Some.v row.there inside, next, got.1)
+    (onward_as _ _ 5 _ _ _ (omega arith) none)
+
+pub returns-clause-room : goal.returns-clause-room
+returns-clause-room c =
+    span_room (span_count c.args.progress) c.args.last c.in-Some.v c.in_ok-span_refusal.ensures

@@ -1,46 +1,55 @@
--- `wire` is cut where its operands are; else its step is the definition's.
-use Prim.Native.Nat.{ℕ, ◌+◌, ◌≤◌}
-use native.Mathlib.Omega.{arith}
-use mathlib.Core.Path.{◌≡◌, ◌∙◌, refl}
-use mathlib.Core.List.{List}
-use lib.ListN.{length}
-use borrow.Author.Tests.{le-leb}
-use Rattle.machine.specs.Load.{Reading, wire_command, wire_refusal, unless_refused}
+-- `wire` is cut where its operands are; else it is the definition's, and a receiver that is not refused was read.
+use Rattle.std.proofs.Common.{ℕ, ◌+◌, ◌≤◌, ◌≡◌, arith, sym, List, [], length}
+use Rattle.machine.specs.Load.{byte_at, wire_command}
+use Rattle.machine.specs.Model.{most_parts}
+use Rattle.sound_laws.specs.CommandsPassed.{wire_passed}
 use Rattle.load_operands.specs.declared.operands.WireOperands.{WireOperands}
-use Rattle.load_operands.specs.Operands.{wire_operands_at, read_cases}
+use Rattle.load_operands.specs.Operands.{read_cases, wire_operands_at}
+use Rattle.load_commands.specs.CommandSteps.{cut_as, onward_as, refused_as}
 use Rattle.load_commands.specs.Progress.{reading_of}
-use Rattle.load_commands.specs.CommandSteps.{cut_as, refused_left, uncut}
+use Rattle.load_commands.specs.SpanRows.{length_reading}
 use Rattle.load_commands.specs.Wired.{wired_reading}
 use Rattle.load_commands.proofs.table_command.wire.Goals as goal
 
--- a Wire that is whole is the definition's
-wire_as : (bs : List ℕ) (at : ℕ) (rd : Reading) (o : WireOperands) (next : ℕ) → at + 4 ≤ length bs →
-    o ≡ wire_operands_at bs (at + 1) → next ≡ at + 4 →
-    unless_refused (wire_refusal rd.table.parts o.source o.receiver o.port) at next
-    (wired_reading rd o.receiver o.port o.source) ≡
-    uncut bs at 4 (wire_command bs at rd)
-unfolding uncut wire_command wired_reading
-wire_as bs at rd o next whole operands there =
+-- the operands read are the definition's
+operands_as : (bs : List ℕ) (at : ℕ) (o : WireOperands) → o ≡ wire_operands_at bs (at + 1) →
+    o ≡ record { source = byte_at bs (at + 1); receiver = byte_at bs (at + 2); port = byte_at bs (at + 3) }
+operands_as bs at o operands =
     let receiver : at + 1 + 1 ≡ at + 2 = omega arith in
     let port : at + 1 + 2 ≡ at + 3 = omega arith in
-    rw (there, operands, receiver, port, le-leb (at + 4) (length bs) whole)
+    rw (receiver, port) at operands
 
-pub returns-in_default : goal.returns-in_default
-returns-in_default c =
+pub returns-in_default-clause-meant : goal.returns-in_default-clause-meant
+returns-in_default-clause-meant c =
     let short = read_cases c.in_default.ensures in
-    let refused = c.refused_step in
-    record {
-      meant = λ rows. cut_as refused.result _ _ _ refused.ensures c.args.s.now 4 rows _ refl (omega arith);
-      left = refused_left refused.result _ _ _ refused.ensures c.requires.1;
-    }
+    λ rows. cut_as _ _ 4 _ (omega arith)
 
-pub returns : goal.returns
-returns c =
-    let args = c.args in
+pub returns-in_err-wire_refusal-clause-meant : goal.returns-in_err-wire_refusal-clause-meant
+unfolding wire_command
+returns-in_err-wire_refusal-clause-meant c =
     let got = read_cases c.in-Some.ensures in
-    record {
-      meant = λ rows.
-          c.wire_step.ensures.meant rows ∙
-          wire_as args.s.now args.at (reading_of args.progress rows) _ _ (omega arith) got.1 (omega arith);
-      left = c.wire_step.ensures.left;
-    }
+    let operands = operands_as c.args.s.now c.args.at _ got.1 in
+    λ rows.
+    let number = rw operands at (c.in_err-wire_refusal.ensures rows) in
+    refused_as _ _ 4 c.args.progress rows _ _ _ _ _ (omega arith) c.from_residual.ensures.1 number
+
+pub with_wire-requires : goal.with_wire-requires
+with_wire-requires c =
+    let progress = c.args.progress in
+    let o = c.in-Some.o in
+    let many : length progress.parts ≡ most_parts = omega arith in
+    let few : progress.count ≤ length progress.parts = omega (arith, progress.few) in
+    let none = sym (c.in_ok-wire_refusal.ensures []) in
+    let (there, here, port) =
+    wire_passed (reading_of progress []).table.parts o.source o.receiver o.port none in
+    rw (length_reading progress [] few) at here
+
+pub returns-clause-meant : goal.returns-clause-meant
+unfolding wire_command wired_reading
+returns-clause-meant c =
+    let got = read_cases c.in-Some.ensures in
+    let operands = operands_as c.args.s.now c.args.at _ got.1 in
+    let next : c.in-Some.c.at ≡ c.args.at + 4 = omega arith in
+    λ rows.
+    let none = rw operands at (c.in_ok-wire_refusal.ensures rows) in
+    rw (c.with_wire.ensures rows, next, operands) (onward_as _ _ 4 _ _ _ (omega arith) none)

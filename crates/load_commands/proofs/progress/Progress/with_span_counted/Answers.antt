@@ -10,13 +10,12 @@ use lib.ListN.{length, get_or, take, set}
 use lib.Seq.{take-set-lt, take-suc-set}
 use Rattle.machine.specs.declared.part.Component.{Component}
 use Rattle.machine.specs.Table.{component_at}
-use Rattle.machine.specs.Load.{with_component, with_span}
-use Rattle.machine.specs.Model.{most_parts}
+use Rattle.machine.specs.Load.{Reading, with_component, with_span}
 use Rattle.load_commands.specs.declared.progress.Progress.{Progress}
-use Rattle.load_commands.specs.Progress.{with_row, reading_of}
+use Rattle.load_commands.specs.Progress.{joined, with_row, reading_of}
 use Rattle.load_commands.specs.SpanRows.{joined_set_row, reading_at}
 use Rattle.load_commands.specs.Spanned.{row_with, spanned_reading}
-use Rattle.load_commands.proofs.rows.with_span_counted.Goals as goal
+use Rattle.load_commands.proofs.progress.Progress.with_span_counted.Goals as goal
 
 -- a component with one span more counted
 abbrev counted : Component → Component
@@ -43,15 +42,18 @@ row_span c row v here = rw (add-one c.span_count, take-suc-set row c.span_count 
 spanned_as : (progress : Progress) (k : ℕ) → k < progress.count → progress.count ≤ length progress.parts →
     (rows : List (List ℕ)) (v : ℕ) →
     k < length rows → (component_at progress.parts k).span_count < length (get_or rows k []) →
-    reading_of
+    ◌≡◌ {A = Reading}
     (record {
       begun = true;
       spannable = true;
-      magnitude = progress.magnitude;
-      count = progress.count;
-      parts = set progress.parts k (counted (component_at progress.parts k));
-    }) (row_with rows k (component_at progress.parts k).span_count v) ≡
-    spanned_reading (reading_of progress rows) k v
+      table = record {
+        magnitude = progress.magnitude;
+        parts =
+            joined (take progress.count (set progress.parts k (counted (component_at progress.parts k))))
+            (row_with rows k (component_at progress.parts k).span_count v);
+      };
+    })
+    (spanned_reading (reading_of progress rows) k v)
 unfolding reading_of row_with spanned_reading with_component
 spanned_as progress k here few rows v there room =
     let part = component_at progress.parts k in
@@ -64,8 +66,8 @@ spanned_as progress k here few rows v there room =
     )
 
 pub returns : goal.returns
+unfolding reading_of
 returns c =
-    let progress = c.args.progress in
-    let many : length progress.parts ≡ most_parts = omega arith in
-    let few : progress.count ≤ length progress.parts = omega arith in
-    record { meant = spanned_as progress c.args.k c.requires.0 few; few = omega arith }
+    let progress = c.args.self in
+    let few : progress.count ≤ length progress.parts = omega (arith, progress.few) in
+    spanned_as progress c.args.k c.requires.read few
