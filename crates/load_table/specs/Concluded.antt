@@ -1,7 +1,8 @@
 -- What reading a table up to its End concludes: document 01's loading, where End is still to be judged. Assumes
 -- nothing.
-use Rattle.std.specs.Prelude.{ℕ, ◌≤◌, ◌<◌, ◌≡◌, true, cond, List, map, length, replicate, take, pos, eqb}
-use Rattle.std.proofs.Common.{ne_eqb}
+use Rattle.std.specs.Prelude.{ℕ, ◌≤◌, ◌<◌, ◌≡◌, true, cond, List, map, length, replicate, take, pos, eqb, Result, Ok}
+use Rattle.std.specs.Prelude.{Err, IfOk, IfErr, refl}
+use Rattle.std.specs.Result.{IsErrAnd}
 use Rattle.machine.specs.declared.model.Loaded.{Loaded}
 use Rattle.machine.specs.declared.part.Component.{Component}
 use Rattle.machine.specs.declared.part.Kind.TheVariants.{Constant}
@@ -13,6 +14,8 @@ use Rattle.machine.specs.Table.{Table}
 use Rattle.machine.specs.Load.{Reading, onward, nothing_read, accepted, byte_at, end_byte, end_refusal, read_turn}
 use Rattle.machine.specs.Load.{refused}
 use Rattle.sound_laws.specs.Facts.{ComponentFits}
+use Rattle.refusals.specs.declared.RefusedAt.{RefusedAt}
+use Rattle.refusals.specs.Numbers.{refusal_number}
 use Rattle.load_table.specs.declared.table.TableRead.{TableRead}
 
 -- End at a position, after this table
@@ -24,8 +27,9 @@ unfoldable pub table_read : TableRead → Table
 table_read r = record { magnitude = r.magnitude; parts = map trimmed_component (take r.count r.parts) }
 
 -- what loading comes to
-unfoldable pub concluded : TableRead → Loaded
-concluded r = cond (eqb r.number 0) (end_loaded r.position (table_read r)) (refused r.number r.position)
+abbrev pub concluded : Result TableRead RefusedAt → Loaded
+concluded (Ok r) = end_loaded r.position (table_read r)
+concluded (Err r) = refused (refusal_number r.refusal) r.position
 
 -- a component with all of it 0, its places for spans among it
 unfoldable pub empty_component : Component
@@ -42,14 +46,8 @@ empty_component =
       port1 = Unwired;
     }
 
--- a refusal with this number and position: no parts, and all else 0
-unfoldable pub refused_table : (number at : ℕ) → TableRead
-refused_table number at =
-    record { number = number; position = at; magnitude = 0; count = 0; parts = replicate most_parts empty_component }
-
 -- End was reached at this position, after this table
 pub record EndedRead (at : ℕ) (t : Table) (r : TableRead) : Type 0 where
-  pub number : r.number ≡ 0
   pub position : r.position ≡ at
   pub table : table_read r ≡ t
   pub counted : length t.parts ≡ r.count
@@ -75,22 +73,21 @@ pub record EndHere (bs : List ℕ) (at : ℕ) (rd : Reading) : Type 0 where
 
 -- where reading a table stopped, and what it answers there: at its End the table read so far; else, before any End, a
 -- refusal
-pub record Stopped (bs : List ℕ) (r : TableRead) : Type 0 where
+pub record Stopped (bs : List ℕ) (r : Result TableRead RefusedAt) : Type 0 where
   pub at : ℕ
   pub reading : Reading
   pub reached : Reached bs at reading
-  pub end : r.number ≡ 0 → EndHere bs at reading
-  pub ended : r.number ≡ 0 → EndedRead at reading.table r
-  pub kept : r.number ≡ 0 → Ended r
-  pub before : (r.number ≡ 0 → ⊥) → EndHere bs at reading → ⊥
-  pub refused : (r.number ≡ 0 → ⊥) → r ≡ refused_table r.number r.position
-
--- a refusal is what loading comes to
-pub refused_concluded : (n at : ℕ) (r : TableRead) → (n ≡ 0 → ⊥) → r ≡ refused_table n at → concluded r ≡ refused n at
-unfolding concluded refused_table
-refused_concluded n at r some h = rw (h, ne_eqb n 0 some)
+  pub end : IfOk r (λ t. EndHere bs at reading)
+  pub ended : IfOk r (EndedRead at reading.table)
+  pub kept : IfOk r Ended
+  pub before : IfErr r (λ e. EndHere bs at reading → ⊥)
 
 -- End is judged after the table that was read
-pub ended_concluded : (at : ℕ) (t : Table) (r : TableRead) → EndedRead at t r → concluded r ≡ end_loaded at t
-unfolding concluded
-ended_concluded at t r h = rw (h.table, h.number, h.position)
+pub ended_concluded : (at : ℕ) (t : Table) (r : TableRead) → EndedRead at t r → concluded (Ok r) ≡ end_loaded at t
+ended_concluded at t r h = rw (h.table, h.position)
+
+-- a refusal that is passed on is concluded as it is
+pub refused_concluded : (r : Result TableRead RefusedAt) (e : RefusedAt) → IsErrAnd r (λ x. x ≡ e) →
+    refused (refusal_number e.refusal) e.position ≡ concluded r
+refused_concluded (Ok t) e is = absurd is
+refused_concluded (Err x) e is = rw is refl

@@ -1,13 +1,14 @@
 -- Laws of End: it is judged after the table that was read, and what reading keeps holds of that table; and of where
 -- reading stops. Assumes nothing.
-use Rattle.std.specs.Prelude.{ℕ, ◌+◌, ◌≤◌, ◌<◌, ◌≡◌, refl, Bool, true, false, cond, List, length, eqb}
-use Rattle.std.proofs.Common.{arith, sym, ap, ◌∙◌, le-leb}
+use Rattle.std.specs.Prelude.{ℕ, ◌+◌, ◌≤◌, ◌<◌, ◌≡◌, refl, Bool, true, false, cond, List, length, eqb, Ok, Err}
+use Rattle.std.proofs.Common.{arith, ap, le-leb}
 use Rattle.machine.specs.declared.model.Loaded.{Loaded}
 use Rattle.machine.specs.Table.{Table}
 use Rattle.machine.specs.Load.{Reading, ended, end_command, end_refusal, command_width, whole_command}
 use Rattle.sound_laws.specs.Accepted.{Readable}
+use Rattle.refusals.specs.declared.RefusedAt.{RefusedAt}
 use Rattle.load_table.specs.declared.table.TableRead.{TableRead}
-use Rattle.load_table.specs.Concluded.{EndHere, Ended, EndedRead, Stopped, end_loaded, refused_table, table_read}
+use Rattle.load_table.specs.Concluded.{EndHere, Ended, EndedRead, Stopped, end_loaded, table_read}
 use Rattle.load_table.specs.Stands.{Stands}
 use Rattle.load_table.specs.Turning.{sized_command}
 
@@ -40,34 +41,28 @@ kept_ended at rd r kept h =
 
 -- where reading stopped: at an End, with the table after it ..
 pub stopped_ended : (bs : List ℕ) (at : ℕ) (rd : Reading) (r : TableRead) → Stands bs at rd → EndHere bs at rd →
-    EndedRead at rd.table r → Stopped bs r
+    EndedRead at rd.table r → Stopped bs (Ok r)
 stopped_ended bs at rd r stands here read =
     record {
       at = at;
       reading = rd;
       reached = stands.reached;
-      end = λ none. here;
-      ended = λ none. read;
-      kept = λ none. kept_ended at rd r stands.kept read;
-      before = λ some. absurd (some read.number);
-      refused = λ some. absurd (some read.number);
+      end = here;
+      ended = read;
+      kept = kept_ended at rd r stands.kept read;
+      before = tt;
     }
 
 -- .. or at a refusal, which is not End's
-pub stopped_refused : (bs : List ℕ) (at : ℕ) (rd : Reading) (r : TableRead) (n position : ℕ) → Stands bs at rd →
-    (EndHere bs at rd → ⊥) → (n ≡ 0 → ⊥) →
-    r ≡ refused_table n position → Stopped bs r
-unfolding refused_table
-stopped_refused bs at rd r n position stands other some is =
-    let number : r.number ≡ n = ap (λ (x : TableRead). x.number) is in
-    let never : r.number ≡ 0 → ⊥ = λ none. some (sym number ∙ none) in
+pub stopped_refused : (bs : List ℕ) (at : ℕ) (rd : Reading) (r : RefusedAt) → Stands bs at rd →
+    (EndHere bs at rd → ⊥) → Stopped bs (Err r)
+stopped_refused bs at rd r stands other =
     record {
       at = at;
       reading = rd;
       reached = stands.reached;
-      end = λ none. absurd (never none);
-      ended = λ none. absurd (never none);
-      kept = λ none. absurd (never none);
-      before = λ known. other;
-      refused = λ known. rw is;
+      end = tt;
+      ended = tt;
+      kept = tt;
+      before = other;
     }

@@ -1,8 +1,5 @@
 -- `ended_read` has the progress's table: its parts with their rows.
-use Prim.Native.Nat.{◌≤◌}
-use native.Mathlib.Omega.{arith}
-use mathlib.Core.Path.{refl}
-use lib.ListN.{length}
+use Rattle.std.proofs.Common.{◌≤◌, arith, refl, length}
 use Rattle.load_commands.specs.Progress.{reading_of}
 use Rattle.load_commands.specs.SpanRows.{length_reading}
 use Rattle.load_table.specs.Concluded.{table_read}
@@ -12,11 +9,10 @@ pub returns : goal.returns
 unfolding table_read reading_of
 returns c =
     let progress = c.args.progress in
-    let few : progress.count ≤ length progress.parts = omega arith in
+    let few : progress.count ≤ length progress.parts = omega (arith, progress.few) in
     record {
-      number = refl;
       position = refl;
-      table = rw (c.with_rows-whole.ensures _);
+      table = rw (c.with_rows-parts.ensures _);
       counted = length_reading progress c.args.rows few;
-      few = omega arith;
+      few = progress.few;
     }

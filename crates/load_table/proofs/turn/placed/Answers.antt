@@ -1,82 +1,45 @@
--- `placed` is the definition: End is judged after the table, and any other command is refused or leaves what its step
--- says.
-use Prim.Native.Nat.{ℕ}
-use native.Mathlib.Omega.{arith}
-use mathlib.Core.Path.{◌≡◌, ◌∙◌, refl, sym}
-use mathlib.Core.List.{List}
-use borrow.Author.Tests.{eq-eqb, ne_eqb}
-use Rattle.load_commands.specs.declared.table_command.CommandResult.{CommandResult}
-use Rattle.load_commands.specs.declared.progress.Progress.{Progress}
-use Rattle.load_commands.specs.Progress.{reading_of}
-use Rattle.load_commands.specs.CommandSteps.{step_of}
+-- `placed` is the definition by the command: each command is the definition's at its width, and End is judged after the
+-- table.
+use Rattle.std.proofs.Common.{◌∙◌, refl, sym}
 use Rattle.load_table.specs.EndReached.{end_judged}
-use Rattle.load_table.specs.Judged.{turn_ended}
-use Rattle.load_table.specs.Turned.{turn_of}
-use Rattle.load_table.specs.Turning.{rows_behind, sized_command}
+use Rattle.load_table.specs.Judged.{begin_sized, part_sized, passed_on, span_sized, wire_sized}
 use Rattle.load_table.proofs.turn.placed.Goals as goal
 
--- the turn of a command that is refused, and of one that reading goes on after
-refused_as : (bs : List ℕ) (at : ℕ) (progress then : Progress) (rows : List (List ℕ)) (b v w : ℕ)
-    (step : CommandResult) →
-    step_of (rows_behind b progress rows v) at step ≡ sized_command bs at (reading_of progress rows) b →
-    (step.number ≡ 0 → ⊥) →
-    sized_command bs at (reading_of progress rows) b ≡
-    turn_of at progress rows (record { number = step.number; position = at; byte = b; span = w; progress = then })
-unfolding step_of turn_of
-refused_as bs at progress then rows b v w step h some = sym h ∙ rw (ne_eqb step.number 0 some)
+pub returns-in_err-begin-in-Begin-clause-meant : goal.returns-in_err-begin-in-Begin-clause-meant
+returns-in_err-begin-in-Begin-clause-meant c =
+    let refused = c.in_err-begin-in-Begin.ensures.meant c.args.rows ∙ begin_sized _ _ _ in
+    rw c.in-Begin.is (sym refused ∙ passed_on c.args.at c.args.progress c.args.rows _ _ c.from_residual.ensures.1)
 
-onward_as : (bs : List ℕ) (at : ℕ) (progress : Progress) (rows : List (List ℕ)) (b v : ℕ) (step : CommandResult) →
-    step_of (rows_behind b progress rows v) at step ≡ sized_command bs at (reading_of progress rows) b →
-    step.number ≡ 0 → (b ≡ 5 → ⊥) →
-    sized_command bs at (reading_of progress rows) b ≡
-    turn_of at progress rows (record {
-      number = 0;
-      position = step.next;
-      byte = b;
-      span = v;
-      progress = step.progress;
-    })
-unfolding step_of turn_of
-onward_as bs at progress rows b v step h none other = sym h ∙ rw (eq-eqb step.number 0 none, ne_eqb b 5 other)
+pub returns-in_ok-begin-in-Begin-clause-meant : goal.returns-in_ok-begin-in-Begin-clause-meant
+returns-in_ok-begin-in-Begin-clause-meant c =
+    rw c.in-Begin.is (sym (c.in_ok-begin-in-Begin.ensures.meant c.args.rows ∙ begin_sized _ _ _))
 
-pub returns-then-b-eq-END_BYTE : goal.returns-then-b-eq-END_BYTE
-returns-then-b-eq-END_BYTE c =
-    let args = c.args in
-    record {
-      is =
-          end_judged _ _ _ _ c.requires.0 c.if-b-eq-END_BYTE.true ∙
-          sym (turn_ended args.at args.progress args.rows _ refl c.if-b-eq-END_BYTE.true);
-      byte = refl;
-      few = c.requires.1;
-      refused = λ some. absurd (some refl);
-      end = λ five. refl;
-      span = λ other. refl;
-    }
+pub returns-in_err-part-in-Part-clause-meant : goal.returns-in_err-part-in-Part-clause-meant
+returns-in_err-part-in-Part-clause-meant c =
+    let refused = c.in_err-part-in-Part.ensures.meant c.args.rows ∙ part_sized _ _ _ in
+    rw c.in-Part.is (sym refused ∙ passed_on c.args.at c.args.progress c.args.rows _ _ c.from_residual-in_err-part-in-Part.ensures.1)
 
-pub command-found-requires : goal.command-found-requires
-command-found-requires c =
-    (c.requires.0, c.requires.1, c.requires.2, omega arith, c.requires.4)
+pub returns-in_ok-part-in-Part-clause-meant : goal.returns-in_ok-part-in-Part-clause-meant
+returns-in_ok-part-in-Part-clause-meant c =
+    rw c.in-Part.is (sym (c.in_ok-part-in-Part.ensures.meant c.args.rows ∙ part_sized _ _ _))
 
-pub returns-then-step-ne0 : goal.returns-then-step-ne0
-returns-then-step-ne0 c =
-    record {
-      is = refused_as _ _ _ _ _ _ _ _ _ c.command-found.ensures.meant c.if-step-ne0.true;
-      byte = refl;
-      few = c.requires.1;
-      refused = λ some. refl;
-      end = λ five. absurd (c.if-b-eq-END_BYTE.false five);
-      span = λ other. refl;
-    }
+pub returns-in_err-span_beside-in-Span-clause-meant : goal.returns-in_err-span_beside-in-Span-clause-meant
+returns-in_err-span_beside-in-Span-clause-meant c =
+    let refused = c.in_err-span_beside-in-Span.ensures.meant ∙ span_sized _ _ _ in
+    rw c.in-Span.is (sym refused ∙ passed_on c.args.at c.args.progress c.args.rows _ _ c.from_residual-in_err-span_beside-in-Span.ensures.1)
 
-pub returns : goal.returns
-returns c =
-    let found = c.command-found in
-    let other = c.if-b-eq-END_BYTE.false in
-    record {
-      is = onward_as _ _ _ _ _ _ _ found.ensures.meant c.if-step-ne0.false other;
-      byte = refl;
-      few = found.ensures.left.left.few;
-      refused = λ some. absurd (some refl);
-      end = λ five. absurd (other five);
-      span = found.ensures.left.span;
-    }
+pub returns-in_ok-span_beside-in-Span-clause-meant : goal.returns-in_ok-span_beside-in-Span-clause-meant
+returns-in_ok-span_beside-in-Span-clause-meant c =
+    rw c.in-Span.is (sym (c.in_ok-span_beside-in-Span.ensures.meant ∙ span_sized _ _ _))
+
+pub returns-in_err-wire-in-Wire-clause-meant : goal.returns-in_err-wire-in-Wire-clause-meant
+returns-in_err-wire-in-Wire-clause-meant c =
+    let refused = c.in_err-wire-in-Wire.ensures.meant c.args.rows ∙ wire_sized _ _ _ in
+    rw c.in-Wire.is (sym refused ∙ passed_on c.args.at c.args.progress c.args.rows _ _ c.from_residual-in_err-wire-in-Wire.ensures.1)
+
+pub returns-in_ok-wire-in-Wire-clause-meant : goal.returns-in_ok-wire-in-Wire-clause-meant
+returns-in_ok-wire-in-Wire-clause-meant c =
+    rw c.in-Wire.is (sym (c.in_ok-wire-in-Wire.ensures.meant c.args.rows ∙ wire_sized _ _ _))
+
+pub returns-in-End-clause-meant : goal.returns-in-End-clause-meant
+returns-in-End-clause-meant c = rw c.in-End.is (end_judged _ _ _ _ c.requires.here refl)
