@@ -1,9 +1,10 @@
 -- End judged: the refusals that it alone decides, and that what is accepted is a table that fits. Assumes nothing.
-use Rattle.std.specs.Prelude.{ℕ, ◌+◌, ◌-◌, ◌≤◌, ◌<◌, ◌≡◌, Bool, true, cond, List, map, replicate, drop, eqb, leb}
+use Rattle.std.specs.Prelude.{ℕ, ◌+◌, ◌-◌, ◌≤◌, ◌<◌, ◌≡◌, Bool, true, cond, List, map, replicate, drop, eqb, leb, Result, Ok, Err, IfOk}
+use Rattle.std.specs.Result.{IsErrAnd}
 use Rattle.std.proofs.Common.{arith, ◌∙◌}
 use Rattle.std.proofs.Math.Path.{refl, sym, ap}
 use Rattle.std.proofs.Math.ListN.{length, take}
-use borrow.Author.Tests.{leb-true, eq-eqb, ne_eqb}
+use borrow.Author.Tests.{leb-true, ne_eqb}
 use Rattle.machine.specs.declared.part.Part.{Part}
 use Rattle.machine.specs.declared.model.Model.{Model}
 use Rattle.machine.specs.Time.{last_magnitude, magnitude_known, start}
@@ -14,6 +15,9 @@ use Rattle.machine.specs.Sound.{component_fits, table_fits}
 use Rattle.laws.specs.Alls.{all_every}
 use Rattle.sound_laws.specs.Facts.{ComponentFits, component_test, table_test}
 use Rattle.sound_laws.specs.CommandsPassed.{end_passed}
+use Rattle.refusals.specs.declared.Refusal.{Refusal}
+use Rattle.refusals.specs.Numbers.{refusal_number, refused_number}
+use Rattle.refusals.specs.Told.{some_number}
 use Rattle.order_place.specs.declared.Placed.{Placed}
 use Rattle.order_place.specs.OrderByMarks.{InOrder, order_trimmed}
 use Rattle.sound_laws.specs.Magnitude.{known_there}
@@ -38,13 +42,22 @@ pub record OrderPlaces (order places : List ℕ) : Type 0 where
   pub first : take (length order) places ≡ order
   pub rest : drop (length order) places ≡ replicate (most_parts - length order) 0
 
--- what End comes to after the table that was read: also where it is refused, the part order has all parts that could be
--- placed
-pub record Judged (read : TableRead) (r : Ending) : Type 0 where
-  pub number : r.number ≡ end_refusal (table_read read)
-  pub magnitude : r.magnitude ≡ magnitude_of (table_read read)
-  pub order : r.number ≡ 0 → take read.count r.order ≡ part_order (table_read read).parts
-  pub placed : OrderPlaces (part_order (table_read read).parts) r.order
+-- what End finds after the table that was read: its master's magnitude and its part order
+pub record Found (read : TableRead) (e : Ending) : Type 0 where
+  pub magnitude : e.magnitude ≡ magnitude_of (table_read read)
+  pub order : take read.count e.order ≡ part_order (table_read read).parts
+  pub placed : OrderPlaces (part_order (table_read read).parts) e.order
+
+-- where it does not refuse the table, with document 01's number
+pub record Judged (read : TableRead) (r : Result Ending Refusal) : Type 0 where
+  pub number : refused_number r ≡ end_refusal (table_read read)
+  pub found : IfOk r (Found read)
+
+-- which is so of a refusal that is passed on
+pub refused_judged : (read : TableRead) (r : Result Ending Refusal) (e : Refusal) → IsErrAnd r (λ x. x ≡ e) →
+    refusal_number e ≡ end_refusal (table_read read) → Judged read r
+refused_judged read (Ok ending) e is number = absurd is
+refused_judged read (Err x) e is number = record { number = rw is number; found = tt }
 
 -- a table that was read and is not refused, with the position after its End within the numbers of a word
 pub record Acceptable (read : TableRead) (e : Ending) : Type 0 where
@@ -55,23 +68,16 @@ pub record Acceptable (read : TableRead) (e : Ending) : Type 0 where
   pub order : take read.count e.order ≡ part_order (table_read read).parts
   pub within : read.position < last_position
 
--- what loading comes to where the table was refused before its End, where End refuses it, and where End accepts it
-pub refused_before : (read : TableRead) → (read.number ≡ 0 → ⊥) →
-    concluded read ≡ refused read.number read.position
-unfolding concluded
-refused_before read some = rw (ne_eqb read.number 0 some)
+-- what loading comes to where End refuses the table that was read, and where it accepts it
+pub refused_at_end : (read : TableRead) (r : Refusal) → refusal_number r ≡ end_refusal (table_read read) →
+    concluded (Ok read) ≡ refused (refusal_number r) read.position
+unfolding end_loaded
+refused_at_end read r e = rw (← e, ne_eqb (refusal_number r) 0 (some_number r))
 
-pub refused_at_end :
-    (read : TableRead) (number : ℕ) → read.number ≡ 0 → number ≡ end_refusal (table_read read) → (number ≡ 0 → ⊥) →
-    concluded read ≡ refused number read.position
-unfolding concluded end_loaded
-refused_at_end read number none e some = rw (eq-eqb read.number 0 none, ← e, ne_eqb number 0 some)
-
-pub accepted_at_end :
-    (read : TableRead) (number : ℕ) → read.number ≡ 0 → number ≡ end_refusal (table_read read) → number ≡ 0 →
-    concluded read ≡ accepted read.position (table_read read)
-unfolding concluded end_loaded
-accepted_at_end read number none e nought = rw (eq-eqb read.number 0 none, ← e, eq-eqb number 0 nought)
+pub accepted_at_end : (read : TableRead) → 0 ≡ end_refusal (table_read read) →
+    concluded (Ok read) ≡ accepted read.position (table_read read)
+unfolding end_loaded
+accepted_at_end read e = rw (← e)
 
 -- End's refusal by its three causes
 end_by : (t : Table) → end_refusal t ≡ end_number (length t.parts) (periods_fit t) (length (part_order t.parts))
@@ -169,18 +175,18 @@ module _ (read : TableRead) (few : read.count ≤ length read.parts) where
 
   -- so a table that was read and is not refused can be accepted
   pub acceptable :
-      (r : Ending) → Ended read → read.number ≡ 0 →
-      ((concluded read).number ≡ 0 → (concluded read).position ≤ last_position) → Judged read r →
-      r.number ≡ 0 → Acceptable read r
+      (e : Ending) → Ended read →
+      ((concluded (Ok read)).number ≡ 0 → (concluded (Ok read)).position ≤ last_position) →
+      0 ≡ end_refusal (table_read read) → Found read e → Acceptable read e
   unfolding accepted
-  acceptable r e ended within j none =
-      let is = accepted_at_end read r.number ended j.number none in
+  acceptable e ended within none found =
+      let is = accepted_at_end read none in
       let after : read.position + 1 ≤ last_position = (rw is at within) refl in
       record {
-        few = e.few;
-        fits = accepted_fits e (sym j.number ∙ none);
-        magnitude = j.magnitude;
-        small = rw j.magnitude (magnitude_small e);
-        order = j.order none;
+        few = ended.few;
+        fits = accepted_fits ended (sym none);
+        magnitude = found.magnitude;
+        small = rw found.magnitude (magnitude_small ended);
+        order = found.order;
         within = omega arith;
       }

@@ -1,44 +1,44 @@
 // End: the refusals that it alone decides, in document 01's order, and the model of an accepted table. Its contracts
-// cite `specs/EndRefusals.antt` and `specs/Blank.antt`, the machine's `specs/Load.antt`, and `specs/Concluded.antt` of
-// `load_table`.
-ghost use Rattle.std.specs.Prelude.{◌≡◌, ◌≤◌};
+// cite `specs/EndRefusals.antt` and `specs/Accepting.antt`, the machine's `specs/Load.antt`, and `specs/Concluded.antt`
+// of `load_table`.
+ghost use Rattle.std.specs.Prelude.{◌≡◌};
 ghost use Rattle.machine.specs.Load.{accepted};
 ghost use Rattle.machine.specs.Model.{trimmed, trimmed_loaded};
+ghost use Rattle.refusals.specs.Numbers.{refused_number};
 ghost use Rattle.step_parts.specs.Start.{unfilled};
-ghost use Rattle.load_table.specs.Concluded.{Ended, concluded, table_read};
-ghost use Rattle.load_call.specs.Blank.{blank_model};
-ghost use Rattle.load_call.specs.EndRefusals.{Acceptable, Judged, end_number, last_position};
+ghost use Rattle.load_table.specs.Concluded.{Ended, table_read};
+ghost use Rattle.load_call.specs.Accepting.{accepted_of};
+ghost use Rattle.load_call.specs.EndRefusals.{Acceptable, Judged, end_number};
 
-use crate::blank::refused;
+use crate::Accepted;
 use crate::first::first_parts;
 use crate::ratios::{master_magnitude, periods_fit};
 use load_table::table::TableRead;
-use machine::model::{Loaded, Model, PARTS};
+use machine::model::{Model, PARTS};
 use machine::time::Point;
 use order_place::place;
-use refusals::numbers::{LOOP, NO_PARTS, PERIOD_TOO_LONG, first_of, refusal};
+use refusals::Refusal;
 use step_parts::start::started;
 
 // The refusal at an End after `count` parts, by whether every P fits, and how many parts could be placed.
-fn end_refusal(count: usize, fit: bool, placed: usize) -> u64
-    ensures { result ≡ end_number count fit placed }
+#[tactic(auto, unfolding(crate::specs::EndRefusals::end_number))]
+fn end_refusal(count: usize, fit: bool, placed: usize) -> Result<(), Refusal>
+    ensures { refused_number result ≡ end_number count fit placed }
 {
-    let none = refusal(count == 0, NO_PARTS);
-    let period = refusal(!fit, PERIOD_TOO_LONG);
-    let closed = refusal(placed < count, LOOP);
-    first_of(none, first_of(period, closed))
+    Refusal::NoParts.when(count == 0)?;
+    Refusal::PeriodTooLong.when(!fit)?;
+    Refusal::Loop.when(placed < count)
 }
 
-// What End comes to: document 01's number (0: accepted), the master's magnitude, and the part order.
+// What End finds where it does not refuse the table: the master's magnitude, and the part order.
 #[derive(Clone, Copy)]
-struct Ending {
-    number: u64,
+pub(crate) struct Ending {
     magnitude: u8,
     order: [u16; PARTS],
 }
 
 // What End comes to after the table that was read.
-fn judged(read: TableRead) -> Ending
+pub(crate) fn judged(read: TableRead) -> Result<Ending, Refusal>
     requires { Ended read }
     ensures { Judged read result }
 {
@@ -47,13 +47,9 @@ fn judged(read: TableRead) -> Ending
     let magnitude = master_magnitude(parts, count, read.magnitude);
     let fit = periods_fit(parts, count, magnitude);
     let placed = place(parts, count);
-    let number = end_refusal(count, fit, placed.count);
+    end_refusal(count, fit, placed.count)?;
     let order = placed.order;
-    Ending {
-        number: number,
-        magnitude: magnitude,
-        order: order,
-    }
+    Ok(Ending { magnitude, order })
 }
 
 // The model of a table that was read before its start point is filled, by the master's magnitude and the part order.
@@ -62,49 +58,24 @@ fn unfilled_model(read: TableRead, ending: Ending) -> Model
     requires { Acceptable read ending }
     ensures { trimmed result ≡ unfilled (table_read read) }
 {
-    let parts = read.parts;
-    let first = first_parts(parts, read.count, ending.magnitude);
+    let parts = first_parts(read.parts, read.count, ending.magnitude);
     let order = ending.order;
-    let start = Point::start();
     Model {
         magnitude: read.magnitude,
         count: read.count,
-        order: order,
-        point: start,
-        parts: first,
+        order,
+        point: Point::start(),
+        parts,
     }
 }
 
-// A table that is accepted, with the fresh model. Free are the bytes of unused places.
-fn accept(read: TableRead, ending: Ending) -> Loaded
+// A table that is accepted, with the fresh model and the position after its End. Free are the bytes of unused places.
+pub(crate) fn accept(read: TableRead, ending: Ending) -> Accepted
     requires { Acceptable read ending }
-    ensures { trimmed_loaded result ≡ accepted read.position (table_read read) }
+    ensures { trimmed_loaded (accepted_of result) ≡ accepted read.position (table_read read) }
 {
-    let m = unfilled_model(read, ending);
-    let model = started(m);
-    Loaded {
-        number: 0,
+    Accepted {
+        model: started(unfilled_model(read, ending)),
         position: read.position + 1,
-        model: model,
     }
-}
-
-// What loading comes to, by what reading the table came to. Free are the bytes of unused places of a model; of a
-// refusal not even those are.
-pub(crate) fn finished(read: TableRead) -> Loaded
-    requires ended { read.number ≡ 0 → Ended read }
-    requires within { (concluded read).number ≡ 0 → (concluded read).position ≤ last_position }
-    ensures loads { trimmed_loaded result ≡ concluded read }
-    ensures refused { (result.number ≡ 0 → ⊥) → result.model ≡ blank_model }
-{
-    let number = read.number;
-    if number != 0 {
-        return refused(number, read.position);
-    }
-    let ending = judged(read);
-    let number = ending.number;
-    if number != 0 {
-        return refused(number, read.position);
-    }
-    accept(read, ending)
 }

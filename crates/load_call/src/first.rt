@@ -17,34 +17,27 @@ use part_rules::ratio::ratio_of;
 fn first_number(holds: bool, v: i64) -> i64
     ensures { result ≡ cond holds v (pos 0) }
 {
-    if holds {
-        return v;
-    }
-    0
+    if holds { v } else { 0 }
 }
 
 // The first part of a component, by the master's magnitude.
+#[tactic(auto, unfolding(crate::specs::FirstPlaces::first_by, machine::specs::Fresh::first_state))]
 fn first_part(c: Component, magnitude: u8) -> Part
     requires { magnitude ≤ last_magnitude }
     ensures { result ≡ first_by magnitude c }
 {
-    let kind = c.kind;
-    let ratio = ratio_of(magnitude, c.preference);
-    let held = first_number(holds_number(kind), c.a);
-    let speed = first_number(has_mass(kind), c.b);
-    let state = State {
-        local: LocalTicks(0),
-        held: held,
-        speed: speed,
-        signal: Signal::Absent,
-        output: Signal::Absent,
-        side: Side::Unset,
-        mark: Mark::Clear,
-    };
     Part {
         component: c,
-        ratio: ratio,
-        state: state,
+        ratio: ratio_of(magnitude, c.preference),
+        state: State {
+            local: LocalTicks(0),
+            held: first_number(holds_number(c.kind), c.a),
+            speed: first_number(has_mass(c.kind), c.b),
+            signal: Signal::Absent,
+            output: Signal::Absent,
+            side: Side::Unset,
+            mark: Mark::Clear,
+        },
     }
 }
 
@@ -54,14 +47,9 @@ pub(crate) fn first_parts(parts: [Component; PARTS], count: usize, magnitude: u8
     requires known { magnitude ≤ last_magnitude }
     ensures { result ≡ first_places magnitude count parts }
 {
-    let blank = blank_part();
-    let mut all = [blank; PARTS];
-    let mut i: usize = 0;
-    while i < count {
-        let c = parts[i];
-        let part = first_part(c, magnitude);
-        all[i] = part;
-        i += 1;
+    let mut all = [blank_part(); PARTS];
+    for i in 0..count {
+        all[i] = first_part(parts[i], magnitude);
     }
     all
 }

@@ -5,24 +5,58 @@
 ghost use Rattle.std.specs.Prelude.{◌≡◌};
 ghost use Rattle.machine.specs.Load.{load};
 ghost use Rattle.machine.specs.Model.{trimmed_loaded};
+ghost use Rattle.load_call.specs.Accepting.{loaded_of};
 ghost use Rattle.load_call.specs.Blank.{blank_model};
 
-use crate::ending::finished;
+use crate::blank::no_model;
+use crate::ending::{accept, judged};
 use load_table::table::read_table;
-use machine::model::Loaded;
+use machine::model::{Loaded, Model};
+use refusals::RefusedAt;
 
 mod blank;
 mod ending;
 mod first;
 mod ratios;
 
-// The table at the start of a stream, loaded: its fresh model and the position after its End, or the number and
-// position of the first refusal. Free are the bytes of unused places alone, which `trimmed_loaded` cuts away; of a
-// refused load not even those are.
+// A table that was loaded: its fresh model, and the position after its End. Free are the bytes of the model's unused
+// places.
+#[derive(Clone, Copy)]
+pub struct Accepted {
+    pub model: Model,
+    pub position: usize,
+}
+
+// The table at the start of a stream, loaded, or the first refusal with its position. Free are the bytes of unused
+// places alone, which `trimmed_loaded` cuts away.
+pub fn loaded(bytes: &[u8]) -> Result<Accepted, RefusedAt>
+    ensures { trimmed_loaded (loaded_of result) ≡ load bytes.now }
+{
+    let read = read_table(bytes)?;
+    match judged(read) {
+        Ok(ending) => Ok(accept(read, ending)),
+        Err(refusal) => Err(refusal.at(read.position)),
+    }
+}
+
+// The same, as a number, a position and a model: of a refusal the model of no parts with all else 0.
 pub fn load(bytes: &[u8]) -> Loaded
     ensures loads { trimmed_loaded result ≡ load bytes.now }
     ensures refused { (result.number ≡ 0 → ⊥) → result.model ≡ blank_model }
 {
-    let read = read_table(bytes);
-    finished(read)
+    match loaded(bytes) {
+        Ok(accepted) => {
+            let model = accepted.model;
+            Loaded {
+                number: 0,
+                position: accepted.position,
+                model,
+            }
+        }
+        Err(refused) => Loaded {
+            number: refused.refusal.number(),
+            position: refused.position,
+            model: no_model(),
+        },
+    }
 }

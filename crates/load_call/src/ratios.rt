@@ -16,11 +16,8 @@ pub(crate) fn master_magnitude(parts: [Component; PARTS], count: usize, default:
     ensures { result ≡ magnitude_of (table_in default count parts) }
 {
     let mut magnitude = default;
-    let mut i: usize = 0;
-    while i < count {
-        let c = parts[i];
-        magnitude = larger_of(magnitude, c.preference);
-        i += 1;
+    for i in 0..count {
+        magnitude = larger_of(magnitude, parts[i].preference);
     }
     magnitude
 }
@@ -31,14 +28,11 @@ pub(crate) fn periods_fit(parts: [Component; PARTS], count: usize, magnitude: u8
     requires known { magnitude ≤ last_magnitude }
     ensures { result ≡ periods_within magnitude (components_read count parts) }
 {
-    let mut i: usize = 0;
-    while i < count {
-        let c = parts[i];
-        let ratio = ratio_of(magnitude, c.preference);
-        if !period_fits(c.p, ratio) {
+    for i in 0..count {
+        let ratio = ratio_of(magnitude, parts[i].preference);
+        if !period_fits(parts[i].p, ratio) {
             return false;
         }
-        i += 1;
     }
     true
 }

@@ -3,11 +3,11 @@ use Rattle.machine.specs.Load.{accepted}
 use Rattle.machine.specs.Model.{trimmed_loaded}
 use Rattle.load_call.proofs.ending.accept.Goals as goal
 
-pub started-model-requires : goal.started-model-requires
-started-model-requires c =
+pub started-requires : goal.started-requires
+started-requires c =
     let acceptable = c.requires in
-    record { table = _; fits = acceptable.fits; is = c.unfilled_model-m.ensures }
+    record { table = _; fits = acceptable.fits; is = c.unfilled_model.ensures }
 
 pub returns : goal.returns
 unfolding trimmed_loaded accepted
-returns c = rw (c.started-model.ensures _ c.unfilled_model-m.ensures)
+returns c = rw (c.started.ensures _ c.unfilled_model.ensures)

@@ -16,7 +16,7 @@ returns c =
     let read = c.args.read in
     let acceptable = c.requires in
     let few : read.count ≤ length read.parts = omega (arith, acceptable.few) in
-    let firsts = c.first_parts-first in
+    let firsts = c.first_parts-parts in
     let stored = ap (λ (l : List Part). map trimmed_part (take read.count l)) firsts.ensures in
-    rw c.start-start.ensures (unfilled_is read few c.args.ending firsts.result acceptable (stored ∙
+    rw c.start.ensures (unfilled_is read few c.args.ending firsts.result acceptable (stored ∙
     first_stored read.count read.parts few _))

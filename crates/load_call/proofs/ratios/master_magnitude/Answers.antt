@@ -1,5 +1,5 @@
 -- `master_magnitude` is the master's magnitude of the table. The loop's invariant: it is that of what was found so far
--- and the preferences from i on. The measure is what is left of the count.
+-- and the preferences from i on.
 use Prim.Native.Nat.{ℕ, ◌+◌, ◌≤◌}
 use native.Mathlib.Omega.{arith}
 use mathlib.Core.Path.{◌∙◌, refl, sym, ap}
@@ -12,9 +12,6 @@ use Rattle.load_call.proofs.ratios.master_magnitude.Goals as goal
 
 pub loop-i-init : goal.loop-i-init
 loop-i-init c = refl
-
-pub loop-i-smaller : goal.loop-i-smaller
-loop-i-smaller c = omega arith
 
 pub loop-i-preserved : goal.loop-i-preserved
 loop-i-preserved c =

@@ -1,5 +1,5 @@
 -- `periods_fit` asks every component. The loop's invariant: the test of all components is the test of those from i on.
--- The measure is what is left of the count.
+--
 use Prim.Native.Nat.{◌+◌, ◌≤◌}
 use native.Mathlib.Omega.{arith}
 use mathlib.Core.Path.{◌≡◌, ◌∙◌, refl, sym}
@@ -23,9 +23,6 @@ turn c =
 
 pub loop-i-init : goal.loop-i-init
 loop-i-init c = refl
-
-pub loop-i-smaller : goal.loop-i-smaller
-loop-i-smaller c = omega arith
 
 pub returns-then-not-period_fits : goal.returns-then-not-period_fits
 returns-then-not-period_fits c =

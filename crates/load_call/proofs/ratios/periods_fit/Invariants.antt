@@ -1,4 +1,3 @@
-use Prim.Native.Nat.{◌-◌}
 use mathlib.Core.Path.{◌≡◌}
 use lib.ListN.{drop}
 use Rattle.load_call.specs.FirstPlaces.{components_read, periods_within}
@@ -8,6 +7,3 @@ abbrev pub invariant-loop-i : goal.invariant-loop-i
 invariant-loop-i l =
     periods_within l.magnitude (components_read l.count l.parts) ≡
     periods_within l.magnitude (drop l.i (components_read l.count l.parts))
-
-abbrev pub decreases-loop-i : goal.decreases-loop-i
-decreases-loop-i l = l.count - l.i
