@@ -39,7 +39,8 @@ fn refusal_in(table: &[u64], state: &[u64], h: Ticks) -> Result<(), Refusal>
 // How a call ends that nothing bars, its state left in `new`: rounds lower h under a ceiling until one changes nothing;
 // the step is then refused, or made on trial in `new`, and an objection to the trial halves the ceiling. A trial is
 // settled where it is taken up, and written over where it is dropped. Within the search, h and the ceiling are plain
-// numbers; h counts ticks where parts are asked and a step is made.
+// numbers; h counts ticks where parts are asked and a step is made. The loop of rounds within that of ceilings, and
+// rounds as a counter, are the forms that document 01 names.
 pub(crate) fn searched_into(table: &[u64], old: &[u64], w: u64, new: &mut [u64]) -> Outcome
     requires { Steppable table.now old.now new.old w }
     ensures { SearchedInto table.now old.now w new.old new.new result }

@@ -97,7 +97,8 @@ fn play_command(
 }
 
 // One score command, asked of the state that the rehearsal is in: the second of the two where they are exchanged. It
-// is then in the second where the answer says `moved`.
+// is then in the second where the answer says `moved`. Two calls, and no exchange of the two references: after one the
+// proof of `returns` has no name for the words that each of them ends with.
 fn play_exchanged(
     stream: &[u8],
     at: usize,
@@ -128,7 +129,8 @@ fn play_exchanged(
     play_command(stream, at, table, first, format, second, lines, used)
 }
 
-// The score commands from `from` on, as long as there is room for another line.
+// The score commands from `from` on, as long as there is room for another line. It counts nothing: each command tells
+// where the next one is, and how much room is left.
 pub fn play_batch(
     stream: &[u8],
     from: usize,
