@@ -18,8 +18,7 @@ use advance_call::advance_into;
 use load_call::load;
 use machine::model::{Model, Outcome, Written};
 use preview_call::preview_into;
-use refusals::Unwritten;
-use refusals::numbers::NOT_SOUND;
+use refusals::{Refusal, Unwritten};
 use save_call::save;
 use sheet_call::sheet;
 use words_transfer::intake::put_model;
@@ -191,15 +190,12 @@ fn print_words(
     second: usize,
     third: usize,
     buffer: &mut [u8],
-) -> Written
+) -> Result<usize, Unwritten>
     ensures { PrintedInto table.now state.now outcome.now first second third
-        buffer.old buffer.new result }
+        buffer.old buffer.new (written_of result) }
 {
     if outcome.len() < OUTCOME {
-        return Written {
-            number: NOT_SOUND,
-            length: 0,
-        };
+        return Err(Unwritten::Refused(Refusal::NotSound));
     }
     let ended = outcome_in(outcome);
     sheet(table, state, ended, first, second, third, buffer)
@@ -226,7 +222,7 @@ pub extern "C" fn dozhumek_sheet(
         buffer.old buffer.new
         out.old out.new result }
 {
-    let line = print_words(
+    let line = told(print_words(
         table,
         state,
         outcome,
@@ -234,7 +230,7 @@ pub extern "C" fn dozhumek_sheet(
         second as usize,
         third as usize,
         buffer,
-    );
+    ));
     put_found(out, line.number, line.length as u64);
     line.number
 }

@@ -94,7 +94,7 @@ pub(crate) fn put_answer(
             used + length
         }
         Format::Sheet(choice) => {
-            let w = sheet(
+            let written = sheet(
                 table,
                 state,
                 v,
@@ -103,7 +103,7 @@ pub(crate) fn put_answer(
                 choice.third,
                 &mut lines[used..],
             );
-            used + w.length
+            used + written.unwrap()
         }
     }
 }

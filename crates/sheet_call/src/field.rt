@@ -15,17 +15,14 @@ use write_lines::text::{put_decimal, put_value};
 const OUTPUT_WIDTH: usize = 11;
 
 // Blanks.
+#[tactic(auto, using(std::proofs::lemmas::Slice::overwrites))]
 pub(crate) fn put_blanks(out: &mut [u8], at: usize, count: usize) -> usize
     requires { at + count ≤ length out.old }
     ensures { Put count (replicate count blank) at out.old out.new result }
 {
-    let mut next = at;
-    let mut i: usize = 0;
-    while i < count {
-        next = put_byte(out, next, b' ');
-        i += 1;
-    }
-    next
+    let end = at + count;
+    out[at..end].fill(b' ');
+    end
 }
 
 // A number in a field of a width, and a blank after it.

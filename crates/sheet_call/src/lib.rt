@@ -5,12 +5,14 @@
 
 ghost use Rattle.std.specs.Prelude.{◌≡◌, ◌&&◌, ◌≤◌, ltb, length};
 ghost use Rattle.machine.specs.Sheet.{sheet_line};
+ghost use Rattle.refusals.specs.Numbers.{refused_number};
+ghost use Rattle.refusals.specs.Unwritten.{written_of};
 ghost use Rattle.write_bytes.specs.Put.{Put};
 ghost use Rattle.sheet_call.specs.SheetInto.{SheetInto, lent_sheet_refusal, outcome_answer};
 
 use crate::row::{counts_fit, put_refusal_row, put_step_row};
-use machine::model::{Outcome, Written};
-use refusals::numbers::{NOT_PRINTABLE, NOT_SOUND, TOO_SHORT};
+use machine::model::Outcome;
+use refusals::{Refusal, Unwritten};
 use sound_test::is_sound_in;
 use words_store::lookup::{output_at, parts_of, point_of};
 
@@ -20,20 +22,15 @@ mod row;
 // How many bytes a line has, its line feed among them.
 const LINE: usize = 79;
 
-// Whether a table of so many parts has all three.
+// Whether a table of so many parts has all three. They go with one another as three numbers, as the exported call
+// hands them over and `SheetInto` takes them.
 fn parts_there(count: usize, first: usize, second: usize, third: usize) -> bool
     ensures { result ≡ ltb first count && ltb second count && ltb third count }
 {
-    if first >= count {
-        return false;
-    }
-    if second >= count {
-        return false;
-    }
-    third < count
+    first < count && second < count && third < count
 }
 
-// The number with which a line is refused before its room is looked at, 0 where nothing refuses it: 24, then 26.
+// What refuses a line before its room is looked at: 24, then 26.
 fn refusal_of(
     table: &[u64],
     state: &[u64],
@@ -41,23 +38,13 @@ fn refusal_of(
     first: usize,
     second: usize,
     third: usize,
-) -> u64
-    ensures { result ≡ lent_sheet_refusal table.now state.now outcome first second third }
+) -> Result<(), Refusal>
+    ensures { refused_number result ≡ lent_sheet_refusal table.now state.now outcome first second third }
 {
-    if !is_sound_in(table, state) {
-        return NOT_SOUND;
-    }
-    let count = parts_of(table);
-    if !parts_there(count, first, second, third) {
-        return NOT_PRINTABLE;
-    }
-    if outcome.number != 0 {
-        return 0;
-    }
-    if !counts_fit(outcome.step, outcome.rounds, outcome.revisions) {
-        return NOT_PRINTABLE;
-    }
-    0
+    Refusal::NotSound.when(!is_sound_in(table, state))?;
+    Refusal::NotPrintable.when(!parts_there(parts_of(table), first, second, third))?;
+    let shown = outcome.number != 0 || counts_fit(outcome);
+    Refusal::NotPrintable.when(!shown)
 }
 
 // A line that nothing refuses, into a buffer that has room for it.
@@ -82,17 +69,7 @@ fn put_line(
     let x = output_at(state, first);
     let y = output_at(state, second);
     let z = output_at(state, third);
-    put_step_row(
-        out,
-        now.t.0,
-        now.n,
-        outcome.step,
-        outcome.rounds,
-        outcome.revisions,
-        x,
-        y,
-        z,
-    )
+    put_step_row(out, now, outcome, x, y, z)
 }
 
 // The sheet line of an answer, written into `out`: the model is that of lent words, whatever they are, `outcome` how
@@ -108,25 +85,13 @@ pub fn sheet(
     second: usize,
     third: usize,
     out: &mut [u8],
-) -> Written
+) -> Result<usize, Unwritten>
     ensures { SheetInto table.now state.now outcome first second third out.old
-        out.new result }
+        out.new (written_of result) }
 {
-    let number = refusal_of(table, state, outcome, first, second, third);
-    if number != 0 {
-        return Written {
-            number: number,
-            length: 0,
-        };
-    }
+    refusal_of(table, state, outcome, first, second, third)?;
     if out.len() < LINE {
-        return Written {
-            number: TOO_SHORT,
-            length: LINE,
-        };
+        return Err(Unwritten::Short(LINE));
     }
-    Written {
-        number: 0,
-        length: put_line(table, state, outcome, first, second, third, out),
-    }
+    Ok(put_line(table, state, outcome, first, second, third, out))
 }

@@ -4,10 +4,13 @@ ghost use Rattle.std.specs.Prelude.{◌≡◌, ◌&&◌, true, ◌≤◌, leb, l
 ghost use Rattle.machine.specs.Rehearse.{decimal};
 ghost use Rattle.machine.specs.Sheet.{ShownStep, refused_row, revisions_width, rounds_width, shown_fits, shown_line};
 ghost use Rattle.machine.specs.Sheet.{step_width};
+ghost use Rattle.machine.specs.Time.{tick};
 ghost use Rattle.write_bytes.specs.Put.{Put};
 
 use crate::field::{put_blanks, put_number_field, put_output_field};
+use machine::model::Outcome;
 use machine::signal::Signal;
+use machine::time::Point;
 use write_bytes::put::put_byte;
 use write_lines::length::digits_of;
 use write_lines::line::put_refusal;
@@ -27,41 +30,36 @@ const REVISIONS_WIDTH: usize = 2;
 const COLUMNS: usize = 78;
 
 // Whether the counts of an answer are no wider than their fields.
-pub(crate) fn counts_fit(step: u64, rounds: u64, revisions: u64) -> bool
-    ensures { result ≡ leb (length (decimal step)) step_width && leb (length (decimal rounds)) rounds_width &&
-        leb (length (decimal revisions)) revisions_width }
+pub(crate) fn counts_fit(outcome: Outcome) -> bool
+    ensures { result ≡ leb (length (decimal outcome.step)) step_width &&
+        leb (length (decimal outcome.rounds)) rounds_width &&
+        leb (length (decimal outcome.revisions)) revisions_width }
 {
-    if digits_of(step) > STEP_WIDTH {
-        return false;
-    }
-    if digits_of(rounds) > ROUNDS_WIDTH {
-        return false;
-    }
-    digits_of(revisions) <= REVISIONS_WIDTH
+    digits_of(outcome.step) <= STEP_WIDTH
+        && digits_of(outcome.rounds) <= ROUNDS_WIDTH
+        && digits_of(outcome.revisions) <= REVISIONS_WIDTH
 }
 
-// The line of a committed answer: t, n, step, rounds, revisions and three outputs.
+// The line of a committed answer: the point at which it is now, its counts and three outputs.
 pub(crate) fn put_step_row(
     out: &mut [u8],
-    t: u64,
-    n: u64,
-    step: u64,
-    rounds: u64,
-    revisions: u64,
+    now: Point,
+    outcome: Outcome,
     first: Signal,
     second: Signal,
     third: Signal,
 ) -> usize
-    requires fits { shown_fits (ShownStep t n step rounds revisions first second third) ≡ true }
+    requires fits { shown_fits (ShownStep (tick now) now.n outcome.step outcome.rounds outcome.revisions
+        first second third) ≡ true }
     requires has_room { 79 ≤ length out.old }
-    ensures { Put 79 (shown_line (ShownStep t n step rounds revisions first second third)) 0 out.old
-        out.new result }
+    ensures { Put 79 (shown_line (ShownStep (tick now) now.n outcome.step outcome.rounds outcome.revisions
+        first second third)) 0 out.old out.new result }
 {
-    let at = put_number_field(out, 0, TICK_WIDTH, t);
-    let at = put_number_field(out, at, MICROSTEP_WIDTH, n);
-    let at = put_number_field(out, at, STEP_WIDTH, step);
-    let at = put_number_field(out, at, ROUNDS_WIDTH, rounds);
-    let at = put_number_field(out, at, REVISIONS_WIDTH, revisions);
+    let at = put_number_field(out, 0, TICK_WIDTH, now.t.0);
+    let at = put_number_field(out, at, MICROSTEP_WIDTH, now.n);
+    let at = put_number_field(out, at, STEP_WIDTH, outcome.step);
+    let at = put_number_field(out, at, ROUNDS_WIDTH, outcome.rounds);
+    let at = put_number_field(out, at, REVISIONS_WIDTH, outcome.revisions);
     let at = put_output_field(out, at, first, b' ');
     let at = put_output_field(out, at, second, b' ');
     put_output_field(out, at, third, b'\n')

@@ -4,5 +4,5 @@ use Rattle.boundary.proofs.dozhumek_sheet.Goals as goal
 
 pub returns : goal.returns
 returns c =
-    printed_words _ _ _ _ _ _ _ _ _ _ c.print_words-line.result c.print_words-line.ensures
+    printed_words _ _ _ _ _ _ _ _ _ _ c.told-line.result (rw (← c.told-line.ensures) at c.print_words.ensures)
     c.put_found.ensures

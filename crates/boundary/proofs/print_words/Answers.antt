@@ -9,4 +9,4 @@ returns-then-outcome-lt-OUTCOME c = printed_few _ _ _ _ _ _ _ (omega arith)
 pub returns : goal.returns
 returns c =
     let line = rw c.outcome_in-ended.ensures at c.sheet.ensures in
-    printed_told _ _ _ _ _ _ _ _ c.sheet.result c.if-outcome-lt-OUTCOME.false line
+    printed_told _ _ _ _ _ _ _ _ _ c.if-outcome-lt-OUTCOME.false line

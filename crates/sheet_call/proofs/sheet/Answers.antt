@@ -1,5 +1,10 @@
 -- `sheet` has the number of the tests that come first, then looks at the room, and puts the line, which has 79 bytes
 -- whatever it shows.
+use Rattle.std.proofs.Common.{Result, Ok, ap}
+use Rattle.std.proofs.lemmas.Result.{err_from_is_err_and}
+use Rattle.refusals.specs.declared.Refusal.{Refusal}
+use Rattle.refusals.specs.Numbers.{refused_number}
+use Rattle.refusals.specs.Told.{some_number}
 use Prim.Native.Nat.{ℕ, ◌≤◌, ◌<◌}
 use native.Mathlib.Omega.{arith}
 use mathlib.Core.Path.{◌≡◌, sym, ◌∙◌}
@@ -33,18 +38,25 @@ module _ (ts ss : List ℕ) (v : Outcome) (a b c : ℕ) (before : List ℕ) wher
         SheetInto ts ss v a b c before after (record { number = 0; length = r })
     put_line room put = let size = line_length ts ss v a b c small free in rw free (put_in (omega (arith, size)) put)
 
-pub returns-then-number-ne0 : goal.returns-then-number-ne0
-returns-then-number-ne0 c = refused _ _ _ _ _ _ _ _ c.if-number-ne0.true c.refusal_of-number.ensures
+-- where its tests refuse nothing, their number is 0
+free : {x : Result (Unit {0}) Refusal} {u : Unit {0}} {n : ℕ} → refused_number x ≡ n → x ≡ Ok u → n ≡ 0
+free number ok = sym number ∙ ap refused_number ok
+
+pub returns-in_err-refusal_of : goal.returns-in_err-refusal_of
+returns-in_err-refusal_of c =
+    let told = err_from_is_err_and c.from_residual.result c.from_residual.ensures.1 in
+    let number = sym (ap refused_number c.in_err-refusal_of.was) ∙ c.refusal_of.ensures in
+    rw (told.1, told.2) (refused _ _ _ _ _ _ _ _ (some_number c.in_err-refusal_of.field-0.0) number)
 
 pub returns-then-out-lt-LINE : goal.returns-then-out-lt-LINE
 returns-then-out-lt-LINE c =
-    no_room _ _ _ _ _ _ _ (omega (arith, c.well_formed)) (sym c.refusal_of-number.ensures ∙
-    c.if-number-ne0.false) c.if-out-lt-LINE.true
+    no_room _ _ _ _ _ _ _ (omega (arith, c.well_formed)) (free c.refusal_of.ensures c.in_ok-refusal_of.was)
+    c.if-out-lt-LINE.true
 
 pub put_line-requires-clause-not_refused : goal.put_line-requires-clause-not_refused
-put_line-requires-clause-not_refused c = sym c.refusal_of-number.ensures ∙ c.if-number-ne0.false
+put_line-requires-clause-not_refused c = free c.refusal_of.ensures c.in_ok-refusal_of.was
 
 pub returns : goal.returns
 returns c =
-    put_line _ _ _ _ _ _ _ (omega (arith, c.well_formed)) (sym c.refusal_of-number.ensures ∙
-    c.if-number-ne0.false) c.if-out-lt-LINE.false c.put_line.ensures
+    put_line _ _ _ _ _ _ _ (omega (arith, c.well_formed)) (free c.refusal_of.ensures c.in_ok-refusal_of.was)
+    c.if-out-lt-LINE.false c.put_line.ensures

@@ -19,9 +19,16 @@ unwrap-length-requires c =
     wrote_ok c.write_spelled.result line
     (part_room c.args.used c.args.lines.now c.requires.line_room line c.write_spelled.ensures.length_bound)
 
+pub unwrap-requires : goal.unwrap-requires
+unwrap-requires c =
+    let sheet = sheet_written _ _ _ _ _ c.in-Sheet.is c.requires.answer_in c.sheet-written.ensures in
+    wrote_ok c.sheet-written.result sheet.0
+    (part_room c.args.used c.args.lines.now c.requires.line_room sheet.0 sheet.1)
+
 pub overflow_add-result-in-Sheet : goal.overflow_add-result-in-Sheet
 overflow_add-result-in-Sheet c =
-    let sheet = sheet_written _ _ _ _ _ c.in-Sheet.is c.requires.answer_in c.sheet-w.ensures in
+    let told = rw c.unwrap.ensures at c.sheet-written.ensures in
+    let sheet = sheet_written _ _ _ _ _ c.in-Sheet.is c.requires.answer_in told in
     omega (arith, sheet.1, c.requires.line_room)
 
 pub returns-in-Plain : goal.returns-in-Plain
@@ -33,7 +40,8 @@ returns-in-Plain c =
 
 pub returns-in-Sheet : goal.returns-in-Sheet
 returns-in-Sheet c =
-    let sheet = sheet_written _ _ _ _ _ c.in-Sheet.is c.requires.answer_in c.sheet-w.ensures in
+    let told = rw c.unwrap.ensures at c.sheet-written.ensures in
+    let sheet = sheet_written _ _ _ _ _ c.in-Sheet.is c.requires.answer_in told in
     let args = c.args in
     sheet_put (outcome_answer args.table.now args.state.now args.v) _ _ c.in-Sheet.is
     (put_part args.used c.requires.line_room sheet.0 sheet.1)
