@@ -11,6 +11,10 @@
 //!                                     with arrays, that the functions of the crates hold by value
 //!     arrays rows FILE.mir...         prints what the plan has to name
 //!
+//! A generic function is looked at with what each call gives for its parameters, and where no call is known with any
+//! type: then an array of it is one of signals too, and has no bytes that could be planned. What a closure captures is
+//! the record that its functions are given.
+//!
 //! Status 1 and a line for each thing found.
 
 mod code;
