@@ -1,6 +1,6 @@
 -- `put_spans` puts spans one by one.
-use Rattle.std.proofs.Common.{ℕ, ◌+◌, ◌*◌, ◌<◌, ◌≡◌, List, [], ◌∷◌, ◌++◌, length, get_or, take, add-one, arith, refl, sym}
-use Rattle.std.proofs.Common.{ap, ◌∙◌, append_assoc, take_all}
+use Rattle.std.proofs.Common.{ℕ, ◌+◌, ◌*◌, ◌<◌, ◌≡◌, List, [], ◌∷◌, ◌++◌, length, get_or, take, add-one, arith, refl}
+use Rattle.std.proofs.Common.{sym, ap, ◌∙◌, append_assoc, take_all}
 use Rattle.std.proofs.Math.Seq.{take-suc}
 use Rattle.machine.specs.TableBytes.{spans_bytes}
 use Rattle.write_bytes.specs.Put.{Put}

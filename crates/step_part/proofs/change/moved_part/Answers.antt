@@ -1,5 +1,5 @@
--- `moved_part` is `moved`: the gain is added to the local count. The speed and the held number are the definition's, the
--- second by the new speed where the part has mass.
+-- `moved_part` is `moved`: the gain is added to the local count. The speed and the held number are the definition's,
+-- the second by the new speed where the part has mass.
 use Rattle.std.specs.Prelude.{ℕ, ℤ, ◌≡◌, Bool, true, false, cond}
 use Rattle.std.specs.Int.{w64}
 use Rattle.machine.specs.declared.signal.Signal.{Signal}
