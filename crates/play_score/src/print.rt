@@ -15,7 +15,7 @@ ghost use Rattle.play_score.specs.Playing.{
 
 use crate::format::{Format, missing_of};
 use crate::play::play_batch;
-use load_call::load;
+use load_call::loaded;
 use refusals::Refusal;
 use words_store::lookup::{STATE_ROOM, TABLE_ROOM};
 use words_transfer::intake::put_fitting;
@@ -53,16 +53,20 @@ pub fn open_score(
     ensures { let words = state.new in
         Opened stream.now format table.new words lines.new result }
 {
-    let loaded = load(stream);
-    if loaded.number != 0 {
-        return Err(refuse(false, loaded.number, loaded.position, lines));
+    match loaded(stream) {
+        Ok(accepted) => {
+            let model = accepted.model;
+            if let Some(missing) = missing_of(model.count, format) {
+                return Err(refuse(true, Refusal::NotPrintable.number(), missing, lines));
+            }
+            put_fitting(model, table, state);
+            Ok(accepted.position)
+        }
+        Err(refused) => {
+            let number = refused.refusal.number();
+            Err(refuse(false, number, refused.position, lines))
+        }
     }
-    let model = loaded.model;
-    if let Some(missing) = missing_of(model.count, format) {
-        return Err(refuse(true, Refusal::NotPrintable.number(), missing, lines));
-    }
-    put_fitting(model, table, state);
-    Ok(loaded.position)
 }
 
 // All lines from a score's position on, of the first state, batch after batch, and whether they were written. A write

@@ -1,30 +1,34 @@
 -- `open_score` says what refuses the load or the choice, and puts the model of a load that is accepted and has the
 -- chosen parts into words.
-use Rattle.std.proofs.Common.{arith, sym, ◌∙◌}
+use Rattle.std.proofs.Common.{arith, refl, sym, ◌∙◌}
+use Rattle.std.specs.Prelude.{Err}
+use Rattle.refusals.specs.Told.{some_number}
+use Rattle.load_call.specs.Accepting.{accepted_of, loaded_of}
 use Rattle.load_call.specs.LoadOwed.{accepted_few}
 use Rattle.play_score.proofs.Openings.{load_refused, part_missing, score_ready}
 use Rattle.play_score.proofs.print.open_score.Goals as goal
 
-pub returns-then-loaded-ne0 : goal.returns-then-loaded-ne0
-returns-then-loaded-ne0 c =
-    load_refused _ _ c.load-loaded.result c.load-loaded.ensures.loads _ _ _ _ c.if-loaded-ne0.true
-    c.refuse.ensures
+pub returns-in-Err : goal.returns-in-Err
+returns-in-Err c =
+    let line = rw c.number-number.ensures at c.refuse-in-Err.ensures in
+    load_refused _ _ (loaded_of (Err c.in-Err.refused)) (rw c.in-Err.is at c.loaded.ensures) _ _ _ _
+    (some_number c.in-Err.refused.refusal) line
 
 pub returns-in-Some : goal.returns-in-Some
 returns-in-Some c =
-    part_missing _ _ c.load-loaded.result c.load-loaded.ensures.loads c.if-loaded-ne0.false _ _ _ _ c.in-Some.missing
-    (sym c.in-Some.is ∙ c.missing_of.ensures) (rw c.number.ensures at c.refuse-in-Some.ensures)
+    part_missing _ _ (accepted_of c.in-Ok.accepted) (rw c.in-Ok.is at c.loaded.ensures) refl _ _ _ _ c.in-Some.missing
+    (sym c.in-Some.is ∙ c.missing_of.ensures) (rw c.number.ensures at c.refuse.ensures)
 
 pub put_fitting-requires : goal.put_fitting-requires
 put_fitting-requires c =
-    let few = accepted_few _ c.load-loaded.result c.load-loaded.ensures.loads c.if-loaded-ne0.false in
+    let few = accepted_few _ (accepted_of c.in-Ok.accepted) (rw c.in-Ok.is at c.loaded.ensures) refl in
     record {
       few_parts = few;
-      table_there = omega (arith, c.requires.table_room);
-      state_there = omega (arith, c.requires.state_room);
+      table_there = omega (arith, few, c.requires.table_room);
+      state_there = omega (arith, few, c.requires.state_room);
     }
 
-pub returns : goal.returns
-returns c =
-    score_ready _ _ c.load-loaded.result c.load-loaded.ensures.loads c.if-loaded-ne0.false _ _ _
+pub returns-in_default : goal.returns-in_default
+returns-in_default c =
+    score_ready _ _ (accepted_of c.in-Ok.accepted) (rw c.in-Ok.is at c.loaded.ensures) refl _ _ _
     (sym c.in_default.is ∙ c.missing_of.ensures) c.put_fitting.ensures.model_put
