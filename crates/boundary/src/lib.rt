@@ -55,7 +55,8 @@ fn put_counts(out: &mut [u64], ended: Outcome)
     put_word(out, 4, ended.ceiling);
 }
 
-// What a call that writes bytes returned, as its number and its length: the words of `out` have room for both.
+// What a call that writes bytes returned, as its number and its length, which the exported calls answer by
+// (`WrittenWords`).
 fn told(written: Result<usize, Unwritten>) -> Written
     ensures { result ≡ written_of written }
 {
@@ -142,7 +143,8 @@ pub extern "C" fn dozhumek_advance(
 // What an advance by at most `wanted` would answer, of the model that the words spell, whatever they are. The number
 // and the words for `out` are those of the advance. Written into `new` is the state of the answer's model, which is the
 // one handed in where the call is refused; no word of `new` where the words spell no model or it is too short. The
-// words handed in stay the caller's model whatever comes of it.
+// words handed in stay the caller's model whatever comes of it. It and the advance are two exported names, whose bodies
+// differ in the call alone.
 #[unsafe(no_mangle)]
 pub extern "C" fn dozhumek_preview(
     table: &[u64],

@@ -1,6 +1,7 @@
 -- What a refusal where there is cause for it tells, and when a call that writes returned its length. Assumes nothing.
-use Rattle.std.specs.Prelude.{ℕ, ◌≤◌, ◌≡◌, refl, Bool, true, false, cond, Result, Ok, Err, IsOk, List, length}
-use Rattle.std.proofs.Common.{arith, ap, ◌∙◌, le-leb}
+use Rattle.std.specs.Prelude.{ℕ, ◌≤◌, ◌≡◌, refl, Bool, true, false, cond, not, Result, Ok, Err, IsOk, List, length}
+use Rattle.std.proofs.Common.{arith, sym, ap, ◌∙◌, le-leb}
+use Rattle.std.proofs.lemmas.Bool.{not-false, not-true}
 use Rattle.machine.specs.declared.model.Written.{Written}
 use Rattle.machine.specs.Writing.{WrittenAs}
 use Rattle.refusals.specs.declared.Refusal.{Refusal}
@@ -25,6 +26,17 @@ no_cause false r e = refl
 pub some_cause : (cause : Bool) (r : Refusal) {s : Refusal} → refused_when cause r ≡ Err s → (cause ≡ true) × (s ≡ r)
 some_cause true r e = grind arith
 some_cause false r e = grind arith
+
+-- so a test held, where its refusal was not returned, and did not, where it was
+pub passed : (test : Bool) (r : Refusal) {b : Bool} {x : Result (Unit {0}) Refusal} {u : Unit {0}} → b ≡ test →
+    x ≡ refused_when (not b) r → x ≡ Ok u → test ≡ true
+passed test r {b = b} tested told ok = sym tested ∙ not-false b (no_cause (not b) r (sym told ∙ ok))
+
+pub failed : (test : Bool) (r : Refusal) {b : Bool} {x : Result (Unit {0}) Refusal} {s : Refusal} → b ≡ test →
+    x ≡ refused_when (not b) r → x ≡ Err s → (test ≡ false) × (s ≡ r)
+failed test r {b = b} tested told err =
+    let cause = some_cause (not b) r (sym told ∙ err) in
+    (sym tested ∙ not-true b cause.0, cause.1)
 
 -- no refusal's number is 0
 pub some_number : (r : Refusal) → refusal_number r ≡ 0 → ⊥

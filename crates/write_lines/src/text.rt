@@ -11,7 +11,7 @@ use write_bytes::put::put_byte;
 fn last_digit(n: u64) -> u8
     ensures { result ≡ 48 + n % 10 }
 {
-    48 + (n % 10) as u8
+    b'0' + (n % 10) as u8
 }
 
 // A number in base ten: the digits of its hundredth part, where it has one, then its last two.

@@ -1,15 +1,13 @@
 -- `refusal_of` makes the definition's tests in their order: soundness, the chosen parts, and of a committed answer its
 -- counts.
-use Rattle.std.proofs.Common.{ℕ, ◌≡◌, ◌∙◌, ◌&&◌, Bool, Result, Ok, Err, true, false, cond, not, sym, ap, refl, ne_eqb}
+use Rattle.std.proofs.Common.{ℕ, ◌≡◌, ◌∙◌, ◌&&◌, Bool, Err, true, false, cond, not, sym, ap, refl, ne_eqb}
 use Rattle.std.proofs.Common.{arith}
-use Rattle.std.proofs.lemmas.Bool.{not-true, not-false}
 use Rattle.std.proofs.lemmas.Result.{err_from_is_err_and}
 use Rattle.machine.specs.Sound.{sound}
 use Rattle.laws.specs.Bools.{and_left}
-use Rattle.refusals.specs.declared.Refusal.{Refusal}
 use Rattle.refusals.specs.declared.Refusal.TheVariants.{NotPrintable, NotSound}
 use Rattle.refusals.specs.Numbers.{refused_number}
-use Rattle.refusals.specs.Told.{no_cause, refused_when, some_cause}
+use Rattle.refusals.specs.Told.{failed, passed, refused_when}
 use Rattle.words_store.specs.ModelIn.{part_count}
 use Rattle.words_store.specs.Form.{spelled}
 use Rattle.words_store.specs.Spelling.{spelled_room}
@@ -18,17 +16,6 @@ use Rattle.sheet_call.specs.LentSheet.{all_there, unsound_sheet, missing_sheet, 
 use Rattle.sheet_call.specs.LentSheet.{counted_sheet}
 use Rattle.sheet_call.proofs.refusal_of.Goals as goal
 use Rattle.sheet_call.proofs.refusal_of.Goals.{then-outcome-ne0, else-outcome-ne0}
-
--- a test that held, where its refusal was not returned, and one that did not
-passed : (t : Bool) (r : Refusal) {b : Bool} {x : Result (Unit {0}) Refusal} {u : Unit {0}} → b ≡ t →
-    x ≡ refused_when (not b) r → x ≡ Ok u → t ≡ true
-passed t r {b = b} test told ok = sym test ∙ not-false b (no_cause (not b) r (sym told ∙ ok))
-
-failed : (t : Bool) (r : Refusal) {b : Bool} {x : Result (Unit {0}) Refusal} {s : Refusal} → b ≡ t →
-    x ≡ refused_when (not b) r → x ≡ Err s → (t ≡ false) × (s ≡ r)
-failed t r {b = b} test told err =
-    let cause = some_cause (not b) r (sym told ∙ err) in
-    (sym test ∙ not-true b cause.0, cause.1)
 
 -- the number of a refusal where a test does not hold
 number_when : (b : Bool) → refused_number (refused_when (not b) NotPrintable) ≡ cond b 0 26
