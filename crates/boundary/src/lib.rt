@@ -8,15 +8,14 @@
 #![tactic(auto)]
 
 ghost use Rattle.std.specs.Prelude.{◌≡◌, [], ◌∷◌, ◌≤◌, length, set};
-ghost use Rattle.machine.specs.Model.{most_parts};
 ghost use Rattle.refusals.specs.Unwritten.{written_of};
 ghost use Rattle.boundary.specs.PutFront.{put_front};
 ghost use Rattle.boundary.specs.Exported.{AdvancedWords, LoadedWords, PreviewedWords, PrintedInto, PrintedWords};
-ghost use Rattle.boundary.specs.Exported.{SavedWords, TakenIn, outcome_lent, outcome_words};
+ghost use Rattle.boundary.specs.Exported.{SavedWords, outcome_lent, outcome_words};
 
 use advance_call::advance_into;
 use load_call::load;
-use machine::model::{Model, Outcome, Written};
+use machine::model::{Outcome, Written};
 use preview_call::preview_into;
 use refusals::{Refusal, Unwritten};
 use save_call::save;
@@ -83,20 +82,6 @@ fn outcome_in(outcome: &[u64]) -> Outcome
     }
 }
 
-// A model that was loaded with a number, put into the words where it was accepted and they have room for it. The number
-// that the call then has.
-fn take_in(model: Model, number: u64, table: &mut [u64], state: &mut [u64]) -> u64
-    requires { number ≡ 0 → model.count ≤ most_parts }
-    ensures { TakenIn model number
-        table.old table.new
-        state.old state.new result }
-{
-    if number != 0 {
-        return number;
-    }
-    put_model(model, table, state)
-}
-
 // The table at the start of a stream, loaded into the words of a table and of a state. The words for `out` are two: the
 // number, which is the answer too, and the position. The number is 25 where the table is accepted and its words or the
 // state's are too few.
@@ -112,11 +97,18 @@ pub extern "C" fn dozhumek_load(
         state.old state.new
         out.old out.new result }
 {
-    let loaded = load(stream);
-    let model = loaded.model;
-    let number = take_in(model, loaded.number, table, state);
-    put_found(out, number, loaded.position as u64);
-    number
+    match load(stream) {
+        Ok(accepted) => {
+            let number = put_model(accepted.model, table, state);
+            put_found(out, number, accepted.position as u64);
+            number
+        }
+        Err(refused) => {
+            let number = refused.refusal.number();
+            put_found(out, number, refused.position as u64);
+            number
+        }
+    }
 }
 
 // One advance, by at most `wanted`, of the model that the words spell, whatever they are. The words of the new state

@@ -1,12 +1,11 @@
-// A part with all of it 0, and the model of no parts. Their contracts cite `specs/Blank.antt`.
+// A part with all of it 0. Its contract cites `specs/Blank.antt`.
 ghost use Rattle.std.specs.Prelude.{◌≡◌};
-ghost use Rattle.load_call.specs.Blank.{blank_model, blank_place};
+ghost use Rattle.load_call.specs.Blank.{blank_place};
 
 use load_table::table::blank_component;
-use machine::model::{Model, PARTS};
 use machine::part::{Mark, Part, Side, State};
 use machine::signal::Signal;
-use machine::time::{LocalTicks, Point};
+use machine::time::LocalTicks;
 
 // A part with all of it 0.
 #[tactic(auto, unfolding(crate::specs::Blank::blank_place))]
@@ -25,19 +24,5 @@ pub(crate) fn blank_part() -> Part
             side: Side::Unset,
             mark: Mark::Clear,
         },
-    }
-}
-
-// The model of no parts, with all else 0.
-#[tactic(auto, unfolding(crate::specs::Blank::blank_model))]
-pub(crate) fn no_model() -> Model
-    ensures { result ≡ blank_model }
-{
-    Model {
-        magnitude: 0,
-        count: 0,
-        order: [0; PARTS],
-        point: Point::START,
-        parts: [blank_part(); PARTS],
     }
 }

@@ -6,12 +6,10 @@ ghost use Rattle.std.specs.Prelude.{◌≡◌};
 ghost use Rattle.machine.specs.Load.{load};
 ghost use Rattle.machine.specs.Model.{trimmed_loaded};
 ghost use Rattle.load_call.specs.Accepting.{loaded_of};
-ghost use Rattle.load_call.specs.Blank.{blank_model};
 
-use crate::blank::no_model;
 use crate::ending::{accept, judged};
 use load_table::table::read_table;
-use machine::model::{Loaded, Model};
+use machine::model::Model;
 use refusals::RefusedAt;
 
 mod blank;
@@ -29,34 +27,12 @@ pub struct Accepted {
 
 // The table at the start of a stream, loaded, or the first refusal with its position. Free are the bytes of unused
 // places alone, which `trimmed_loaded` cuts away.
-pub fn loaded(bytes: &[u8]) -> Result<Accepted, RefusedAt>
+pub fn load(bytes: &[u8]) -> Result<Accepted, RefusedAt>
     ensures { trimmed_loaded (loaded_of result) ≡ load bytes.now }
 {
     let read = read_table(bytes)?;
     match judged(read) {
         Ok(ending) => Ok(accept(read, ending)),
         Err(refusal) => Err(refusal.at(read.position)),
-    }
-}
-
-// The same, as a number, a position and a model: of a refusal the model of no parts with all else 0.
-pub fn load(bytes: &[u8]) -> Loaded
-    ensures loads { trimmed_loaded result ≡ load bytes.now }
-    ensures refused { (result.number ≡ 0 → ⊥) → result.model ≡ blank_model }
-{
-    match loaded(bytes) {
-        Ok(accepted) => {
-            let model = accepted.model;
-            Loaded {
-                number: 0,
-                position: accepted.position,
-                model,
-            }
-        }
-        Err(refused) => Loaded {
-            number: refused.refusal.number(),
-            position: refused.position,
-            model: no_model(),
-        },
     }
 }

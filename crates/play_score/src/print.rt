@@ -15,7 +15,7 @@ ghost use Rattle.play_score.specs.Playing.{
 
 use crate::format::{Format, missing_of};
 use crate::play::play_batch;
-use load_call::loaded;
+use load_call::load;
 use refusals::Refusal;
 use words_store::lookup::{STATE_ROOM, TABLE_ROOM};
 use words_transfer::intake::put_fitting;
@@ -53,7 +53,7 @@ pub fn open_score(
     ensures { let words = state.new in
         Opened stream.now format table.new words lines.new result }
 {
-    match loaded(stream) {
+    match load(stream) {
         Ok(accepted) => {
             let model = accepted.model;
             if let Some(missing) = missing_of(model.count, format) {

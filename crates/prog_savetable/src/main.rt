@@ -23,14 +23,17 @@ fn tell(stream: &[u8], out: &mut [u8]) -> Result<usize, usize>
     requires { longest_table ≤ length out.old }
     ensures { ToldOf stream.now out.new result }
 {
-    let loaded = load(stream);
-    if loaded.number != 0 {
-        let length = write_refused_at(loaded.number, loaded.position, out).unwrap();
-        return Err(length);
-    }
+    let accepted = match load(stream) {
+        Ok(accepted) => accepted,
+        Err(refused) => {
+            let number = refused.refusal.number();
+            let length = write_refused_at(number, refused.position, out).unwrap();
+            return Err(length);
+        }
+    };
     let mut table = [0u64; TABLE_ROOM];
     let mut state = [0u64; STATE_ROOM];
-    put_fitting(loaded.model, &mut table, &mut state);
+    put_fitting(accepted.model, &mut table, &mut state);
     let length = save(&table, &state, out).unwrap();
     Ok(length)
 }

@@ -1,8 +1,10 @@
 // What was loaded, as text on standard output. Its types belong to `machine`, which prints nothing: a type of this
 // crate shows each of them.
-use machine::model::{Loaded, Model};
+use load_call::Accepted;
+use machine::model::Model;
 use machine::part::{Component, Kind, Mark, Part, Side, Source, State};
 use machine::signal::Signal;
+use refusals::RefusedAt;
 use std::fmt;
 use std::fmt::Write;
 
@@ -134,15 +136,19 @@ impl fmt::Display for Shown<'_, Model> {
 
 // The number and the position of a refusal, or the position and what was loaded: a line for the model and one for each
 // part.
-pub(crate) fn print_loaded(r: Loaded) {
+pub(crate) fn print_loaded(loaded: Result<Accepted, RefusedAt>) {
     let mut out = Output;
-    if r.number != 0 {
-        let _ = writeln!(out, "refused {} at {}", r.number, r.position);
-        return;
-    }
-    let m = &r.model;
-    let _ = writeln!(out, "accepted up to {}: {}", r.position, Shown(m));
-    for (k, part) in m.parts.iter().take(m.count).enumerate() {
-        let _ = writeln!(out, "  part {k} {}", Shown(part));
+    match loaded {
+        Err(refused) => {
+            let number = refused.refusal.number();
+            let _ = writeln!(out, "refused {number} at {}", refused.position);
+        }
+        Ok(accepted) => {
+            let m = &accepted.model;
+            let _ = writeln!(out, "accepted up to {}: {}", accepted.position, Shown(m));
+            for (k, part) in m.parts.iter().take(m.count).enumerate() {
+                let _ = writeln!(out, "  part {k} {}", Shown(part));
+            }
+        }
     }
 }

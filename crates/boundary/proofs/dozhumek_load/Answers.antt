@@ -1,16 +1,21 @@
--- `dozhumek_load` loads the stream, puts the model into the words where they have room for it, and then puts its two
--- numbers in front of the answer's words.
+-- `dozhumek_load` loads the stream, puts the model of an accepted load into the words where they have room for it, and
+-- then puts its two numbers in front of the answer's words.
+use Rattle.std.proofs.Common.{refl}
+use Rattle.refusals.specs.Told.{some_number}
+use Rattle.load_call.specs.Accepting.{accepted_of}
 use Rattle.load_call.specs.LoadOwed.{accepted_few}
-use Rattle.boundary.proofs.Laws.{loaded_words}
+use Rattle.boundary.proofs.Laws.{loaded_words, taken_put, taken_refused}
 use Rattle.boundary.proofs.dozhumek_load.Goals as goal
 
-pub take_in-number-requires : goal.take_in-number-requires
-take_in-number-requires c =
-    λ none.
-    accepted_few _ c.load-loaded.result c.load-loaded.ensures.loads none
+-- an accepted model has no more parts than a model may have
+pub returns-in-Ok : goal.returns-in-Ok
+returns-in-Ok c =
+    let few = accepted_few _ (accepted_of c.in-Ok.accepted) c.in-Ok.ensures refl in
+    loaded_words _ _ c.put_model-number.new.table _ c.put_model-number.new.state _ c.put_found.new.out
+    (accepted_of c.in-Ok.accepted) c.put_model-number.result c.in-Ok.ensures
+    (taken_put _ _ _ _ _ _ _ refl few c.put_model-number.ensures) c.put_found.ensures
 
-pub returns : goal.returns
-returns c =
-    loaded_words _ _ c.take_in-number.new.table _ c.take_in-number.new.state _ c.put_found.new.out
-    c.load-loaded.result c.take_in-number.result c.load-loaded.ensures.loads c.take_in-number.ensures
-    c.put_found.ensures
+pub returns-in-Err : goal.returns-in-Err
+returns-in-Err c =
+    rw c.number-number.ensures (loaded_words _ _ _ _ _ _ _ _ _ c.in-Err.ensures
+    (taken_refused _ _ _ _ (some_number c.in-Err.refused.refusal)) (rw c.number-number.ensures at c.put_found-in-Err.ensures))

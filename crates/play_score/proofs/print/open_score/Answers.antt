@@ -11,17 +11,17 @@ use Rattle.play_score.proofs.print.open_score.Goals as goal
 pub returns-in-Err : goal.returns-in-Err
 returns-in-Err c =
     let line = rw c.number-number.ensures at c.refuse-in-Err.ensures in
-    load_refused _ _ (loaded_of (Err c.in-Err.refused)) (rw c.in-Err.is at c.loaded.ensures) _ _ _ _
+    load_refused _ _ (loaded_of (Err c.in-Err.refused)) (rw c.in-Err.is at c.load.ensures) _ _ _ _
     (some_number c.in-Err.refused.refusal) line
 
 pub returns-in-Some : goal.returns-in-Some
 returns-in-Some c =
-    part_missing _ _ (accepted_of c.in-Ok.accepted) (rw c.in-Ok.is at c.loaded.ensures) refl _ _ _ _ c.in-Some.missing
+    part_missing _ _ (accepted_of c.in-Ok.accepted) (rw c.in-Ok.is at c.load.ensures) refl _ _ _ _ c.in-Some.missing
     (sym c.in-Some.is ∙ c.missing_of.ensures) (rw c.number.ensures at c.refuse.ensures)
 
 pub put_fitting-requires : goal.put_fitting-requires
 put_fitting-requires c =
-    let few = accepted_few _ (accepted_of c.in-Ok.accepted) (rw c.in-Ok.is at c.loaded.ensures) refl in
+    let few = accepted_few _ (accepted_of c.in-Ok.accepted) (rw c.in-Ok.is at c.load.ensures) refl in
     record {
       few_parts = few;
       table_there = omega (arith, few, c.requires.table_room);
@@ -30,5 +30,5 @@ put_fitting-requires c =
 
 pub returns-in_default : goal.returns-in_default
 returns-in_default c =
-    score_ready _ _ (accepted_of c.in-Ok.accepted) (rw c.in-Ok.is at c.loaded.ensures) refl _ _ _
+    score_ready _ _ (accepted_of c.in-Ok.accepted) (rw c.in-Ok.is at c.load.ensures) refl _ _ _
     (sym c.in_default.is ∙ c.missing_of.ensures) c.put_fitting.ensures.model_put

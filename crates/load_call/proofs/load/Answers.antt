@@ -1,4 +1,4 @@
--- `loaded` is the definition: what reading the table concludes, and End after it. An accepted load stops within the stream,
+-- `load` is the definition: what reading the table concludes, and End after it. An accepted load stops within the stream,
 -- whose length is a usize.
 use Rattle.std.proofs.Common.{ℕ, ◌≤◌, ◌≡◌, arith, sym, ◌∙◌, List, length, Result, Ok}
 use Rattle.machine.specs.Load.{load}
@@ -8,7 +8,7 @@ use Rattle.load_table.specs.Concluded.{concluded}
 use Rattle.load_call.specs.Accepting.{passed_trimmed, refused_trimmed}
 use Rattle.load_call.specs.EndRefusals.{acceptable, accepted_at_end, last_position, refused_at_end}
 use Rattle.load_call.specs.Position.{load_within}
-use Rattle.load_call.proofs.loaded.Goals as goal
+use Rattle.load_call.proofs.load.Goals as goal
 
 -- the position that loading comes to is a usize
 position_fits : (bs : List ℕ) (r : Result TableRead RefusedAt) → load bs ≡ concluded r → length bs ≤ last_position →
