@@ -20,7 +20,8 @@ loaded_of (Ok a) = accepted_of a
 loaded_of (Err r) = record { number = refusal_number r.refusal; position = r.position; model = blank_model }
 
 -- once its unused places are cut away, a refusal is the machine's
-pub refused_trimmed : (r : RefusedAt) → trimmed_loaded (loaded_of (Err r)) ≡ refused (refusal_number r.refusal) r.position
+pub refused_trimmed : (r : RefusedAt) →
+    trimmed_loaded (loaded_of (Err r)) ≡ refused (refusal_number r.refusal) r.position
 unfolding trimmed_loaded
 refused_trimmed r = rw blank_trimmed
 

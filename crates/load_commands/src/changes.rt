@@ -49,6 +49,7 @@ fn wired_component(c: Component, port: u8, source: u8) -> Component
     }
 }
 
+// Each literal lists all fields: `..self` is not covered where a struct has a ghost field.
 impl Progress {
     // The progress after a Begin with this magnitude.
     pub(crate) fn with_begin(self, e: u8) -> Progress

@@ -1,8 +1,8 @@
 -- `dozhumek_load` loads the stream, puts the model of an accepted load into the words where they have room for it, and
 -- then puts its two numbers in front of the answer's words.
-use Rattle.std.proofs.Common.{refl}
+use Rattle.std.proofs.Common.{refl, Err}
 use Rattle.refusals.specs.Told.{some_number}
-use Rattle.load_call.specs.Accepting.{accepted_of}
+use Rattle.load_call.specs.Accepting.{accepted_of, loaded_of}
 use Rattle.load_call.specs.LoadOwed.{accepted_few}
 use Rattle.boundary.proofs.Laws.{loaded_words, taken_put, taken_refused}
 use Rattle.boundary.proofs.dozhumek_load.Goals as goal
@@ -17,5 +17,7 @@ returns-in-Ok c =
 
 pub returns-in-Err : goal.returns-in-Err
 returns-in-Err c =
-    rw c.number-number.ensures (loaded_words _ _ _ _ _ _ _ _ _ c.in-Err.ensures
-    (taken_refused _ _ _ _ (some_number c.in-Err.refused.refusal)) (rw c.number-number.ensures at c.put_found-in-Err.ensures))
+    let number = c.number-number.ensures in
+    let written = rw number at c.put_found-in-Err.ensures in
+    let kept = taken_refused _ _ _ _ (some_number c.in-Err.refused.refusal) in
+    rw number (loaded_words _ _ _ _ _ _ _ (loaded_of (Err c.in-Err.refused)) _ c.in-Err.ensures kept written)

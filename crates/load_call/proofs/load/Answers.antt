@@ -1,5 +1,5 @@
--- `load` is the definition: what reading the table concludes, and End after it. An accepted load stops within the stream,
--- whose length is a usize.
+-- `load` is the definition: what reading the table concludes, and End after it. An accepted load stops within the
+-- stream, whose length is a usize.
 use Rattle.std.proofs.Common.{ℕ, ◌≤◌, ◌≡◌, arith, sym, ◌∙◌, List, length, Result, Ok}
 use Rattle.machine.specs.Load.{load}
 use Rattle.refusals.specs.declared.RefusedAt.{RefusedAt}

@@ -1,4 +1,5 @@
--- `command_at` is the definition: past the stream's end it is cut; else it is `turn`'s, where a refusal has the position.
+-- `command_at` is the definition: past the stream's end it is cut; else it is `turn`'s, where a refusal has the
+-- position.
 use Rattle.std.proofs.Common.{◌<◌, ◌≡◌, List, ℕ, length, arith, Option, Some, None, Ok}
 use Rattle.machine.specs.Load.{byte_at, read_turn}
 use Rattle.load_commands.specs.declared.progress.Progress.{Progress}

@@ -8,7 +8,8 @@ use Rattle.load_table.proofs.turn.placed.Goals as goal
 pub returns-in_err-begin-in-Begin-clause-meant : goal.returns-in_err-begin-in-Begin-clause-meant
 returns-in_err-begin-in-Begin-clause-meant c =
     let refused = c.in_err-begin-in-Begin.ensures.meant c.args.rows ∙ begin_sized _ _ _ in
-    rw c.in-Begin.is (sym refused ∙ passed_on c.args.at c.args.progress c.args.rows _ _ c.from_residual.ensures.1)
+    let passed = passed_on c.args.at c.args.progress c.args.rows _ _ c.from_residual.ensures.1 in
+    rw c.in-Begin.is (sym refused ∙ passed)
 
 pub returns-in_ok-begin-in-Begin-clause-meant : goal.returns-in_ok-begin-in-Begin-clause-meant
 returns-in_ok-begin-in-Begin-clause-meant c =
@@ -17,7 +18,8 @@ returns-in_ok-begin-in-Begin-clause-meant c =
 pub returns-in_err-part-in-Part-clause-meant : goal.returns-in_err-part-in-Part-clause-meant
 returns-in_err-part-in-Part-clause-meant c =
     let refused = c.in_err-part-in-Part.ensures.meant c.args.rows ∙ part_sized _ _ _ in
-    rw c.in-Part.is (sym refused ∙ passed_on c.args.at c.args.progress c.args.rows _ _ c.from_residual-in_err-part-in-Part.ensures.1)
+    let passed = passed_on c.args.at c.args.progress c.args.rows _ _ c.from_residual-in_err-part-in-Part.ensures.1 in
+    rw c.in-Part.is (sym refused ∙ passed)
 
 pub returns-in_ok-part-in-Part-clause-meant : goal.returns-in_ok-part-in-Part-clause-meant
 returns-in_ok-part-in-Part-clause-meant c =
@@ -26,7 +28,9 @@ returns-in_ok-part-in-Part-clause-meant c =
 pub returns-in_err-span_beside-in-Span-clause-meant : goal.returns-in_err-span_beside-in-Span-clause-meant
 returns-in_err-span_beside-in-Span-clause-meant c =
     let refused = c.in_err-span_beside-in-Span.ensures.meant ∙ span_sized _ _ _ in
-    rw c.in-Span.is (sym refused ∙ passed_on c.args.at c.args.progress c.args.rows _ _ c.from_residual-in_err-span_beside-in-Span.ensures.1)
+    let args = c.args in
+    let passed = passed_on args.at args.progress args.rows _ _ c.from_residual-in_err-span_beside-in-Span.ensures.1 in
+    rw c.in-Span.is (sym refused ∙ passed)
 
 pub returns-in_ok-span_beside-in-Span-clause-meant : goal.returns-in_ok-span_beside-in-Span-clause-meant
 returns-in_ok-span_beside-in-Span-clause-meant c =
@@ -35,7 +39,8 @@ returns-in_ok-span_beside-in-Span-clause-meant c =
 pub returns-in_err-wire-in-Wire-clause-meant : goal.returns-in_err-wire-in-Wire-clause-meant
 returns-in_err-wire-in-Wire-clause-meant c =
     let refused = c.in_err-wire-in-Wire.ensures.meant c.args.rows ∙ wire_sized _ _ _ in
-    rw c.in-Wire.is (sym refused ∙ passed_on c.args.at c.args.progress c.args.rows _ _ c.from_residual-in_err-wire-in-Wire.ensures.1)
+    let passed = passed_on c.args.at c.args.progress c.args.rows _ _ c.from_residual-in_err-wire-in-Wire.ensures.1 in
+    rw c.in-Wire.is (sym refused ∙ passed)
 
 pub returns-in_ok-wire-in-Wire-clause-meant : goal.returns-in_ok-wire-in-Wire-clause-meant
 returns-in_ok-wire-in-Wire-clause-meant c =
