@@ -1,6 +1,6 @@
 -- Demand 3 of every list of calls of `advance` after a load: they are a chain.
 use Rattle.std.specs.Prelude.{ℕ, ◌≡◌, List}
-use Rattle.machine.specs.declared.model.Loaded.{Loaded}
+use Rattle.machine.specs.Answers.{Loaded}
 use Rattle.machine.specs.declared.model.Answer.{Answer}
 use Rattle.machine.specs.Model.{trimmed_loaded}
 use Rattle.machine.specs.Load.{load}

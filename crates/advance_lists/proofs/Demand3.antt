@@ -2,7 +2,7 @@
 -- that the tick is the sum of the committed steps.
 use Rattle.std.specs.Prelude.{ℕ, ◌≡◌, List}
 use Rattle.std.proofs.Common.{arith, ap}
-use Rattle.machine.specs.declared.model.Loaded.{Loaded}
+use Rattle.machine.specs.Answers.{Loaded}
 use Rattle.machine.specs.Time.{tick}
 use Rattle.machine.specs.Model.{trimmed_loaded}
 use Rattle.machine.specs.Load.{load}

@@ -1,6 +1,6 @@
 -- Document 01's third demand, of the advances in every list of calls that has previews among them.
 use Rattle.std.specs.Prelude.{ℕ, ◌≡◌, List}
-use Rattle.machine.specs.declared.model.Loaded.{Loaded}
+use Rattle.machine.specs.Answers.{Loaded}
 use Rattle.machine.specs.Model.{trimmed_loaded}
 use Rattle.machine.specs.Load.{load}
 use Rattle.machine.specs.Previews.{AnyCall, MixedChain, advances}

@@ -7,8 +7,8 @@ use mathlib.Core.List.{List, [], ◌∷◌, ◌++◌}
 use lib.ListN.{length, set}
 use borrow.Author.Tests.{eq-eqb, ne_eqb, le-leb, lt-leb}
 use Rattle.machine.specs.declared.model.Model.{Model}
-use Rattle.machine.specs.declared.model.Loaded.{Loaded}
-use Rattle.machine.specs.declared.model.Written.{Written}
+use Rattle.machine.specs.Answers.{Loaded}
+use Rattle.machine.specs.Answers.{Written}
 use Rattle.machine.specs.Model.{most_parts, trimmed, trimmed_loaded}
 use Rattle.machine.specs.Load.{load}
 use Rattle.machine.specs.Sound.{sound}

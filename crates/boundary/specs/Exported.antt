@@ -2,7 +2,7 @@
 -- list that is lent for writing, ₀ is it before the call and ₁ after it. Assumes nothing.
 use Rattle.std.specs.Prelude.{ℕ, ◌≡◌, true, cond, ◌&&◌, List, [], ◌∷◌, eqb, leb, length}
 use Rattle.machine.specs.declared.model.Model.{Model}
-use Rattle.machine.specs.declared.model.Written.{Written}
+use Rattle.machine.specs.Answers.{Written}
 use Rattle.machine.specs.Load.{load}
 use Rattle.machine.specs.Sound.{sound}
 use Rattle.machine.specs.declared.model.Outcome.{Outcome}

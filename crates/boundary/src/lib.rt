@@ -15,9 +15,9 @@ ghost use Rattle.boundary.specs.Exported.{SavedWords, outcome_lent, outcome_word
 
 use advance_call::advance_into;
 use load_call::load;
-use machine::model::{Outcome, Written};
+use machine::model::Outcome;
 use preview_call::preview_into;
-use refusals::{Refusal, Unwritten};
+use refusals::{Refusal, Unwritten, number_in};
 use save_call::save;
 use sheet_call::sheet;
 use words_transfer::intake::put_model;
@@ -56,15 +56,13 @@ fn put_counts(out: &mut [u64], ended: Outcome)
 
 // What a call that writes bytes returned, as its number and its length, which the exported calls answer by
 // (`WrittenWords`).
-fn told(written: Result<usize, Unwritten>) -> Written
-    ensures { result ≡ written_of written }
+fn told(written: Result<usize, Unwritten>) -> (u64, usize)
+    ensures number { result.0 ≡ (written_of written).number }
+    ensures length { result.1 ≡ (written_of written).length }
 {
     match written {
-        Ok(length) => Written { number: 0, length },
-        Err(unwritten) => Written {
-            number: unwritten.number(),
-            length: unwritten.needed(),
-        },
+        Ok(length) => (0, length),
+        Err(unwritten) => (unwritten.number(), unwritten.needed()),
     }
 }
 
@@ -99,7 +97,7 @@ pub extern "C" fn dozhumek_load(
 {
     match load(stream) {
         Ok(accepted) => {
-            let number = put_model(accepted.model, table, state);
+            let number = number_in(put_model(accepted.model, table, state));
             put_found(out, number, accepted.position as u64);
             number
         }
@@ -169,9 +167,9 @@ pub extern "C" fn dozhumek_save(
         buffer.old buffer.new
         out.old out.new result }
 {
-    let written = told(save(table, state, buffer));
-    put_found(out, written.number, written.length as u64);
-    written.number
+    let (answer, length) = told(save(table, state, buffer));
+    put_found(out, answer, length as u64);
+    answer
 }
 
 // The sheet line of an answer whose numbers are the first words of `outcome`, written into `buffer`: 24 where they are
@@ -216,7 +214,7 @@ pub extern "C" fn dozhumek_sheet(
         buffer.old buffer.new
         out.old out.new result }
 {
-    let line = told(print_words(
+    let (number, length) = told(print_words(
         table,
         state,
         outcome,
@@ -225,6 +223,6 @@ pub extern "C" fn dozhumek_sheet(
         third as usize,
         buffer,
     ));
-    put_found(out, line.number, line.length as u64);
-    line.number
+    put_found(out, number, length as u64);
+    number
 }

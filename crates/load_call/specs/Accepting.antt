@@ -2,7 +2,7 @@
 -- that of no parts with all else 0. Assumes nothing.
 use Rattle.std.specs.Prelude.{◌≡◌, Result, Ok, Err}
 use Rattle.std.specs.Result.{IsErrAnd}
-use Rattle.machine.specs.declared.model.Loaded.{Loaded}
+use Rattle.machine.specs.Answers.{Loaded}
 use Rattle.machine.specs.Load.{refused}
 use Rattle.machine.specs.Model.{trimmed_loaded}
 use Rattle.refusals.specs.declared.RefusedAt.{RefusedAt}

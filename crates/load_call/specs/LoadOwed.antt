@@ -4,7 +4,7 @@
 -- keeps the promise. Assumes nothing.
 use Rattle.std.specs.Prelude.{ℕ, ◌≤◌, ◌≡◌, true, List, length}
 use Rattle.std.proofs.Common.{sym, ap, ◌∙◌}
-use Rattle.machine.specs.declared.model.Loaded.{Loaded}
+use Rattle.machine.specs.Answers.{Loaded}
 use Rattle.machine.specs.Lists.{All}
 use Rattle.machine.specs.Model.{most_parts, no_model, trimmed, trimmed_loaded}
 use Rattle.machine.specs.Table.{Table}

@@ -6,7 +6,7 @@ use Rattle.std.proofs.Common.{arith, ◌∙◌, inl, inr}
 use Rattle.std.proofs.Math.Path.{ap}
 use Rattle.std.proofs.Math.ListN.{length}
 use borrow.Author.Tests.{le-leb, lt-leb, leb-true, leb-false}
-use Rattle.machine.specs.declared.model.Score.TheVariants.{Refused}
+use Rattle.machine.specs.Answers.{Refused}
 use Rattle.machine.specs.Load.{Reading, ended, refused, want_byte, known_command, command_width, in_place, command_read}
 use Rattle.machine.specs.Load.{byte_at, word_at}
 use Rattle.machine.specs.Score.{score_command}

@@ -1,8 +1,8 @@
 -- What the answer of the score's reader means: document 01's score at a position, with the number of a refusal. Assumes
 -- nothing.
 use Rattle.std.specs.Prelude.{Option, Some, None, Result, Ok, Err}
-use Rattle.machine.specs.declared.model.Score.{Score}
-use Rattle.machine.specs.declared.model.Score.TheVariants as score
+use Rattle.machine.specs.Answers.{Score}
+use Rattle.machine.specs.Answers as score
 use Rattle.refusals.specs.declared.RefusedAt.{RefusedAt}
 use Rattle.refusals.specs.Numbers.{refusal_number}
 use Rattle.load_operands.specs.declared.score.Wanted.{Wanted}

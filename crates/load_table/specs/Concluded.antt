@@ -3,7 +3,7 @@
 use Rattle.std.specs.Prelude.{ℕ, ◌≤◌, ◌<◌, ◌≡◌, true, cond, List, map, length, replicate, take, pos, eqb, Result, Ok}
 use Rattle.std.specs.Prelude.{Err, IfOk, IfErr, refl}
 use Rattle.std.specs.Result.{IsErrAnd}
-use Rattle.machine.specs.declared.model.Loaded.{Loaded}
+use Rattle.machine.specs.Answers.{Loaded}
 use Rattle.machine.specs.declared.part.Component.{Component}
 use Rattle.machine.specs.declared.part.Kind.TheVariants.{Constant}
 use Rattle.machine.specs.declared.part.Source.TheVariants.{Unwired}

@@ -2,7 +2,7 @@
 -- reading stops. Assumes nothing.
 use Rattle.std.specs.Prelude.{ℕ, ◌+◌, ◌≤◌, ◌<◌, ◌≡◌, refl, Bool, true, false, cond, List, length, eqb, Ok, Err}
 use Rattle.std.proofs.Common.{arith, ap, le-leb}
-use Rattle.machine.specs.declared.model.Loaded.{Loaded}
+use Rattle.machine.specs.Answers.{Loaded}
 use Rattle.machine.specs.Table.{Table}
 use Rattle.machine.specs.Load.{Reading, ended, end_command, end_refusal, command_width, whole_command}
 use Rattle.sound_laws.specs.Accepted.{Readable}

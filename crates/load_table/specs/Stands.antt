@@ -1,7 +1,7 @@
 -- Where the reading of a stream is between two commands, and what a turn leads to. Assumes nothing.
 use Rattle.std.specs.Prelude.{ℕ, suc, ◌+◌, ◌≤◌, ◌<◌, ◌≡◌, refl, Bool, true, false, cond, List, length, eqb}
 use Rattle.std.proofs.Common.{arith, ap, ◌∙◌, lt-ltb, le-ltb}
-use Rattle.machine.specs.declared.model.Loaded.{Loaded}
+use Rattle.machine.specs.Answers.{Loaded}
 use Rattle.machine.specs.Load.{Reading, Read, onward, ended, refused, nothing_read, byte_at, known_command, in_place}
 use Rattle.machine.specs.Load.{command_read, read_turn, read_on, read_from, load}
 use Rattle.sound_laws.specs.Accepted.{Readable, Keeps, kept_nothing, kept_turn}

@@ -2,6 +2,7 @@
 -- document 02 that are in force named where they changed it. They compute: together they are an executable machine. The
 -- promise of every public call cites them, and none of them is taken from code.
 pub mod Lists
+pub mod Answers
 pub mod Time
 pub mod Signal
 pub mod Kind

@@ -7,7 +7,7 @@ use Rattle.machine.specs.declared.part.Kind.{Kind}
 use Rattle.machine.specs.declared.part.Source.{Source}
 use Rattle.machine.specs.declared.part.Source.TheVariants.{Unwired, From}
 use Rattle.machine.specs.declared.part.Component.{Component}
-use Rattle.machine.specs.declared.model.Loaded.{Loaded}
+use Rattle.machine.specs.Answers.{Loaded}
 use Rattle.machine.specs.Time.{magnitude_known, no_preference}
 use Rattle.machine.specs.Kind.{kind_number, kind_known, kind_of, ports, is_positive, operands_fit}
 use Rattle.machine.specs.Model.{most_parts, most_spans, no_model}

@@ -15,7 +15,7 @@ use Rattle.machine.specs.declared.part.Component.{Component}
 use Rattle.machine.specs.declared.part.State.{State}
 use Rattle.machine.specs.declared.part.Part.{Part}
 use Rattle.machine.specs.declared.model.Model.{Model}
-use Rattle.machine.specs.declared.model.Loaded.{Loaded}
+use Rattle.machine.specs.Answers.{Loaded}
 use Rattle.machine.specs.declared.model.Answer.{Answer}
 use Rattle.machine.specs.Time.{start}
 

@@ -5,10 +5,10 @@ use Rattle.machine.specs.declared.signal.Signal.{Signal}
 use Rattle.machine.specs.declared.signal.Signal.TheVariants.{Absent, Value}
 use Rattle.machine.specs.declared.part.Part.{Part}
 use Rattle.machine.specs.declared.model.Model.{Model}
-use Rattle.machine.specs.declared.model.Loaded.{Loaded}
+use Rattle.machine.specs.Answers.{Loaded}
 use Rattle.machine.specs.declared.model.Answer.{Answer}
-use Rattle.machine.specs.declared.model.Score.{Score}
-use Rattle.machine.specs.declared.model.Score.TheVariants.{End, Wanted, Refused}
+use Rattle.machine.specs.Answers.{Score}
+use Rattle.machine.specs.Answers.{End, Wanted, Refused}
 use Rattle.machine.specs.Time.{tick}
 use Rattle.machine.specs.Load.{load}
 use Rattle.machine.specs.Advance.{advance}

@@ -1,7 +1,7 @@
 -- Document 01, "The table's bytes": the score after End, "06h with a 4-byte wanted step, repeated". Assumes nothing.
 use Rattle.std.specs.Prelude.{ℕ, ◌+◌, cond, List, length, eqb, leb, ltb}
-use Rattle.machine.specs.declared.model.Score.{Score}
-use Rattle.machine.specs.declared.model.Score.TheVariants.{End, Wanted, Refused}
+use Rattle.machine.specs.Answers.{Score}
+use Rattle.machine.specs.Answers.{End, Wanted, Refused}
 use Rattle.machine.specs.Load.{known_command, want_byte, command_width, byte_at, word_at}
 
 -- "A score byte 01h to 05h gives 3, another 2, a cut command 1, each at that command's position in the whole stream"

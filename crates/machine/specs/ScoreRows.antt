@@ -1,8 +1,8 @@
 -- Document 01, "The table's bytes", of the score: what each byte gives, "each at that command's position in the whole
 -- stream". Assumes nothing.
 use Rattle.std.specs.Prelude.{ℕ, ◌≡◌, List, [], ◌∷◌, map}
-use Rattle.machine.specs.declared.model.Score.{Score}
-use Rattle.machine.specs.declared.model.Score.TheVariants.{End, Wanted, Refused}
+use Rattle.machine.specs.Answers.{Score}
+use Rattle.machine.specs.Answers.{End, Wanted, Refused}
 use Rattle.machine.specs.Score.{score_at}
 
 -- two bytes that are not the score's, and then a score command with this byte and four others

@@ -2,7 +2,7 @@
 -- what it leaves there. `refusal` is the number with which the call's own tests end, which come first, 0 where they
 -- refuse nothing; `bytes` is what the call has to write. Assumes nothing.
 use Rattle.std.specs.Prelude.{ℕ, ◌≡◌, cond, ◌&&◌, List, ◌++◌, eqb, leb, length, drop}
-use Rattle.machine.specs.declared.model.Written.{Written}
+use Rattle.machine.specs.Answers.{Written}
 
 -- the number of a call whose buffer is too short
 abbrev pub too_short : ℕ

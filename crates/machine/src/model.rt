@@ -1,4 +1,4 @@
-// A model, and what loading, advancing, writing calls and the score answer.
+// A model, and what advancing and a preview answer.
 use crate::part::Part;
 use crate::time::Point;
 
@@ -14,14 +14,6 @@ pub struct Model {
     pub order: [u16; PARTS],
     pub point: Point,
     pub parts: [Part; PARTS],
-}
-
-// What loading answers: document 01's number (0: accepted), the position, and the model.
-#[derive(Clone, Copy)]
-pub struct Loaded {
-    pub number: u64,
-    pub position: usize,
-    pub model: Model,
 }
 
 // What advancing answers: the model, document 01's number (0: committed) and the counts.
@@ -51,21 +43,4 @@ pub struct Outcome {
 pub struct Preview {
     pub given: Model,
     pub answer: Answer,
-}
-
-// What a call that writes into a lent buffer answers: its number (0: written) and its length, which with 25 is the one
-// that the buffer needs.
-#[derive(Clone, Copy)]
-pub struct Written {
-    pub number: u64,
-    pub length: usize,
-}
-
-// What the score holds at a position: its end, a wanted step with the position after it, or a refusal
-// with document 01's number and position.
-#[derive(Clone, Copy)]
-pub enum Score {
-    End,
-    Wanted(u64, usize),
-    Refused(u64, usize),
 }

@@ -10,7 +10,7 @@ use mathlib.Core.List.{List}
 use lib.ListN.{length}
 use Rattle.machine.specs.declared.model.Answer.{Answer}
 use Rattle.machine.specs.declared.model.Outcome.{Outcome}
-use Rattle.machine.specs.declared.model.Written.{Written}
+use Rattle.machine.specs.Answers.{Written}
 use Rattle.machine.specs.Model.{most_parts}
 use Rattle.machine.specs.Rehearse.{answer_line}
 use Rattle.machine.specs.Sheet.{sheet_line}

@@ -10,8 +10,8 @@ use lib.Dec.{ltb}
 use lib.ListN.{length, length-take}
 use borrow.Author.Tests.{ne_eqb, ltb-true}
 use Rattle.machine.specs.declared.model.Model.{Model}
-use Rattle.machine.specs.declared.model.Loaded.{Loaded}
-use Rattle.machine.specs.declared.model.Written.{Written}
+use Rattle.machine.specs.Answers.{Loaded}
+use Rattle.machine.specs.Answers.{Written}
 use Rattle.machine.specs.Model.{trimmed, trimmed_loaded}
 use Rattle.machine.specs.Load.{load}
 use Rattle.machine.specs.Sound.{sound}

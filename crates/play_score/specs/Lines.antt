@@ -2,10 +2,10 @@
 -- Assumes nothing.
 use Rattle.std.specs.Prelude.{ℕ, zero, suc, cond, List, [], ◌++◌, Option, Some, None, eqb, ltb, length}
 use Rattle.machine.specs.declared.model.Model.{Model}
-use Rattle.machine.specs.declared.model.Loaded.{Loaded}
+use Rattle.machine.specs.Answers.{Loaded}
 use Rattle.machine.specs.declared.model.Answer.{Answer}
-use Rattle.machine.specs.declared.model.Score.{Score}
-use Rattle.machine.specs.declared.model.Score.TheVariants.{End, Wanted, Refused}
+use Rattle.machine.specs.Answers.{Score}
+use Rattle.machine.specs.Answers.{End, Wanted, Refused}
 use Rattle.machine.specs.Load.{load}
 use Rattle.machine.specs.Advance.{advance}
 use Rattle.machine.specs.Score.{score_at}

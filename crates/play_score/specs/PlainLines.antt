@@ -3,9 +3,9 @@
 use Rattle.std.specs.Prelude.{ℕ, zero, suc, ◌≡◌, refl, Bool, true, false, cond, List, ◌++◌, eqb, length}
 use Rattle.std.proofs.Common.{ap}
 use Rattle.machine.specs.declared.model.Model.{Model}
-use Rattle.machine.specs.declared.model.Score.{Score}
-use Rattle.machine.specs.declared.model.Score.TheVariants.{End, Wanted, Refused}
-use Rattle.machine.specs.declared.model.Loaded.{Loaded}
+use Rattle.machine.specs.Answers.{Score}
+use Rattle.machine.specs.Answers.{End, Wanted, Refused}
+use Rattle.machine.specs.Answers.{Loaded}
 use Rattle.machine.specs.Advance.{advance}
 use Rattle.machine.specs.Score.{score_at}
 use Rattle.machine.specs.Rehearse.{answer_line, refused_at_line, score_lines, lines_from, loaded_lines}

@@ -10,7 +10,7 @@ ghost use Rattle.prog_printsheet.specs.SheetPrinted.{most_input};
 use crate::choice::choice_of;
 use play_score::format::{CHOICE, Format};
 use play_score::print::{print_score, refuse};
-use refusals::numbers::CUT;
+use refusals::Refusal;
 
 mod choice;
 
@@ -23,7 +23,7 @@ const LINE: usize = 64;
 // What is said of an input that is too short to choose, and whether it was written.
 fn print_short() -> bool {
     let mut line = [0u8; LINE];
-    let said = refuse(true, CUT, 0, &mut line);
+    let said = refuse(true, Refusal::Cut.number(), 0, &mut line);
     io::write_all(2, &line[..said.used])
 }
 

@@ -9,8 +9,8 @@ use Rattle.std.specs.Prelude.{Result, Ok, Err, is_err}
 use lib.Dec.{eqb}
 use lib.ListN.{length, length-take}
 use borrow.Author.Tests.{ne_eqb}
-use Rattle.machine.specs.declared.model.Loaded.{Loaded}
-use Rattle.machine.specs.declared.model.Written.{Written}
+use Rattle.machine.specs.Answers.{Loaded}
+use Rattle.machine.specs.Answers.{Written}
 use Rattle.machine.specs.Model.{trimmed, trimmed_loaded}
 use Rattle.machine.specs.Load.{load}
 use Rattle.machine.specs.Rehearse.{refused_at_line}

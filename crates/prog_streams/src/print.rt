@@ -1,7 +1,7 @@
 // What was loaded, as text on standard output. Its types belong to `machine`, which prints nothing: a type of this
 // crate shows each of them.
 use load_call::Accepted;
-use machine::model::Model;
+use machine::model::{Model, PARTS};
 use machine::part::{Component, Kind, Mark, Part, Side, Source, State};
 use machine::signal::Signal;
 use refusals::RefusedAt;
@@ -146,8 +146,9 @@ pub(crate) fn print_loaded(loaded: Result<Accepted, RefusedAt>) {
         Ok(accepted) => {
             let m = &accepted.model;
             let _ = writeln!(out, "accepted up to {}: {}", accepted.position, Shown(m));
-            for (k, part) in m.parts.iter().take(m.count).enumerate() {
-                let _ = writeln!(out, "  part {k} {}", Shown(part));
+            // By their numbers: nothing lends a slice of parts, whose outputs would be an array of signals.
+            for k in 0..m.count.min(PARTS) {
+                let _ = writeln!(out, "  part {k} {}", Shown(&m.parts[k]));
             }
         }
     }

@@ -1,6 +1,6 @@
 -- What a call that writes into a lent buffer returns, as document 02's number and length. Assumes nothing.
 use Rattle.std.specs.Prelude.{ℕ, Result, Ok, Err}
-use Rattle.machine.specs.declared.model.Written.{Written}
+use Rattle.machine.specs.Answers.{Written}
 use Rattle.machine.specs.Writing.{too_short}
 use Rattle.refusals.specs.declared.Unwritten.{Unwritten}
 use Rattle.refusals.specs.declared.Unwritten.TheVariants as unwritten

@@ -4,10 +4,8 @@
 
 ghost use Rattle.std.specs.Prelude.{◌≡◌, cond};
 ghost use Rattle.refusals.specs.declared.Unwritten.TheVariants.{Refused};
-ghost use Rattle.refusals.specs.Numbers.{refusal_number};
+ghost use Rattle.refusals.specs.Numbers.{refusal_number, refused_number};
 ghost use Rattle.refusals.specs.Unwritten.{unwritten_number, unwritten_length};
-
-pub mod numbers;
 
 // A refusal, by its cause. Each has its number.
 #[derive(Clone, Copy, Debug, PartialEq, Eq)]
@@ -76,11 +74,13 @@ impl Refusal {
     }
 }
 
-impl From<Refusal> for u64 {
-    ghost from_gives = { λ r n. n ≡ refusal_number r };
-
-    fn from(refusal: Refusal) -> u64 {
-        refusal.number()
+// The number of a test: 0 where nothing is refused.
+pub fn number_in(tested: Result<(), Refusal>) -> u64
+    ensures { result ≡ refused_number tested }
+{
+    match tested {
+        Ok(()) => 0,
+        Err(refusal) => refusal.number(),
     }
 }
 

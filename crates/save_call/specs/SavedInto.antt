@@ -1,6 +1,6 @@
 -- What a save on lent words promises, for every argument, and what follows for a caller. Assumes nothing.
 use Rattle.std.specs.Prelude.{ℕ, ◌≡◌, refl, true, false, cond, ◌&&◌, List}
-use Rattle.machine.specs.declared.model.Written.{Written}
+use Rattle.machine.specs.Answers.{Written}
 use Rattle.machine.specs.Model.{trimmed}
 use Rattle.machine.specs.Sound.{sound}
 use Rattle.machine.specs.Writing.{WrittenAs}

@@ -6,7 +6,7 @@ use Rattle.std.proofs.Common.{arith, sym, ap, ◌∙◌, inl, inr}
 use Rattle.machine.specs.declared.part.Kind.TheVariants.{Gain}
 use Rattle.machine.specs.declared.part.Source.TheVariants.{Unwired, From}
 use Rattle.machine.specs.declared.part.Component.{Component}
-use Rattle.machine.specs.declared.model.Written.{Written}
+use Rattle.machine.specs.Answers.{Written}
 use Rattle.machine.specs.Model.{blank_component, trimmed}
 use Rattle.machine.specs.Table.{table_of}
 use Rattle.machine.specs.Fresh.{fresh}

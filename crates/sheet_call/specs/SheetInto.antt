@@ -1,7 +1,7 @@
 -- What `sheet` promises on lent words, for every argument. Assumes nothing.
 use Rattle.std.specs.Prelude.{ℕ, cond, List}
 use Rattle.machine.specs.declared.model.Answer.{Answer}
-use Rattle.machine.specs.declared.model.Written.{Written}
+use Rattle.machine.specs.Answers.{Written}
 use Rattle.machine.specs.Writing.{WrittenAs}
 use Rattle.machine.specs.Sheet.{sheet_line, sheet_refusal}
 use Rattle.words_store.specs.Form.{spelled}

@@ -11,7 +11,7 @@ use Rattle.std.proofs.Math.Seq.{append_snoc}
 use Rattle.machine.specs.declared.part.Source.{Source}
 use Rattle.machine.specs.declared.part.Source.TheVariants.{Unwired, From}
 use Rattle.machine.specs.declared.part.Component.{Component}
-use Rattle.machine.specs.declared.model.Loaded.{Loaded}
+use Rattle.machine.specs.Answers.{Loaded}
 use Rattle.machine.specs.Lists.{All}
 use Rattle.machine.specs.Kind.{ports}
 use Rattle.machine.specs.Model.{most_parts, most_spans}

@@ -3,7 +3,7 @@
 -- nothing.
 use Rattle.std.specs.Prelude.{ℕ, zero, suc, ◌+◌, ◌≤◌, ◌<◌, ◌≡◌, refl, List, length}
 use Rattle.std.proofs.Common.{arith, sym, le-ltb}
-use Rattle.machine.specs.declared.model.Loaded.{Loaded}
+use Rattle.machine.specs.Answers.{Loaded}
 use Rattle.machine.specs.Load.{Reading, Read, onward, ended, refused, read_turn, read_on, read_from}
 use Rattle.sound_laws.specs.ReadTurns.{turn_cases}
 

@@ -11,7 +11,7 @@ use borrow.Author.Tests.{leb-true, lt-ltb, le-leb, le-ltb}
 use Rattle.machine.specs.declared.part.Kind.{Kind}
 use Rattle.machine.specs.declared.part.Kind.TheVariants.{Constant, Gain, Adder, Square, Pulse, Delay, Integrator}
 use Rattle.machine.specs.declared.part.Kind.TheVariants.{ResetIntegrator, Detector, Hold, Sampler, Drive, Clapper}
-use Rattle.machine.specs.declared.model.Loaded.{Loaded}
+use Rattle.machine.specs.Answers.{Loaded}
 use Rattle.machine.specs.Signal.{is_value, largest_value}
 use Rattle.machine.specs.Kind.{kind_number, kind_known, kind_of}
 use Rattle.machine.specs.Load.{known_command, command_width, byte_at, word_at, signed, Reading, in_place, Read}

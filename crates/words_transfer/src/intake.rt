@@ -3,6 +3,7 @@
 // The contracts cite `specs/TableRuns.antt`, `specs/ComponentPut.antt`, `specs/ModelPut.antt` and `specs/PutInto.antt`:
 // what was written is read back, from words within their limits.
 ghost use Rattle.std.specs.Prelude.{◌≡◌, cond, ◌+◌, ◌≤◌, ◌<◌, length};
+ghost use Rattle.refusals.specs.Numbers.{refused_number};
 ghost use Rattle.words_store.specs.ModelIn.{state_words, table_words};
 ghost use Rattle.words_transfer.specs.TableRuns.{OperandsPut, SpansPut, WiresPut};
 ghost use Rattle.words_transfer.specs.ComponentPut.{ComponentPut};
@@ -11,7 +12,7 @@ ghost use Rattle.words_transfer.specs.PutInto.{PutInto};
 
 use machine::model::{Model, PARTS};
 use machine::part::{Component, Part};
-use refusals::numbers::{NOT_SOUND, TOO_SHORT};
+use refusals::Refusal;
 use words_codec::fields::Field;
 use words_store::layout::{
     A, B, FIRST_SPAN, KIND, ORDER, P, PORT0, PORT1, PREFERENCE, RATIO, SPAN_COUNT, TABLE_RECORD,
@@ -104,19 +105,19 @@ pub fn put_fitting(m: Model, table: &mut [u64], state: &mut [u64])
     }
 }
 
-// The model, put into words, whatever they are. The answer is 24 where the model counts more than 32 parts, else 25
-// where the table's or the state's words are too few; then no word is written. It is 0 where the model was put.
+// The model, put into words, whatever they are: 24 where the model counts more than 32 parts, else 25 where the table's
+// or the state's words are too few; then no word is written.
 #[tactic(auto, using(crate::proofs::Outcomes::put_outcomes))]
-pub fn put_model(m: Model, table: &mut [u64], state: &mut [u64]) -> u64
-    ensures { PutInto m table.old table.new state.old state.new result }
+pub fn put_model(m: Model, table: &mut [u64], state: &mut [u64]) -> Result<(), Refusal>
+    ensures { PutInto m table.old table.new state.old state.new (refused_number result) }
 {
     let count = m.count;
     if count > PARTS {
-        return NOT_SOUND;
+        return Err(Refusal::NotSound);
     }
     if table.len() < table_words(count) || state.len() < state_words(count) {
-        return TOO_SHORT;
+        return Err(Refusal::TooShort);
     }
     put_fitting(m, table, state);
-    0
+    Ok(())
 }

@@ -4,7 +4,7 @@ use Rattle.std.specs.Prelude.{ℕ, zero, suc, ◌≤◌, ◌<◌, ◌≡◌, ref
 use Rattle.std.proofs.Common.{arith, sym, ap, ◌∙◌, inl, inr, leb-true, le-leb, ne_eqb}
 use Rattle.std.proofs.Math.Seq.{take-append_seam, drop-append_seam}
 use Rattle.std.proofs.lemmas.Bool.{lt-leb}
-use Rattle.machine.specs.declared.model.Written.{Written}
+use Rattle.machine.specs.Answers.{Written}
 use Rattle.machine.specs.Writing.{WrittenAs, too_short}
 use Rattle.laws.specs.Bools.{either}
 use Rattle.write_bytes.specs.Put.{Put}

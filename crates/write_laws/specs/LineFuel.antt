@@ -5,8 +5,8 @@ use Rattle.std.specs.Prelude.{ℕ, zero, suc, ◌+◌, ◌/◌, ◌%◌, ◌≤�
 use Rattle.std.specs.Prelude.{◌++◌, length, eqb, leb, ltb}
 use Rattle.std.proofs.Common.{arith, ap, ltb-true, ltb-false, le-ltb, lt-ltb, eqb-true}
 use Rattle.machine.specs.declared.model.Model.{Model}
-use Rattle.machine.specs.declared.model.Score.{Score}
-use Rattle.machine.specs.declared.model.Score.TheVariants.{End, Wanted, Refused}
+use Rattle.machine.specs.Answers.{Score}
+use Rattle.machine.specs.Answers.{End, Wanted, Refused}
 use Rattle.machine.specs.Load.{known_command, want_byte, command_width, byte_at}
 use Rattle.machine.specs.Advance.{advance}
 use Rattle.machine.specs.Score.{score_command, score_at}

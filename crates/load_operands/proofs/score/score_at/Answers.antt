@@ -3,7 +3,7 @@
 -- the byte b that was read, then the goals.
 use Rattle.std.proofs.Common.{ℕ, ◌+◌, ◌≤◌, ◌<◌, ◌≡◌, false, List, length, arith}
 use borrow.Author.Tests.{lt-ltb, le-ltb, le-leb, lt-leb, ne_eqb}
-use Rattle.machine.specs.declared.model.Score.TheVariants.{Wanted, Refused}
+use Rattle.machine.specs.Answers.{Wanted, Refused}
 use Rattle.machine.specs.Load.{known_command, command_width, byte_at, word_at}
 use Rattle.machine.specs.Score.{score_command, score_at}
 use Rattle.load_operands.specs.declared.cursor.Cursor.{Cursor}
