@@ -1,4 +1,4 @@
--- What is found at a number means: document 01's number and the kind of each case. Assumes nothing.
+-- What is found at a kind's number: document 01's number and the kind of each case. Assumes nothing.
 use Rattle.std.specs.Prelude.{ℕ, ◌<◌, ◌≡◌, true, false, cond, List, ◌⊎◌, length}
 use Rattle.std.proofs.Common.{arith, inl, inr, ltb-false, sym}
 use Rattle.std.proofs.Math.ListN.{get_or-eq_default}
@@ -44,7 +44,7 @@ abbrev pub KindCases : ℕ → Result Kind UnknownKind → Type 0
 KindCases n (Ok k) = (kind_known n ≡ true) × (k ≡ kind_of n)
 KindCases n (Err unknown) = kind_known n ≡ false
 
--- which is so where the kind is the one that has the number
+-- what the conversion finds means that
 pub kind_meant : {n : ℕ} {r : Result Kind UnknownKind} → KindFound n r → KindMeant n r
 kind_meant {n} {r = Ok k} h = record { number = rw h.0; kind = h.1 }
 kind_meant {n} {r = Err unknown} h = record { number = rw h.0; kind = sym (none_has n h.0) }
@@ -64,7 +64,7 @@ none_there n h = by_test (either (kind_known n))
     by_test (inl e) = absurd (omega (arith, rw e at h))
     by_test (inr e) = e
 
--- and back by cases: the kind with that number, or that there is none
+-- the other way round, by cases
 pub kind_cases : {n : ℕ} {r : Result Kind UnknownKind} → KindMeant n r → KindCases n r
 kind_cases {n} {r = Ok k} h = (kind_there n h.number, h.kind)
 kind_cases {n} {r = Err unknown} h = none_there n h.number

@@ -1,2 +1,2 @@
--- What an answer of this crate that is an enum means, by document 01's number and values.
+-- What is found at a kind's number, by document 01's number and values.
 pub mod KindMeant

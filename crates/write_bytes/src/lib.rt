@@ -1,6 +1,5 @@
-// What every call that writes into a lent buffer shares: bytes and texts put at a position, a signed number taken
-// apart, and the number of a buffer that is too short. Its contracts cite `specs/Put.antt`.
+// What every call that writes into a lent buffer shares: bytes and texts put at a position. Its contracts cite
+// `specs/Put.antt`.
 #![tactic(auto)]
 
-pub mod number;
 pub mod put;
