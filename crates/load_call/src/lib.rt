@@ -31,6 +31,7 @@ pub fn load(bytes: &[u8]) -> Result<Accepted, RefusedAt>
     ensures { trimmed_loaded (loaded_of result) ≡ load bytes.now }
 {
     let read = read_table(bytes)?;
+    // No `map_err`: what a closure makes of the refusal is not told by a clause (`returns`).
     match judged(read) {
         Ok(ending) => Ok(accept(read, ending)),
         Err(refusal) => Err(refusal.at(read.position)),

@@ -26,7 +26,8 @@ fn last_of(spans: &[u32]) -> u32
     spans.last().copied().unwrap_or(0)
 }
 
-// The last of the first n spans of a row, 0 where there is none.
+// The last of the first n spans of a row, 0 where there is none. The row goes by value, as document 01 has the rows: of
+// a row lent from the array of rows no clause tells the length.
 pub fn last_span(row: [u32; SPANS], n: usize) -> u32
     requires { n ≤ 8 }
     ensures { LastOf row n result }

@@ -5,8 +5,8 @@ use crate::time::Point;
 // How many parts a model has room for.
 pub const PARTS: usize = 32;
 
-// A model. Of `order` and `parts` the first `count` places are in use; `order` is the part order that
-// loading gave.
+// A model. Of `order` and `parts` the first `count` places are in use, arrays since there is no heap; `order` is the
+// part order that loading gave.
 #[derive(Clone, Copy)]
 pub struct Model {
     pub magnitude: u8,
@@ -16,7 +16,8 @@ pub struct Model {
     pub parts: [Part; PARTS],
 }
 
-// What advancing answers: the model, document 01's number (0: committed) and the counts.
+// What advancing answers: the model, document 01's number (0: committed) and the counts. It is no Result: a refused
+// call has its rounds, revisions and last ceiling too.
 #[derive(Clone, Copy)]
 pub struct Answer {
     pub model: Model,
@@ -28,7 +29,7 @@ pub struct Answer {
 }
 
 // How a call ends: document 01's number (0: committed) and the counts. Where the model is in lent words, this is the
-// answer.
+// answer. It is no Result for the same reason, and since `dozhumek_sheet` reads one from words with any number.
 #[derive(Clone, Copy)]
 pub struct Outcome {
     pub number: u64,

@@ -65,7 +65,8 @@ impl TryFrom<u8> for Kind {
     }
 }
 
-// What a port is wired to: nothing, or the output of the part with this number.
+// What a port is wired to: nothing, or the output of the part with this number. It is no Option: the two cases are what
+// document 01 calls a port and a wire, and its definitions go by them (`wired` and `with_wire`, `specs/Load.antt`).
 #[derive(Clone, Copy, Debug, PartialEq, Eq)]
 pub enum Source {
     Unwired,
@@ -89,8 +90,8 @@ pub enum Mark {
     Falling,
 }
 
-// What the table fixes of a part. Of `spans` the first `span_count` places are in use; `preference`
-// is 255 for none; `p` is the operand of that name.
+// What the table fixes of a part. Of `spans` the first `span_count` places are in use, eight places as document 01 has
+// them, and no heap; `preference` is 255 for none; `p` is the operand of that name.
 #[derive(Clone, Copy)]
 pub struct Component {
     pub kind: Kind,

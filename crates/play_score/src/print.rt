@@ -88,6 +88,7 @@ fn print_batches(
 {
     let mut at = from;
     let mut exchanged = false;
+    // It counts nothing: each turn writes a batch and takes up the next one where that ended.
     loop {
         let played = play_batch(stream, at, exchanged, table, first, second, format, lines);
         if !io::write_all(1, &lines[..played.used]) {

@@ -111,7 +111,8 @@ pub fn component_at(table: &[u64], i: usize) -> Component
     }
 }
 
-// How many spans part `i` has, alone.
+// How many spans part `i` has, alone. This reader and the three after it are one line over `field` each, with the names
+// that their callers know.
 #[tactic(auto, unfolding(crate::specs::ModelIn::stored_component))]
 pub fn span_count_at(table: &[u64], i: usize) -> usize
     requires { table_words (i + 1) ≤ length table.now }
