@@ -34,7 +34,7 @@ pub enum Command {
     End = 0x05,
 }
 
-// The bytes of these, and of a wanted step.
+// The bytes of these, and of a wanted step, which is a command of the score and so none of a table.
 pub const BEGIN_BYTE: u8 = Command::Begin as u8;
 
 pub const PART_BYTE: u8 = Command::Part as u8;

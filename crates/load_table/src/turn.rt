@@ -92,7 +92,7 @@ fn turn(
 }
 
 // The turn at a position, after the progress and its rows: the step of its command, and none at End; or its refusal,
-// with the position. A match, since of `map_err` with a closure the goal `returns` did not learn the position.
+// with the position. A match, since what `map_err` gives with a closure tells the goal `returns` no position.
 pub(crate) fn command_at(
     s: &[u8],
     at: usize,

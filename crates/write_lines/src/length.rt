@@ -4,7 +4,7 @@ ghost use Rattle.machine.specs.Rehearse.{blank, decimal, signal_text, signed_dec
 
 use machine::signal::Signal;
 
-// How many digits a number has. The loop counts no index, and the library has no logarithm to base ten.
+// How many digits a number has. The loop divides, and counts no index.
 pub fn digits_of(n: u64) -> usize
     ensures digits { result ≡ length (decimal n) }
     ensures few_digits { result ≤ 20 }
