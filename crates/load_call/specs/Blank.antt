@@ -1,4 +1,5 @@
--- The model of a load that is refused: "'No model' is a model of no parts with all else 0", in all of its places. Assumes nothing.
+-- The model of a load that is refused: "'No model' is a model of no parts with all else 0", in all of its places.
+-- Assumes nothing.
 use Rattle.std.specs.Prelude.{◌≡◌, refl, replicate}
 use Rattle.machine.specs.declared.part.Part.{Part}
 use Rattle.machine.specs.declared.model.Model.{Model}

@@ -1,7 +1,7 @@
 -- What follows for a caller of `load` from its promise, that its answer to a stream bs is the machine's, as the number,
--- position and model r that `loaded_of` makes of it: `trimmed_loaded r ≡ load bs`. A stream is accepted exactly where it is that of a table that fits: then the model is
--- the table's fresh model, which is sound. So no loader that refuses every table, or that yields one model for all,
--- keeps the promise. Assumes nothing.
+-- position and model r that `loaded_of` makes of it: `trimmed_loaded r ≡ load bs`. A stream is accepted exactly where
+-- it is that of a table that fits: then the model is the table's fresh model, which is sound. So no loader that refuses
+-- every table, or that yields one model for all, keeps the promise. Assumes nothing.
 use Rattle.std.specs.Prelude.{ℕ, ◌≤◌, ◌≡◌, true, List, length}
 use Rattle.std.proofs.Common.{sym, ap, ◌∙◌}
 use Rattle.machine.specs.Answers.{Loaded}
