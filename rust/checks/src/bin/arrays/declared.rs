@@ -23,6 +23,12 @@ pub fn words_of(source: &str) -> Vec<String> {
     words
 }
 
+/// Whether the statement that these words end in is a `use`: `as` converts a number elsewhere.
+fn in_use(words: &[String]) -> bool {
+    let begin = words.iter().rposition(|word| [";", "{", "}"].contains(&word.as_str())).map_or(0, |at| at + 1);
+    words[begin..].iter().any(|word| word == "use")
+}
+
 /// The words of each record, and of each name that means a type.
 fn declarations(words: &[String]) -> Vec<(String, Vec<String>)> {
     let mut found = Vec::new();
@@ -46,7 +52,7 @@ fn declarations(words: &[String]) -> Vec<(String, Vec<String>)> {
         match words[at].as_str() {
             "struct" | "enum" => found.push((words[at + 1].clone(), until(&["}", ";"]))),
             "type" => found.push((words[at + 1].clone(), until(&[";"]))),
-            "as" if at > 0 && words[at + 2..].first().is_some_and(|word| word == ";") => {
+            "as" if in_use(&words[..at]) && words[at + 2..].first().is_some_and(|word| word == ";") => {
                 found.push((words[at + 1].clone(), vec![words[at - 1].clone()]))
             }
             _ => (),

@@ -3,7 +3,8 @@
 //!
 //! The middle code names a function by its module, the type or impl that has it, and its own name. An impl's name is
 //! made of others: that of `impl Field for Kind` is `KindField`, and that of `impl From<Kind> for u8` is `U8FromKind`.
-//! So the module and the own name are compared. In addition the middle code has what the checker makes of the sources:
+//! So the module and the own name are compared. A type's own methods are of the type's module, wherever their impl is.
+//! In addition the middle code has what the checker makes of the sources:
 //!
 //! - the methods of a derive, in an impl that has the name of the type and then that of the trait,
 //! - in each impl that leaves a method to its trait, that method, which calls the trait's; and the trait's a second
@@ -50,17 +51,48 @@ fn type_after(words: &[String]) -> &str {
     at.and_then(|at| words.get(at + 1)).map_or_else(|| failed("a derive without a type"), String::as_str)
 }
 
+/// The module that a source of this module takes a type from, `use crate::a::b::Type;`, or its own.
+fn module_of_type(words: &[String], module: &str, name: &str) -> String {
+    let of_crate = module.split("::").next().unwrap();
+    let taken = words.split(|word| word == ";").find_map(|statement| {
+        let at = statement.iter().position(|word| word == "use")?;
+        let path: String = statement[at + 1..].concat();
+        path.strip_prefix("crate::")?.strip_suffix(&format!("::{name}")).map(str::to_string)
+    });
+    taken.map_or_else(|| module.to_string(), |path| format!("{of_crate}::{path}"))
+}
+
+/// Where the block that begins at a place ends.
+fn block_end(words: &[String], begin: usize) -> usize {
+    let mut depth = 0;
+    for (at, word) in words.iter().enumerate().skip(begin) {
+        match word.as_str() {
+            "{" => depth += 1,
+            "}" if depth == 1 => return at,
+            "}" => depth -= 1,
+            _ => (),
+        }
+    }
+    words.len()
+}
+
 impl Sources {
     /// Takes a source's functions and derives.
     fn take(&mut self, file: &str) {
         let source = std::fs::read_to_string(file).unwrap_or_else(|_| failed(&format!("{file} cannot be read")));
         let words = words_of(&source);
         let module = module_of(file);
+        // The module of a type's own methods, up to the end of their impl.
+        let (mut of_type, mut end) = (module.clone(), 0);
         for at in 0..words.len().saturating_sub(2) {
             let is_name = words[at + 1].starts_with(|c: char| c.is_alphabetic() || c == '_');
             match words[at].as_str() {
+                "impl" if is_name && words[at + 2] == "{" => {
+                    (of_type, end) = (module_of_type(&words, &module, &words[at + 1]), block_end(&words, at + 2));
+                }
                 "fn" if is_name => {
-                    *self.functions.entry((module.clone(), words[at + 1].clone())).or_default() += 1;
+                    let of = if at < end { &of_type } else { &module };
+                    *self.functions.entry((of.clone(), words[at + 1].clone())).or_default() += 1;
                 }
                 "mod" if words[at + 2] == "{" => failed(&format!("{file} has a module inside")),
                 "derive" if words[at + 1] == "(" => {
