@@ -16,7 +16,6 @@ use Rattle.machine.specs.Rehearse.{answer_line}
 use Rattle.machine.specs.Sheet.{sheet_line}
 use Rattle.machine.specs.Writing.{WrittenAs}
 use Rattle.advance_lists.specs.Bounds.{answer_sound}
-use Rattle.write_bytes.specs.Put.{Put}
 use Rattle.write_bytes.specs.Fitting.{size_told}
 use Rattle.words_store.specs.ModelIn.{part_count, state_words, WordsThere}
 use Rattle.words_store.specs.Spelling.{spelled_room, spelled_few}
@@ -29,6 +28,7 @@ use Rattle.sheet_call.specs.SheetsOwed.{every_answer_printed}
 use Rattle.play_score.specs.declared.format.Choice.{Choice}
 use Rattle.play_score.specs.declared.format.Format.{Format}
 use Rattle.play_score.specs.declared.format.Format.TheVariants.{Plain, Sheet}
+use Rattle.play_score.specs.Held.{Held, LinePut}
 use Rattle.play_score.specs.Lines.{line_of}
 use Rattle.play_score.specs.Playing.{most_state_words, Playable, AnswerIn, PlayedWanted}
 
@@ -38,15 +38,15 @@ pub line_words : {v : Outcome} {f : Format} (ts ss : List ℕ) → AnswerIn ts s
 line_words ts ss answer = (spelled_room ts ss answer.form, spelled_few ts ss answer.form)
 
 -- a line put in one of the formats is the line of that format
-pub plain_put : {used end : ℕ} {xs ys : List ℕ} (r : Answer) (f : Format) → f ≡ Plain →
-    Put 1024 (answer_line r) used xs ys end → Put 1024 (line_of r f) used xs ys end
-plain_put {used = used} {end = end} {xs = xs} {ys = ys} r f e put =
-    subst (λ (x : Format). Put 1024 (line_of r x) used xs ys end) (sym e) put
+pub plain_put : {before after : Held} (r : Answer) (f : Format) → f ≡ Plain →
+    LinePut (answer_line r) before after → LinePut (line_of r f) before after
+plain_put {before = before} {after = after} r f e put =
+    subst (λ (x : Format). LinePut (line_of r x) before after) (sym e) put
 
-pub sheet_put : {used end : ℕ} {xs ys : List ℕ} (r : Answer) (f : Format) (ch : Choice) → f ≡ Sheet ch →
-    Put 1024 (sheet_line r ch.first ch.second ch.third) used xs ys end → Put 1024 (line_of r f) used xs ys end
-sheet_put {used = used} {end = end} {xs = xs} {ys = ys} r f ch e put =
-    subst (λ (x : Format). Put 1024 (line_of r x) used xs ys end) (sym e) put
+pub sheet_put : {before after : Held} (r : Answer) (f : Format) (ch : Choice) → f ≡ Sheet ch →
+    LinePut (sheet_line r ch.first ch.second ch.third) before after → LinePut (line_of r f) before after
+sheet_put {before = before} {after = after} r f ch e put =
+    subst (λ (x : Format). LinePut (line_of r x) before after) (sym e) put
 
 -- a sheet line of an answer is not refused, and has room in as many bytes as any line
 pub sheet_written :
@@ -96,14 +96,14 @@ module _
         shows = words.shows;
       }
 
-  pub wanted_moved : (next used end : ℕ) (before after : List ℕ) → v.number ≡ 0 →
-      Put 1024 (line_of (outcome_answer ts b v) f) used before after end →
-      PlayedWanted ts os w next f b before used after (record { next = Some next; used = end; moved = true })
-  wanted_moved next used end before after z put =
+  pub wanted_moved : (next : ℕ) (before after : Held) → v.number ≡ 0 →
+      LinePut (line_of (outcome_answer ts b v) f) before after →
+      PlayedWanted ts os w next f b before after (record { next = Some next; moved = true })
+  wanted_moved next before after z put =
       let model = moved_model ts os a b w v words.form room_for called z in
       let told = answer_told ts os a b w v words.form room_for called (lent_model ts b) model in
       record {
-        line = subst (λ (r : Answer). Put 1024 (line_of r f) used before after end) told put;
+        line = subst (λ (r : Answer). LinePut (line_of r f) before after) told put;
         model = model;
         playable = record {
           form = moved_form ts os a b w v words.form room_for called z;
@@ -128,14 +128,14 @@ module _
         shows = words.shows;
       }
 
-  pub wanted_kept : (next used end : ℕ) (before after : List ℕ) → (v.number ≡ 0 → ⊥) →
-      Put 1024 (line_of (outcome_answer ts os v) f) used before after end →
-      PlayedWanted ts os w next f os before used after (record { next = Some next; used = end; moved = false })
-  wanted_kept next used end before after other put =
+  pub wanted_kept : (next : ℕ) (before after : Held) → (v.number ≡ 0 → ⊥) →
+      LinePut (line_of (outcome_answer ts os v) f) before after →
+      PlayedWanted ts os w next f os before after (record { next = Some next; moved = false })
+  wanted_kept next before after other put =
       let model = kept_model ts os a b w v words.form room_for called other in
       let told = answer_told ts os a b w v words.form room_for called (lent_model ts os) model in
       record {
-        line = subst (λ (r : Answer). Put 1024 (line_of r f) used before after end) told put;
+        line = subst (λ (r : Answer). LinePut (line_of r f) before after) told put;
         model = model;
         playable = words;
         position = refl;

@@ -23,6 +23,7 @@ use Rattle.write_bytes.specs.Fitting.{size_told, text_put}
 use Rattle.advance_call.specs.Into.{lent_model}
 use Rattle.play_score.specs.declared.format.Format.{Format}
 use Rattle.play_score.specs.declared.play.Played.{Played}
+use Rattle.play_score.specs.Held.{Held, text_held, LinePut}
 use Rattle.play_score.specs.Lines.{on_output, line_of, command_lines, played_from, played_at}
 use Rattle.play_score.specs.Playing.{stands_in, Playable, lines_left}
 use Rattle.play_score.specs.Playing.{PlayedWanted, CommandPlayed, Batched, PrintedSoFar}
@@ -54,6 +55,33 @@ put_part {xs = xs} used room written short =
     let k = length xs - used in
     let all : take k (drop used xs) ≡ drop used xs = take_all k (drop used xs) (simp length-drop (omega arith)) in
     put_behind used k room (omega arith) (rw all at written) short
+
+-- the buffer is as long as before
+put_size : {text xs : List ℕ} {used k : ℕ} (after : List ℕ) → used + 1024 ≤ length xs → k ≤ 1024 →
+    Put 1024 text used xs after (used + k) → length after ≡ length xs
+put_size {text = text} {xs = xs} {used = used} {k = k} after room short put =
+    omega (
+      arith,
+      ap length put.line,
+      ap length put.behind,
+      length-take (used + k) after,
+      length-append (take used xs) text,
+      length-take used xs,
+      length-drop (used + k) after,
+      length-drop (used + k) xs,
+      put.position,
+    )
+
+-- a line that was written there, where there is room for any line
+pub line_put : {text xs ys : List ℕ} {w : Written} (used : ℕ) → used + 1024 ≤ length xs →
+    WrittenAs 0 text (take (length xs - used) (drop used xs)) ys w → w.length ≤ 1024 →
+    LinePut text (record { bytes = xs; used = used })
+    (record { bytes = take used xs ++ (ys ++ drop (length xs - used) (drop used xs)); used = used + w.length })
+line_put {text = text} {xs = xs} {ys = ys} {w = w} used room written short =
+    let put = put_part used room written short in
+    let after = take used xs ++ (ys ++ drop (length xs - used) (drop used xs)) in
+    let size : length after ≡ length xs = put_size after room short put in
+    record { put = put; size = size; room = omega arith }
 
 -- that rest has room for the text
 pub part_room : {text ys : List ℕ} {w : Written} (used : ℕ) (xs : List ℕ) → used + 1024 ≤ length xs →
@@ -112,43 +140,46 @@ module _ (bs : List ℕ) (at : ℕ) (f : Format) where
       rw e (ap (λ text. line_of (advance m w) f ++ text) (same ∙ more))
 
   -- one command played, by what the score holds: its end
-  module _ (ts os : List ℕ) where
-    pub played_end : (buffer : List ℕ) (used : ℕ) → Playable ts os f → score_at bs at ≡ End → used ≤ length buffer →
-        CommandPlayed bs at ts os f os buffer used buffer (record { next = None; used = used; moved = false })
+  module _ (ts os : List ℕ) (before : Held) where
+    pub played_end : Playable ts os f → score_at bs at ≡ End → before.used ≤ length before.bytes →
+        CommandPlayed bs at ts os f os before before (record { next = None; moved = false })
     unfolding lines_left
-    played_end buffer used words e room =
+    played_end words e room =
         record {
           lines = rw (lines_ended (lent_model ts os) e) refl;
           room = room;
+          size = refl;
           playable = words;
           later = λ next goes. grind arith;
         }
 
     -- a refusal, whose line is the last
-    pub played_refused : (number position used end : ℕ) (before after : List ℕ) → Playable ts os f →
-        score_at bs at ≡ Refused number position → Put 1024 (refused_at_line number position) used before after end →
-        end ≤ length after →
-        CommandPlayed bs at ts os f os before used after (record { next = None; used = end; moved = false })
+    pub played_refused : (after : Held) (number position : ℕ) → Playable ts os f →
+        score_at bs at ≡ Refused number position →
+        LinePut (refused_at_line number position) before after →
+        CommandPlayed bs at ts os f os before after (record { next = None; moved = false })
     unfolding lines_left
-    played_refused number position used end before after words e put room =
+    played_refused after number position words e line =
         record {
-          lines = rw (lines_refused (lent_model ts os) number position e, append-nil, put.line) refl;
-          room = room;
+          lines = rw (lines_refused (lent_model ts os) number position e, append-nil, line.put.line) refl;
+          room = line.room;
+          size = line.size;
           playable = words;
           later = λ next goes. grind arith;
         }
 
     -- a wanted step
-    pub played_wanted : (w next used : ℕ) (ns before after : List ℕ) (r : Played) → score_at bs at ≡ Wanted w next →
-        PlayedWanted ts os w next f ns before used after r → r.used ≤ length after →
-        CommandPlayed bs at ts os f ns before used after r
+    pub played_wanted : (after : Held) (w next : ℕ) (ns : List ℕ) (r : Played) → score_at bs at ≡ Wanted w next →
+        PlayedWanted ts os w next f ns before after r →
+        CommandPlayed bs at ts os f ns before after r
     unfolding lines_left
-    played_wanted w next used ns before after r e wanted room =
+    played_wanted after w next ns r e wanted =
         let place = wanted.position in
         let first = lines_wanted (lent_model ts os) (lent_model ts ns) w next e wanted.model in
         record {
-          lines = rw (place, first, wanted.line.line) (sym (append_assoc (take used before) _ _));
-          room = room;
+          lines = rw (place, first, wanted.line.put.line) (sym (append_assoc (text_held before) _ _));
+          room = wanted.line.room;
+          size = wanted.line.size;
           playable = wanted.playable;
           later = λ n goes. rw (some_same (sym goes ∙ place)) (wanted_later bs at w next e);
         }
@@ -169,42 +200,43 @@ moved_back false a b = refl
 
 -- a command that was asked of the second state, and of the first
 pub turned_back :
-    {bs ts b before after : List ℕ} {at used : ℕ} {f : Format} (r : Played) (a a₀ : List ℕ) (exchanged : Bool) →
-    exchanged ≡ true → CommandPlayed bs at ts b f (cond r.moved a b) before used after r →
-    CommandPlayed bs at ts (stands_in exchanged a₀ b) f (stands_in (not r.moved) a b) before used after
-    (record { next = r.next; used = r.used; moved = not r.moved })
+    {bs ts b : List ℕ} {before after : Held} {at : ℕ} {f : Format} (r : Played) (a a₀ : List ℕ) (exchanged : Bool) →
+    exchanged ≡ true → CommandPlayed bs at ts b f (cond r.moved a b) before after r →
+    CommandPlayed bs at ts (stands_in exchanged a₀ b) f (stands_in (not r.moved) a b) before after
+    (record { next = r.next; moved = not r.moved })
 turned_back {b = b} r a a₀ exchanged e one =
     let same = moved_back r.moved a b in
     record {
       lines = rw (e, same) one.lines;
       room = one.room;
+      size = one.size;
       playable = rw same one.playable;
       later = one.later;
     }
 
 pub turned_forth :
-    {bs ts a before after : List ℕ} {at used : ℕ} {f : Format} (r : Played) (b b₀ : List ℕ) (exchanged : Bool) →
-    exchanged ≡ false → CommandPlayed bs at ts a f (cond r.moved b a) before used after r →
-    CommandPlayed bs at ts (stands_in exchanged a b₀) f (stands_in r.moved a b) before used after r
+    {bs ts a : List ℕ} {before after : Held} {at : ℕ} {f : Format} (r : Played) (b b₀ : List ℕ) (exchanged : Bool) →
+    exchanged ≡ false → CommandPlayed bs at ts a f (cond r.moved b a) before after r →
+    CommandPlayed bs at ts (stands_in exchanged a b₀) f (stands_in r.moved a b) before after r
 turned_forth r b b₀ exchanged e one = rw e one
 
 -- all lines after one command more of a score that did not end there
-pub played_on : {bs ts ss ns before after all : List ℕ} {at used next : ℕ} {f : Format} {r : Played} →
+pub played_on : {bs ts ss ns all : List ℕ} {before after : Held} {at next : ℕ} {f : Format} {r : Played} →
     r.next ≡ Some next →
-    all ≡ take used before ++ played_at bs at (lent_model ts ss) f →
-    CommandPlayed bs at ts ss f ns before used after r →
-    all ≡ take r.used after ++ played_at bs next (lent_model ts ns) f
+    all ≡ text_held before ++ played_at bs at (lent_model ts ss) f →
+    CommandPlayed bs at ts ss f ns before after r →
+    all ≡ text_held after ++ played_at bs next (lent_model ts ns) f
 unfolding lines_left
 played_on e so_far one = so_far ∙ (rw e at one.lines)
 
 -- a batch prints its text after what was printed before it
-pub one_batch_more : {bs ts os ns buffer : List ℕ} {f : Format} {at next : ℕ} {r : Played} → r.next ≡ Some next →
-    PrintedSoFar bs f at (lent_model ts os) → Batched bs at ts os f ns buffer r →
+pub one_batch_more : {bs ts os ns : List ℕ} {held : Held} {f : Format} {at next : ℕ} {r : Played} → r.next ≡ Some next →
+    PrintedSoFar bs f at (lent_model ts os) → Batched bs at ts os f ns held r →
     PrintedSoFar bs f next (lent_model ts ns)
 unfolding lines_left
-one_batch_more {buffer = buffer} {r = r} goes so_far batch =
+one_batch_more {held = held} goes so_far batch =
     let lines = rw goes at batch.lines in
-    let text = take r.used buffer in
+    let text = text_held held in
     record {
       text = so_far.text ++ text;
       whole = (rw lines at so_far.whole) ∙ ap on_output (sym (append_assoc so_far.text text _));

@@ -11,6 +11,7 @@ use Rattle.machine.specs.Load.{read_turn, read_from, load}
 use Rattle.machine.specs.Score.{score_at}
 use Rattle.machine.specs.Rehearse.{refused_at_line, digits_before, decimal}
 use Rattle.play_score.specs.declared.format.Format.TheVariants.{Plain}
+use Rattle.play_score.specs.Held.{no_line}
 use Rattle.play_score.specs.Lines.{played_from, played_at, loaded_printout}
 use Rattle.play_score.specs.Playing.{lines_left}
 use Rattle.play_score.specs.WholeScore.{Batch, ToEnd, InBatches}
@@ -30,10 +31,10 @@ nothing_printed =
 
 -- a batch without room, and one that ends
 abbrev without_room : Batch
-without_room = record { told = record { next = Some 0; used = 0; moved = false }; state = []; buffer = [] }
+without_room = record { told = record { next = Some 0; moved = false }; state = []; held = no_line [] }
 
 abbrev with_the_end : Batch
-with_the_end = record { told = record { next = None; used = 0; moved = false }; state = []; buffer = [] }
+with_the_end = record { told = record { next = None; moved = false }; state = []; held = no_line [] }
 
 pub nothing_played : (ts ss : List ℕ) → ToEnd [] ts Plain (Some 0) ss (without_room ∷ with_the_end ∷ [])
 unfolding lines_left played_at played_from score_at

@@ -10,7 +10,6 @@ use Rattle.machine.specs.Sound.{sound}
 use Rattle.machine.specs.Advance.{advance}
 use Rattle.words_store.specs.ModelIn.{part_count, table_words, state_words}
 use Rattle.words_store.specs.Form.{spelled}
-use Rattle.write_bytes.specs.Put.{Put}
 use Rattle.advance_call.specs.Into.{lent_model}
 use Rattle.sheet_call.specs.LentSheet.{Chosen}
 use Rattle.sheet_call.specs.SheetInto.{outcome_answer}
@@ -18,6 +17,7 @@ use Rattle.play_score.specs.declared.format.Format.{Format}
 use Rattle.play_score.specs.declared.format.Format.TheVariants.{Plain, Sheet}
 use Rattle.play_score.specs.declared.play.Played.{Played}
 use Rattle.play_score.specs.declared.print.Said.{Said}
+use Rattle.play_score.specs.Held.{Held, text_held, LinePut}
 use Rattle.play_score.specs.Lines.{Printout, on_output, line_of, played_at, score_printout}
 
 -- how many words have room for the table of any model, and for a state of it
@@ -60,37 +60,38 @@ lines_left bs None m f = []
 lines_left bs (Some at) m f = played_at bs at m f
 
 -- A step was wanted of the state os, and the rehearsal is now in ns: the line of the machine's answer is after the
--- buffer's first bytes, and the state is the answer's.
-pub record PlayedWanted
-    (ts os : List ℕ) (w next : ℕ) (f : Format) (ns before : List ℕ) (used : ℕ) (after : List ℕ) (r : Played) :
+-- lines that the buffer held, and the state is the answer's.
+pub record PlayedWanted (ts os : List ℕ) (w next : ℕ) (f : Format) (ns : List ℕ) (before after : Held) (r : Played) :
     Type 0 where
-  pub line : Put 1024 (line_of (advance (lent_model ts os) w) f) used before after r.used
+  pub line : LinePut (line_of (advance (lent_model ts os) w) f) before after
   pub model : lent_model ts ns ≡ (advance (lent_model ts os) w).model
   pub playable : Playable ts ns f
   pub position : r.next ≡ Some next
 
--- One score command was played of the state os, and the rehearsal is now in ns: the buffer's first bytes and all
--- lines from there on are the same text as before. Where the score did not end, the next command lies later, and the
--- one played lay within the stream.
+-- One score command was played of the state os, and the rehearsal is now in ns: the lines that the buffer held and all
+-- lines from there on are the same text as before. The buffer is as long. Where the score did not end, the next
+-- command lies later, and the one played lay within the stream.
 pub record CommandPlayed
-    (bs : List ℕ) (at : ℕ) (ts os : List ℕ) (f : Format) (ns before : List ℕ) (used : ℕ) (after : List ℕ) (r : Played) :
+    (bs : List ℕ) (at : ℕ) (ts os : List ℕ) (f : Format) (ns : List ℕ) (before after : Held) (r : Played) :
     Type 0 where
   pub lines :
-      take used before ++ played_at bs at (lent_model ts os) f ≡
-      take r.used after ++ lines_left bs r.next (lent_model ts ns) f
-  pub room : r.used ≤ length after
+      text_held before ++ played_at bs at (lent_model ts os) f ≡
+      text_held after ++ lines_left bs r.next (lent_model ts ns) f
+  pub room : after.used ≤ length after.bytes
+  pub size : length after.bytes ≡ length before.bytes
   pub playable : Playable ts ns f
   pub later : (next : ℕ) → r.next ≡ Some next → (at < next) × (at < length bs)
 
 -- Some score commands were played: all lines from a position on are those in the buffer and those still to come.
 -- Where the score did not end and the buffer has room for a line, the next command lies later, and the first one lay
 -- within the stream.
-pub record Batched (bs : List ℕ) (at : ℕ) (ts ss : List ℕ) (f : Format) (ns buffer : List ℕ) (r : Played) : Type 0 where
+pub record Batched (bs : List ℕ) (at : ℕ) (ts ss : List ℕ) (f : Format) (ns : List ℕ) (held : Held) (r : Played) :
+    Type 0 where
   pub lines :
       played_at bs at (lent_model ts ss) f ≡
-      take r.used buffer ++ lines_left bs r.next (lent_model ts ns) f
-  pub room : r.used ≤ length buffer
-  pub later : (next : ℕ) → r.next ≡ Some next → 1024 ≤ length buffer → (at < next) × (at < length bs)
+      text_held held ++ lines_left bs r.next (lent_model ts ns) f
+  pub room : held.used ≤ length held.bytes
+  pub later : (next : ℕ) → r.next ≡ Some next → 1024 ≤ length held.bytes → (at < next) × (at < length bs)
 
 -- what is printed by a beginning that said this text, and by what then comes
 abbrev pub said_and : Bool → (text rest : List ℕ) → Printout

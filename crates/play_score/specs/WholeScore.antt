@@ -3,18 +3,19 @@
 use Rattle.std.specs.Prelude.{ℕ, ◌<◌, ◌≡◌, List, [], ◌∷◌, ◌++◌, length, take, Option, Some, None}
 use Rattle.play_score.specs.declared.format.Format.{Format}
 use Rattle.play_score.specs.declared.play.Played.{Played}
+use Rattle.play_score.specs.Held.{Held, text_held}
 use Rattle.play_score.specs.Lines.{Printout, score_printout}
 use Rattle.play_score.specs.Playing.{said_and, Batched, Opening, errors_of, used_of, next_of, Opened}
 
--- a batch: what it came to, the state that the rehearsal is then in, and the buffer after it
+-- a batch: what it came to, the state that the rehearsal is then in, and the lines that the buffer then holds
 pub record Batch : Type 0 where
   pub told : Played
   pub state : List ℕ
-  pub buffer : List ℕ
+  pub held : Held
 
 -- a batch's text: the bytes of the buffer that are written
 unfoldable pub batch_text : Batch → List ℕ
-batch_text b = take b.told.used b.buffer
+batch_text b = text_held b.held
 
 -- the texts of some batches, one after the other
 unfoldable pub printed_by : List Batch → List ℕ
@@ -27,7 +28,7 @@ ToEnd bs ts f None ss [] = Unit {0}
 ToEnd bs ts f None ss (b ∷ batches) = ⊥
 ToEnd bs ts f (Some at) ss [] = ⊥
 ToEnd bs ts f (Some at) ss (b ∷ batches) =
-    Batched bs at ts ss f b.state b.buffer b.told × ToEnd bs ts f b.told.next b.state batches
+    Batched bs at ts ss f b.state b.held b.told × ToEnd bs ts f b.told.next b.state batches
 
 -- a stream printed in batches: how it began, and that the batches lead from there to its end
 pub record InBatches (bs : List ℕ) (f : Format) (batches : List Batch) : Type 0 where

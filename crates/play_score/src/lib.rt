@@ -3,5 +3,6 @@
 #![tactic(auto)]
 
 pub mod format;
+pub mod lines;
 pub mod play;
 pub mod print;

@@ -1,7 +1,8 @@
 // Playing a score: its commands in turn, each with its line, as many as a buffer has room for. The model is in words:
 // those of a table, and two states of it. A step is made from the one state into the other, and a flag says in which
 // of the two the rehearsal is; no model is copied. The contracts cite `specs/Playing.antt`.
-ghost use Rattle.std.specs.Prelude.{cond, ◌+◌, ◌≤◌, length};
+ghost use Rattle.std.specs.Prelude.{◌≡◌, cond, ◌≤◌, length};
+ghost use Rattle.play_score.specs.Held.{HasRoom};
 ghost use Rattle.play_score.specs.Playing.{
   stands_in,
   most_state_words,
@@ -11,20 +12,20 @@ ghost use Rattle.play_score.specs.Playing.{
   Batched,
 };
 
-use crate::format::{Format, LINE, put_answer, put_refused_at};
+use crate::format::Format;
+use crate::lines::Lines;
 use advance_call::advance_sound_into;
 use load_operands::score::{Wanted, score_at};
 
-// What playing came to: the position of the next command, none where the score ended; how many bytes the lines in the
-// buffer take; and whether the rehearsal is now in the other state.
+// What playing came to: the position of the next command, none where the score ended; and whether the rehearsal is now
+// in the other state.
 #[derive(Clone, Copy, Debug, PartialEq, Eq)]
 pub struct Played {
     pub next: Option<usize>,
-    pub used: usize,
     pub moved: bool,
 }
 
-// One advance of the state `old` by at most the wanted step, into `new`, with its line after the first `used` bytes.
+// One advance of the state `old` by at most the wanted step, into `new`, with its line.
 // After a refused call the rehearsal is still in the old state.
 fn play_wanted(
     table: &[u64],
@@ -32,34 +33,31 @@ fn play_wanted(
     wanted: Wanted,
     format: Format,
     new: &mut [u64],
-    lines: &mut [u8],
-    used: usize,
+    lines: &mut Lines<'_>,
 ) -> Played
     requires playable { Playable table.now old.now format }
     requires state_room { most_state_words ≤ length new.old }
-    requires line_room { used + 1024 ≤ length lines.old }
+    requires line_room { HasRoom lines.old }
     ensures { let left = cond result.moved new.new old.now in
         PlayedWanted table.now old.now wanted.step wanted.next format
-        left lines.old used lines.new result }
+        left lines.old lines.new result }
 {
     let v = advance_sound_into(table, old, wanted.step, new);
     if v.number != 0 {
-        let end = put_answer(format, table, old, v, lines, used);
+        lines.put_answer(format, table, old, v);
         return Played {
             next: Some(wanted.next),
-            used: end,
             moved: false,
         };
     }
-    let end = put_answer(format, table, new, v, lines, used);
+    lines.put_answer(format, table, new, v);
     Played {
         next: Some(wanted.next),
-        used: end,
         moved: true,
     }
 }
 
-// One score command, asked of the state `old`, with its line after the first `used` bytes.
+// One score command, asked of the state `old`, with its line.
 fn play_command(
     stream: &[u8],
     at: usize,
@@ -67,29 +65,26 @@ fn play_command(
     old: &[u64],
     format: Format,
     new: &mut [u64],
-    lines: &mut [u8],
-    used: usize,
+    lines: &mut Lines<'_>,
 ) -> Played
     requires playable { Playable table.now old.now format }
     requires state_room { most_state_words ≤ length new.old }
-    requires line_room { used + 1024 ≤ length lines.old }
+    requires line_room { HasRoom lines.old }
     ensures { let left = cond result.moved new.new old.now in
         CommandPlayed stream.now at table.now old.now format
-        left lines.old used lines.new result }
+        left lines.old lines.new result }
 {
     match score_at(stream, at) {
         Ok(None) => Played {
             next: None,
-            used,
             moved: false,
         },
-        Ok(Some(wanted)) => play_wanted(table, old, wanted, format, new, lines, used),
+        Ok(Some(wanted)) => play_wanted(table, old, wanted, format, new, lines),
         Err(refused) => {
             let number = refused.refusal.number();
-            let last = put_refused_at(number, refused.position, lines, used);
+            lines.put_refused_at(number, refused.position);
             Played {
                 next: None,
-                used: last,
                 moved: false,
             }
         }
@@ -107,30 +102,29 @@ fn play_exchanged(
     first: &mut [u64],
     second: &mut [u64],
     format: Format,
-    lines: &mut [u8],
-    used: usize,
+    lines: &mut Lines<'_>,
 ) -> Played
     requires playable { Playable table.now (stands_in exchanged first.old second.old) format }
     requires first_room { most_state_words ≤ length first.old }
     requires second_room { most_state_words ≤ length second.old }
-    requires line_room { used + 1024 ≤ length lines.old }
+    requires line_room { HasRoom lines.old }
     ensures { let asked = stands_in exchanged first.old second.old in
         let left = stands_in result.moved first.new second.new in
         CommandPlayed stream.now at table.now asked format
-        left lines.old used lines.new result }
+        left lines.old lines.new result }
 {
     if exchanged {
-        let back = play_command(stream, at, table, second, format, first, lines, used);
+        let back = play_command(stream, at, table, second, format, first, lines);
         return Played {
             moved: !back.moved,
             ..back
         };
     }
-    play_command(stream, at, table, first, format, second, lines, used)
+    play_command(stream, at, table, first, format, second, lines)
 }
 
-// The score commands from `from` on, as long as there is room for another line. It counts nothing: each command tells
-// where the next one is, and how much room is left.
+// The score commands from `from` on, in a buffer that is emptied, as long as there is room for another line. It counts
+// nothing: each command tells where the next one is, and the buffer how much room is left.
 pub fn play_batch(
     stream: &[u8],
     from: usize,
@@ -139,7 +133,7 @@ pub fn play_batch(
     first: &mut [u64],
     second: &mut [u64],
     format: Format,
-    lines: &mut [u8],
+    lines: &mut Lines<'_>,
 ) -> Played
     requires playable { Playable table.now (stands_in exchanged first.old second.old) format }
     requires first_room { most_state_words ≤ length first.old }
@@ -149,24 +143,21 @@ pub fn play_batch(
         Batched stream.now from table.now asked format left lines.new result }
     ensures still_playable { let left = stands_in result.moved first.new second.new in
         Playable table.now left format }
+    ensures same_size { length lines.new.bytes ≡ length lines.old.bytes }
 {
     let mut at = from;
-    let mut used: usize = 0;
     let mut turned = exchanged;
-    while lines.len() - used >= LINE {
-        let played = play_exchanged(
-            stream, at, turned, table, first, second, format, lines, used,
-        );
+    lines.clear();
+    while lines.has_room() {
+        let played = play_exchanged(stream, at, turned, table, first, second, format, lines);
         let Some(next) = played.next else {
             return played;
         };
         at = next;
-        used = played.used;
         turned = played.moved;
     }
     Played {
         next: Some(at),
-        used,
         moved: turned,
     }
 }

@@ -14,6 +14,7 @@ ghost use Rattle.play_score.specs.Playing.{
 };
 
 use crate::format::{Format, missing_of};
+use crate::lines::Lines;
 use crate::play::play_batch;
 use load_call::load;
 use refusals::Refusal;
@@ -78,20 +79,20 @@ fn print_batches(
     first: &mut [u64],
     second: &mut [u64],
     format: Format,
-    lines: &mut [u8],
+    lines: &mut Lines<'_>,
 ) -> bool
     requires playable { Playable table.now first.old format }
     requires printed_so_far { PrintedSoFar stream.now format from (lent_model table.now first.old) }
     requires first_room { most_state_words ≤ length first.old }
     requires second_room { most_state_words ≤ length second.old }
-    requires line_room { 1024 ≤ length lines.old }
+    requires line_room { 1024 ≤ length lines.old.bytes }
 {
     let mut at = from;
     let mut exchanged = false;
     // It counts nothing: each turn writes a batch and takes up the next one where that ended.
     loop {
         let played = play_batch(stream, at, exchanged, table, first, second, format, lines);
-        if !io::write_all(1, &lines[..played.used]) {
+        if !io::write_all(1, lines.text()) {
             return false;
         }
         let Some(next) = played.next else {
@@ -117,7 +118,7 @@ pub fn print_score(stream: &[u8], format: Format) -> bool {
             &mut first,
             &mut second,
             format,
-            &mut lines,
+            &mut Lines::new(&mut lines),
         ),
         Err(said) => {
             let output = if said.errors { 2 } else { 1 };

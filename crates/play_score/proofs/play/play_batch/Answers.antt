@@ -2,27 +2,27 @@
 -- all lines, told of the state that the rehearsal is in, whose words can be played; the position moved on where the
 -- buffer holds a line; and the slices keep their lengths. The measure is what is left of the stream.
 use native.Mathlib.Omega.{arith}
-use mathlib.Core.Path.{refl, sym, ◌∙◌}
+use mathlib.Core.Path.{refl, sym, ap, ◌∙◌}
+use lib.ListN.{length}
 use Rattle.std.specs.Prelude.{◌≡◌, Some, None}
+use Rattle.play_score.specs.Held.{Held}
 use Rattle.play_score.specs.Playing.{lines_left}
 use Rattle.play_score.proofs.Commands.{some_same, played_on}
 use Rattle.play_score.proofs.play.play_batch.Goals as goal
 
-pub loop-lines-init : goal.loop-lines-init
-loop-lines-init c =
+pub loop-format-init : goal.loop-format-init
+loop-format-init c =
+    rw c.clear.ensures
     (omega arith, refl, refl, refl, refl, c.requires.playable, omega arith, λ some. absurd (omega arith))
-
-pub overflow_sub-lines : goal.overflow_sub-lines
-overflow_sub-lines c = omega arith
 
 pub play_exchanged-played-requires : goal.play_exchanged-played-requires
 play_exchanged-played-requires c =
-    let had = c.loop-lines.invariant in
+    let had = c.loop-format.invariant in
     record {
       playable = had.5;
       first_room = omega (arith, c.requires.first_room, had.2);
       second_room = omega (arith, c.requires.second_room, had.3);
-      line_room = omega arith;
+      line_room = c.has_room.ensures.0 c.loop-format-test.true;
     }
 
 pub returns-in_default : goal.returns-in_default
@@ -30,26 +30,27 @@ returns-in_default c =
     let played = c.play_exchanged-played.ensures in
     record {
       batched = record {
-        lines = c.loop-lines.invariant.4 ∙ played.lines;
+        lines = c.loop-format.invariant.4 ∙ played.lines;
         room = played.room;
         later = λ next goes room. let none : None ≡ Some next = sym c.in_default.is ∙ goes in grind arith;
       };
       still_playable = played.playable;
+      same_size = played.size ∙ c.loop-format.invariant.1 ∙ ap (λ (h : Held). length h.bytes) c.clear.ensures;
     }
 
-pub loop-lines-smaller : goal.loop-lines-smaller
-loop-lines-smaller c =
+pub loop-format-smaller : goal.loop-format-smaller
+loop-format-smaller c =
     let later = c.play_exchanged-played.ensures.later c.in-Some.next c.in-Some.is in
     omega (arith, later.0, later.1)
 
-pub loop-lines-preserved : goal.loop-lines-preserved
-loop-lines-preserved c =
+pub loop-format-preserved : goal.loop-format-preserved
+loop-format-preserved c =
     let played = c.play_exchanged-played.ensures in
-    let on = played_on c.in-Some.is c.loop-lines.invariant.4 played in
+    let on = played_on c.in-Some.is c.loop-format.invariant.4 played in
     let later = played.later c.in-Some.next c.in-Some.is in
-    let least = c.loop-lines.invariant.6 in (
+    let least = c.loop-format.invariant.6 in (
       played.room,
-      omega arith,
+      played.size ∙ c.loop-format.invariant.1,
       omega arith,
       omega arith,
       on,
@@ -61,12 +62,13 @@ loop-lines-preserved c =
 pub returns : goal.returns
 unfolding lines_left
 returns c =
-    let had = c.loop-lines.invariant in
+    let had = c.loop-format.invariant in
     record {
       batched = record {
         lines = had.4;
         room = had.0;
-        later = λ next goes room. rw (some_same goes) at (had.7 (omega arith));
+        later = λ next goes room. rw (some_same goes) at (had.7 (grind (arith, c.has_room.ensures.1)));
       };
       still_playable = had.5;
+      same_size = had.1 ∙ ap (λ (h : Held). length h.bytes) c.clear.ensures;
     }

@@ -8,16 +8,14 @@ use Rattle.play_score.proofs.play.play_command.Goals as goal
 pub returns-in-Ok-None : goal.returns-in-Ok-None
 returns-in-Ok-None c =
     let end = rw c.in-Ok-None.field-0-is at c.in-Ok-None.ensures in
-    played_end _ c.args.at _ _ _ _ _ c.requires.playable (sym end) (omega arith)
+    played_end _ c.args.at _ _ _ _ c.requires.playable (sym end) (omega arith)
 
 pub returns-in-Ok-Some : goal.returns-in-Ok-Some
 returns-in-Ok-Some c =
     let wanted = rw c.in-Ok-Some.field-0-is at c.in-Ok-Some.ensures in
-    let line = c.play_wanted.ensures.line in
-    played_wanted _ c.args.at _ _ _ _ _ _ _ _ _ c.play_wanted.result (sym wanted) c.play_wanted.ensures
-    (omega (arith, line.position, line.short))
+    played_wanted _ c.args.at _ _ _ _ _ _ _ _ c.play_wanted.result (sym wanted) c.play_wanted.ensures
 
 pub returns-in-Err : goal.returns-in-Err
 returns-in-Err c =
-    let line = rw c.number-number.ensures at c.put_refused_at-last.ensures in
-    played_refused _ c.args.at _ _ _ _ _ _ _ _ _ c.requires.playable (sym c.in-Err.ensures) line (omega arith)
+    let line = rw c.number-number.ensures at c.put_refused_at.ensures in
+    played_refused _ c.args.at _ _ _ _ _ _ _ c.requires.playable (sym c.in-Err.ensures) line

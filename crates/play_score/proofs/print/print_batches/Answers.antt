@@ -4,8 +4,7 @@
 -- is given, so that is read off the code. The measure is what is left of the stream, since a batch that is not the
 -- last moves on.
 use native.Mathlib.Omega.{arith}
-use mathlib.Core.Path.{refl}
-use lib.ListN.{length-take}
+use mathlib.Core.Path.{refl, ◌∙◌}
 use Rattle.play_score.proofs.Commands.{one_batch_more}
 use Rattle.play_score.proofs.print.print_batches.Goals as goal
 
@@ -22,19 +21,11 @@ play_batch-played-requires c =
       second_room = omega (arith, c.requires.second_room, had.1);
     }
 
-pub slice_bounds-write_all-end : goal.slice_bounds-write_all-end
-slice_bounds-write_all-end c =
-    c.play_batch-played.ensures.batched.room
-
-pub slice_bounds-write_all-end-in-loop-format : goal.slice_bounds-write_all-end-in-loop-format
-slice_bounds-write_all-end-in-loop-format c =
-    simp length-take (omega (arith, c.play_batch-played.ensures.batched.room))
-
 pub loop-format-smaller : goal.loop-format-smaller
 loop-format-smaller c =
     let later =
     c.play_batch-played.ensures.batched.later c.in-Some.next c.in-Some.is
-    (omega (arith, c.requires.line_room, c.loop-format.invariant.2)) in
+    (omega (arith, c.requires.line_room, c.loop-format.invariant.2, c.play_batch-played.ensures.same_size)) in
     omega (arith, later.0, later.1)
 
 pub loop-format-preserved : goal.loop-format-preserved
@@ -42,7 +33,7 @@ loop-format-preserved c =
     let batch = c.play_batch-played.ensures in (
       omega arith,
       omega arith,
-      omega arith,
+      batch.same_size ∙ c.loop-format.invariant.2,
       one_batch_more c.in-Some.is c.loop-format.invariant.3 batch.batched,
       batch.still_playable,
     )

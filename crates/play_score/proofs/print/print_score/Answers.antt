@@ -17,5 +17,5 @@ print_batches-requires c =
       printed_so_far = on.1;
       first_room = omega arith;
       second_room = omega arith;
-      line_room = omega arith;
+      line_room = rw c.new.ensures (omega arith);
     }

@@ -1,0 +1,34 @@
+-- The lines that a buffer holds: its bytes, and how many of them they take. Assumes nothing.
+use Rattle.std.specs.Prelude.{ℕ, ◌≡◌, ◌+◌, ◌≤◌, List, length, take}
+use Rattle.write_bytes.specs.Put.{Put}
+use Rattle.play_score.specs.declared.lines.Lines.TheInside.{Inside}
+
+-- the bytes of a buffer, and how many of them its lines take
+pub record Held : Type 0 where
+  pub bytes : List ℕ
+  pub used : ℕ
+
+abbrev pub held_in : Inside → Held
+held_in a = record { bytes = a.bytes.now; used = a.used }
+
+-- the lines lie within the buffer
+abbrev pub Within : Inside → Type 0
+Within a = a.used ≤ length a.bytes.now
+
+-- the text of the lines
+abbrev pub text_held : Held → List ℕ
+text_held h = take h.used h.bytes
+
+-- a buffer that holds no line
+abbrev pub no_line : List ℕ → Held
+no_line bytes = record { bytes = bytes; used = 0 }
+
+-- there is room for any line, of either format
+abbrev pub HasRoom : Held → Type 0
+HasRoom h = h.used + 1024 ≤ length h.bytes
+
+-- A line was put after those that a buffer held. The buffer is as long as before, and the lines lie within it.
+pub record LinePut (line : List ℕ) (before after : Held) : Type 0 where
+  pub put : Put 1024 line before.used before.bytes after.bytes after.used
+  pub size : length after.bytes ≡ length before.bytes
+  pub room : after.used ≤ length after.bytes
