@@ -8,6 +8,7 @@ pub record Held : Type 0 where
   pub bytes : List ℕ
   pub used : ℕ
 
+-- those of a `Lines`
 abbrev pub held_in : Inside → Held
 held_in a = record { bytes = a.bytes.now; used = a.used }
 
