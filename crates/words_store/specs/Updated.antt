@@ -1,13 +1,15 @@
 -- What writing the state of a part, and the point, changes of the words, and of the model that they mean: the frame
 -- laws. Assumes nothing.
-use Rattle.std.specs.Prelude.{ℕ, zero, suc, ◌+◌, ◌*◌, ◌≤◌, ◌<◌, ◌≡◌, refl, Bool, true, ◌&&◌, List, []}
-use Rattle.std.specs.Prelude.{◌∷◌, leb, length, get_or, set}
-use Rattle.std.proofs.Common.{arith, sym, ap, ap₂, ◌∙◌, length-set, get_or-set_same, get_or-set_other, le-leb}
+use Rattle.std.specs.Prelude.{ℕ, zero, suc, ◌+◌, ◌*◌, ◌≤◌, ◌<◌, ◌≡◌, refl, Bool, true, false, ◌&&◌, ◌⊎◌, List, []}
+use Rattle.std.specs.Prelude.{◌∷◌, eqb, leb, length, get_or, set}
+use Rattle.std.proofs.Common.{arith, sym, ap, ap₂, ◌∙◌, length-set, get_or-set_same, get_or-set_other, eqb-true, le-leb}
 use Rattle.std.proofs.Math.Path.{subst}
 use Rattle.std.proofs.Math.Logic.{inl, inr}
 use Rattle.std.proofs.lemmas.List.{length-replicate}
+use Rattle.std.proofs.lemmas.Bool.{eqb-false}
 use Rattle.machine.specs.declared.time.Point.{Point}
 use Rattle.machine.specs.declared.part.State.{State}
+use Rattle.laws.specs.Bools.{either}
 use Rattle.words_codec.specs.Words.{decode_signed}
 use Rattle.words_codec.specs.Decoded.{decode_side, decode_mark, decode_signal}
 use Rattle.words_store.specs.Layout.{header, state_record, in_table, in_state, span_count_field, spans_field}
@@ -217,3 +219,24 @@ point_put a now room =
           get_or-set_other (set a 0 now.t.0) 1 x now.n 0 (λ e. omega arith) ∙
           get_or-set_other a 0 x now.t.0 0 (λ e. omega arith);
     }
+
+-- nothing is copied at first, and then one word more
+pub copied_none : (l a : List ℕ) → Copied 0 l a a
+copied_none l a = record { size = refl; front = λ x low. absurd (omega arith); behind = λ x far. refl }
+
+pub copied_more : (n : ℕ) (l a b : List ℕ) → Copied n l a b → n < length b → Copied (n + 1) l a (set b n (slot l n))
+copied_more n l a b done inside =
+    record {
+      size = length-set b n (slot l n) ∙ done.size;
+      front = λ x low. front x low (either (eqb x n));
+      behind = λ x far. get_or-set_other b n x (slot l n) 0 (λ e. omega arith) ∙ done.behind x (omega arith);
+    }
+  where
+    front : (x : ℕ) → x < n + 1 → (eqb x n ≡ true) ⊎ (eqb x n ≡ false) → slot (set b n (slot l n)) x ≡ slot l x
+    front x low (inl e) =
+        let same : x ≡ n = eqb-true x n e in
+        ap (λ (k : ℕ). slot (set b n (slot l n)) k) same ∙ get_or-set_same b n (slot l n) 0 inside ∙
+        ap (slot l) (sym same)
+    front x low (inr e) =
+        let other = eqb-false x n e in
+        get_or-set_other b n x (slot l n) 0 other ∙ done.front x (omega arith)

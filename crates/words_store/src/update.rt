@@ -93,8 +93,9 @@ pub fn copy_state(old: &[u64], parts: usize, new: &mut [u64])
     requires new_there { state_words parts ≤ length new.old }
     ensures { Copied (state_words parts) old.now new.old new.new }
 {
-    let count = state_words(parts);
-    new[..count].copy_from_slice(&old[..count]);
+    for i in 0..state_words(parts) {
+        new[i] = old[i];
+    }
 }
 
 // The state of a table copied, as a call leaves it that is refused.

@@ -12,14 +12,16 @@ pub fn put_byte(line: &mut [u8], at: usize, b: u8) -> usize
     at + 1
 }
 
-// A text as it is, copied over a part of the buffer.
-#[tactic(auto, using(std::proofs::lemmas::Slice::overwrites))]
+// A text as it is. It is put byte after byte: for a copy by the library the compiler would call the C library's
+// `memmove`, which the archive then needs.
 pub fn put_text(line: &mut [u8], at: usize, text: &[u8]) -> usize
     requires { at + length text.now ≤ length line.old }
     ensures { Put (length text.now) text.now at line.old
         line.new result }
 {
-    let end = at + text.len();
-    line[at..end].copy_from_slice(text);
-    end
+    let mut next = at;
+    for byte in text {
+        next = put_byte(line, next, *byte);
+    }
+    next
 }
