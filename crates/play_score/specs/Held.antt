@@ -1,7 +1,7 @@
 -- The lines that a buffer holds: its bytes, and how many of them they take. Assumes nothing.
 use Rattle.std.specs.Prelude.{ℕ, ◌≡◌, ◌+◌, ◌≤◌, List, length, take}
 use Rattle.write_bytes.specs.Put.{Put}
-use Rattle.play_score.specs.declared.lines.Lines.TheInside.{Inside}
+use Rattle.play_score.specs.declared.lines.Lines.{Lines}
 
 -- the bytes of a buffer, and how many of them its lines take
 pub record Held : Type 0 where
@@ -9,12 +9,12 @@ pub record Held : Type 0 where
   pub used : ℕ
 
 -- those of a `Lines`
-abbrev pub held_in : Inside → Held
+abbrev pub held_in : Lines → Held
 held_in a = record { bytes = a.bytes.now; used = a.used }
 
--- the lines lie within the buffer
-abbrev pub Within : Inside → Type 0
-Within a = a.used ≤ length a.bytes.now
+-- two `Lines` are of one buffer, the same loan of it: what the last one holds is what its lender gets back
+abbrev pub SameBuffer : (before after : Lines) → Type 0
+SameBuffer before after = after.bytes.ghost_name ≡ before.bytes.ghost_name
 
 -- the text of the lines
 abbrev pub text_held : Held → List ℕ

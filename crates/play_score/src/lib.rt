@@ -2,6 +2,7 @@
 // a rehearsal read their input and call this. Its contracts cite `specs/`.
 #![tactic(auto)]
 
+mod buffer;
 pub mod format;
 pub mod lines;
 pub mod play;

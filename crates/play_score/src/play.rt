@@ -2,7 +2,7 @@
 // those of a table, and two states of it. A step is made from the one state into the other, and a flag says in which
 // of the two the rehearsal is; no model is copied. The contracts cite `specs/Playing.antt`.
 ghost use Rattle.std.specs.Prelude.{◌≡◌, cond, ◌≤◌, length};
-ghost use Rattle.play_score.specs.Held.{HasRoom};
+ghost use Rattle.play_score.specs.Held.{held_in, HasRoom, SameBuffer};
 ghost use Rattle.play_score.specs.Playing.{
   stands_in,
   most_state_words,
@@ -37,10 +37,11 @@ fn play_wanted(
 ) -> Played
     requires playable { Playable table.now old.now format }
     requires state_room { most_state_words ≤ length new.old }
-    requires line_room { HasRoom lines.old }
-    ensures { let left = cond result.moved new.new old.now in
+    requires line_room { HasRoom (held_in lines.old) }
+    ensures same_buffer { SameBuffer lines.old lines.new }
+    ensures played { let left = cond result.moved new.new old.now in
         PlayedWanted table.now old.now wanted.step wanted.next format
-        left lines.old lines.new result }
+        left (held_in lines.old) (held_in lines.new) result }
 {
     let v = advance_sound_into(table, old, wanted.step, new);
     if v.number != 0 {
@@ -69,10 +70,11 @@ fn play_command(
 ) -> Played
     requires playable { Playable table.now old.now format }
     requires state_room { most_state_words ≤ length new.old }
-    requires line_room { HasRoom lines.old }
-    ensures { let left = cond result.moved new.new old.now in
+    requires line_room { HasRoom (held_in lines.old) }
+    ensures same_buffer { SameBuffer lines.old lines.new }
+    ensures played { let left = cond result.moved new.new old.now in
         CommandPlayed stream.now at table.now old.now format
-        left lines.old lines.new result }
+        left (held_in lines.old) (held_in lines.new) result }
 {
     match score_at(stream, at) {
         Ok(None) => Played {
@@ -107,11 +109,12 @@ fn play_exchanged(
     requires playable { Playable table.now (stands_in exchanged first.old second.old) format }
     requires first_room { most_state_words ≤ length first.old }
     requires second_room { most_state_words ≤ length second.old }
-    requires line_room { HasRoom lines.old }
-    ensures { let asked = stands_in exchanged first.old second.old in
+    requires line_room { HasRoom (held_in lines.old) }
+    ensures same_buffer { SameBuffer lines.old lines.new }
+    ensures played { let asked = stands_in exchanged first.old second.old in
         let left = stands_in result.moved first.new second.new in
         CommandPlayed stream.now at table.now asked format
-        left lines.old lines.new result }
+        left (held_in lines.old) (held_in lines.new) result }
 {
     if exchanged {
         let back = play_command(stream, at, table, second, format, first, lines);
@@ -140,10 +143,11 @@ pub fn play_batch(
     requires second_room { most_state_words ≤ length second.old }
     ensures batched { let asked = stands_in exchanged first.old second.old in
         let left = stands_in result.moved first.new second.new in
-        Batched stream.now from table.now asked format left lines.new result }
+        Batched stream.now from table.now asked format left (held_in lines.new) result }
     ensures still_playable { let left = stands_in result.moved first.new second.new in
         Playable table.now left format }
-    ensures same_size { length lines.new.bytes ≡ length lines.old.bytes }
+    ensures same_size { length lines.new.bytes.now ≡ length lines.old.bytes.now }
+    ensures same_buffer { SameBuffer lines.old lines.new }
 {
     let mut at = from;
     let mut turned = exchanged;

@@ -85,7 +85,7 @@ fn print_batches(
     requires printed_so_far { PrintedSoFar stream.now format from (lent_model table.now first.old) }
     requires first_room { most_state_words ≤ length first.old }
     requires second_room { most_state_words ≤ length second.old }
-    requires line_room { 1024 ≤ length lines.old.bytes }
+    requires line_room { 1024 ≤ length lines.old.bytes.now }
 {
     let mut at = from;
     let mut exchanged = false;

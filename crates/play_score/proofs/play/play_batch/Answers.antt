@@ -12,8 +12,17 @@ use Rattle.play_score.proofs.play.play_batch.Goals as goal
 
 pub loop-format-init : goal.loop-format-init
 loop-format-init c =
-    rw c.clear.ensures
-    (omega arith, refl, refl, refl, refl, c.requires.playable, omega arith, λ some. absurd (omega arith))
+    let none = ap (λ (h : Held). h.used) c.clear.ensures.empty in (
+      omega (arith, none),
+      refl,
+      refl,
+      refl,
+      rw none refl,
+      c.requires.playable,
+      omega arith,
+      (λ some. absurd (omega (arith, none))),
+      refl,
+    )
 
 pub play_exchanged-played-requires : goal.play_exchanged-played-requires
 play_exchanged-played-requires c =
@@ -27,25 +36,27 @@ play_exchanged-played-requires c =
 
 pub returns-in_default : goal.returns-in_default
 returns-in_default c =
-    let played = c.play_exchanged-played.ensures in
+    let played = c.play_exchanged-played.ensures.played in
+    let had = c.loop-format.invariant in
     record {
       batched = record {
-        lines = c.loop-format.invariant.4 ∙ played.lines;
+        lines = had.4 ∙ played.lines;
         room = played.room;
         later = λ next goes room. let none : None ≡ Some next = sym c.in_default.is ∙ goes in grind arith;
       };
       still_playable = played.playable;
-      same_size = played.size ∙ c.loop-format.invariant.1 ∙ ap (λ (h : Held). length h.bytes) c.clear.ensures;
+      same_size = played.size ∙ had.1 ∙ ap (λ (h : Held). length h.bytes) c.clear.ensures.empty;
+      same_buffer = c.play_exchanged-played.ensures.same_buffer ∙ had.8 ∙ c.clear.ensures.same_buffer;
     }
 
 pub loop-format-smaller : goal.loop-format-smaller
 loop-format-smaller c =
-    let later = c.play_exchanged-played.ensures.later c.in-Some.next c.in-Some.is in
+    let later = c.play_exchanged-played.ensures.played.later c.in-Some.next c.in-Some.is in
     omega (arith, later.0, later.1)
 
 pub loop-format-preserved : goal.loop-format-preserved
 loop-format-preserved c =
-    let played = c.play_exchanged-played.ensures in
+    let played = c.play_exchanged-played.ensures.played in
     let on = played_on c.in-Some.is c.loop-format.invariant.4 played in
     let later = played.later c.in-Some.next c.in-Some.is in
     let least = c.loop-format.invariant.6 in (
@@ -56,7 +67,8 @@ loop-format-preserved c =
       on,
       played.playable,
       omega (arith, later.0, least),
-      λ some. (omega (arith, later.0, least), omega (arith, later.1, least)),
+      (λ some. (omega (arith, later.0, least), omega (arith, later.1, least))),
+      c.play_exchanged-played.ensures.same_buffer ∙ c.loop-format.invariant.8,
     )
 
 pub returns : goal.returns
@@ -70,5 +82,6 @@ returns c =
         later = λ next goes room. rw (some_same goes) at (had.7 (grind (arith, c.has_room.ensures.1)));
       };
       still_playable = had.5;
-      same_size = had.1 ∙ ap (λ (h : Held). length h.bytes) c.clear.ensures;
+      same_size = had.1 ∙ ap (λ (h : Held). length h.bytes) c.clear.ensures.empty;
+      same_buffer = had.8 ∙ c.clear.ensures.same_buffer;
     }

@@ -8,11 +8,19 @@ play_command-back-requires-clause-playable c = in_second _ _ c.if-exchanged.true
 
 pub returns-then-exchanged : goal.returns-then-exchanged
 returns-then-exchanged c =
-    turned_back c.play_command-back.result _ _ _ c.if-exchanged.true c.play_command-back.ensures
+    let one = c.play_command-back.ensures in
+    record {
+      same_buffer = one.same_buffer;
+      played = turned_back c.play_command-back.result _ _ _ c.if-exchanged.true one.played;
+    }
 
 pub play_command-requires-clause-playable : goal.play_command-requires-clause-playable
 play_command-requires-clause-playable c = in_first _ _ c.if-exchanged.false c.requires.playable
 
 pub returns : goal.returns
 returns c =
-    turned_forth c.play_command.result _ _ _ c.if-exchanged.false c.play_command.ensures
+    let one = c.play_command.ensures in
+    record {
+      same_buffer = one.same_buffer;
+      played = turned_forth c.play_command.result _ _ _ c.if-exchanged.false one.played;
+    }

@@ -13,8 +13,12 @@ put_answer-requires-clause-answer_in c =
 
 pub returns-then-v-ne0 : goal.returns-then-v-ne0
 returns-then-v-ne0 c =
-    wanted_kept _ _ _ _ _ _ _ c.requires.playable c.requires.state_room c.advance_sound_into-v.ensures _ _ _
-    c.if-v-ne0.true c.put_answer.ensures
+    record {
+      same_buffer = c.put_answer.ensures.same_buffer;
+      played =
+          wanted_kept _ _ _ _ _ _ _ c.requires.playable c.requires.state_room c.advance_sound_into-v.ensures _ _ _
+          c.if-v-ne0.true c.put_answer.ensures.line_put;
+    }
 
 pub put_answer-requires-2-clause-answer_in : goal.put_answer-requires-2-clause-answer_in
 put_answer-requires-2-clause-answer_in c =
@@ -24,5 +28,9 @@ put_answer-requires-2-clause-answer_in c =
 
 pub returns : goal.returns
 returns c =
-    wanted_moved _ _ _ _ _ _ _ c.requires.playable c.requires.state_room c.advance_sound_into-v.ensures _ _ _
-    c.if-v-ne0.false c.put_answer-2.ensures
+    record {
+      same_buffer = c.put_answer-2.ensures.same_buffer;
+      played =
+          wanted_moved _ _ _ _ _ _ _ c.requires.playable c.requires.state_room c.advance_sound_into-v.ensures _ _ _
+          c.if-v-ne0.false c.put_answer-2.ensures.line_put;
+    }

@@ -8,7 +8,7 @@ use Rattle.play_score.proofs.print.print_batches.Given as goal
 abbrev pub invariant-loop-format : goal.invariant-loop-format
 invariant-loop-format l =
     (length l.first ≡ length l.initial.first) × (length l.second ≡ length l.initial.second) ×
-    (length l.lines.bytes ≡ length l.initial.lines.bytes) ×
+    (length l.lines.bytes.now ≡ length l.initial.lines.bytes.now) ×
     PrintedSoFar l.stream l.format l.at (lent_model l.table (stands_in l.exchanged l.first l.second)) ×
     Playable l.table (stands_in l.exchanged l.first l.second) l.format
 

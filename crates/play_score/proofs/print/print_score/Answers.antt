@@ -1,7 +1,9 @@
 -- `print_score` writes what is said at the beginning, which lies within the buffer, and goes on where printing does,
 -- with all lines to come.
 use native.Mathlib.Omega.{arith}
-use lib.ListN.{length-take}
+use mathlib.Core.Path.{ap}
+use lib.ListN.{length, length-take}
+use Rattle.play_score.specs.Held.{Held}
 use Rattle.play_score.proofs.Openings.{opened_goes_on}
 use Rattle.play_score.proofs.print.print_score.Goals as goal
 
@@ -17,5 +19,5 @@ print_batches-requires c =
       printed_so_far = on.1;
       first_room = omega arith;
       second_room = omega arith;
-      line_room = rw c.new.ensures (omega arith);
+      line_room = omega (arith, ap (λ (h : Held). length h.bytes) c.new.ensures.empty);
     }

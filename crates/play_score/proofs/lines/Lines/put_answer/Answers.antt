@@ -1,6 +1,6 @@
 -- `put_answer` lends what is left of the buffer, in either format: the line that is written there, for which there is
 -- room, is put after the lines there. A sheet line of an answer is not refused.
-use Rattle.std.proofs.Common.{sym}
+use Rattle.std.proofs.Common.{refl}
 use Rattle.refusals.specs.Told.{wrote_ok}
 use Rattle.sheet_call.specs.SheetInto.{outcome_answer}
 use Rattle.play_score.proofs.Commands.{part_room, line_put}
@@ -16,32 +16,36 @@ write_spelled-requires-clause-few_parts c = (line_words _ _ c.requires.answer_in
 pub unwrap-requires : goal.unwrap-requires
 unwrap-requires c =
     let line = c.write_spelled.ensures.written_as c.args.v.ceiling in
-    let room = rw (sym c.self.view_is) at c.requires.line_room in
+    let held = c.args.self.now in
     wrote_ok c.write_spelled.result line
-    (part_room c.self.inside.used c.self.inside.bytes.now room line c.write_spelled.ensures.length_bound)
+    (part_room held.used held.bytes.now c.requires.line_room line c.write_spelled.ensures.length_bound)
 
 pub unwrap-requires-in-Sheet : goal.unwrap-requires-in-Sheet
 unwrap-requires-in-Sheet c =
     let sheet = sheet_written _ _ _ _ _ c.in-Sheet.is c.requires.answer_in c.sheet.ensures in
-    let room = rw (sym c.self.view_is) at c.requires.line_room in
+    let held = c.args.self.now in
     wrote_ok c.sheet.result sheet.0
-    (part_room c.self.inside.used c.self.inside.bytes.now room sheet.0 sheet.1)
+    (part_room held.used held.bytes.now c.requires.line_room sheet.0 sheet.1)
 
 pub returns-in-Plain : goal.returns-in-Plain
 returns-in-Plain c =
     let args = c.args in
     let told = rw c.unwrap.ensures at c.write_spelled.ensures in
-    let room = rw (sym c.self.view_is) at c.requires.line_room in
-    rw (sym c.self.view_is)
-    (plain_put (outcome_answer args.table.now args.state.now args.v) _ c.in-Plain.is
-    (line_put c.self.inside.used room (told.written_as args.v.ceiling) told.length_bound))
+    record {
+      same_buffer = refl;
+      line_put =
+          plain_put (outcome_answer args.table.now args.state.now args.v) _ c.in-Plain.is
+          (line_put args.self.now.used c.requires.line_room (told.written_as args.v.ceiling) told.length_bound);
+    }
 
 pub returns-in-Sheet : goal.returns-in-Sheet
 returns-in-Sheet c =
     let args = c.args in
     let told = rw c.unwrap-in-Sheet.ensures at c.sheet.ensures in
     let sheet = sheet_written _ _ _ _ _ c.in-Sheet.is c.requires.answer_in told in
-    let room = rw (sym c.self.view_is) at c.requires.line_room in
-    rw (sym c.self.view_is)
-    (sheet_put (outcome_answer args.table.now args.state.now args.v) _ _ c.in-Sheet.is
-    (line_put c.self.inside.used room sheet.0 sheet.1))
+    record {
+      same_buffer = refl;
+      line_put =
+          sheet_put (outcome_answer args.table.now args.state.now args.v) _ _ c.in-Sheet.is
+          (line_put args.self.now.used c.requires.line_room sheet.0 sheet.1);
+    }
