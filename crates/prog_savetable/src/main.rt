@@ -3,7 +3,7 @@
 // Where bytes could not be written it says so there, since a program has no exit status of its own to tell it by.
 #![tactic(auto)]
 
-ghost use Rattle.std.specs.Prelude.{ℕ, ◌≤◌, ◌≡◌, length, take};
+ghost use Rattle.std.specs.Prelude.{◌≤◌, ◌≡◌, length, take};
 ghost use Rattle.machine.specs.Rehearse.{most_read};
 ghost use Rattle.machine.specs.Save.{longest_table};
 ghost use Rattle.prog_savetable.specs.Telling.{ToldOf};
@@ -38,22 +38,23 @@ fn tell(stream: &[u8], out: &mut [u8]) -> Result<usize, usize>
     Ok(length)
 }
 
-// What there is to tell of the bytes of standard input that count. They are read into `room`, which has room for all of
-// them, and for no other.
-fn tell_read(room: &mut [u8], out: &mut [u8]) -> Result<usize, usize>
-    requires room_size { length room.old ≡ most_read }
+// What there is to tell of the first `n` bytes of `room`. It is called with what was read into a buffer: one that has
+// room for all bytes that count, and for no other.
+fn tell_read(room: &[u8], n: usize, out: &mut [u8]) -> Result<usize, usize>
+    requires room_size { length room.now ≡ most_read }
+    requires n_within { n ≤ length room.now }
     requires has_room { longest_table ≤ length out.old }
-    ensures { (n : ℕ) × (n ≤ length room.new) × ToldOf (take n room.new) out.new result }
+    ensures { ToldOf (take n room.now) out.new result }
 {
-    let n = io::read_full(0, room);
     tell(&room[..n], out)
 }
 
 // The table of the first 65,536 bytes of standard input, saved.
 fn main() {
     let mut room = io::large_buffer();
+    let n = io::read_full(0, &mut room);
     let mut text = [0u8; ROOM];
-    match tell_read(&mut room, &mut text) {
+    match tell_read(&room, n, &mut text) {
         Err(length) => {
             io::write_all(2, &text[..length]);
         }
