@@ -1,6 +1,6 @@
 -- What loading's answer means: document 01's number, position and model of each of its cases; of a refusal the model is
 -- that of no parts with all else 0. Assumes nothing.
-use Rattle.std.specs.Prelude.{◌≡◌, Result, Ok, Err}
+use Rattle.std.specs.Prelude.{◌≡◌, refl, Result, Ok, Err}
 use Rattle.std.specs.Result.{IsErrAnd}
 use Rattle.machine.specs.Answers.{Loaded}
 use Rattle.machine.specs.Load.{refused}
@@ -18,6 +18,12 @@ accepted_of a = record { number = 0; position = a.position; model = a.model }
 abbrev pub loaded_of : Result Accepted RefusedAt → Loaded
 loaded_of (Ok a) = accepted_of a
 loaded_of (Err r) = record { number = refusal_number r.refusal; position = r.position; model = blank_model }
+
+-- a load that is refused has the model of no parts with all else 0
+pub refused_blank : (l : Result Accepted RefusedAt) → ((loaded_of l).number ≡ 0 → ⊥) →
+    (loaded_of l).model ≡ blank_model
+refused_blank (Ok a) some = absurd (some refl)
+refused_blank (Err r) some = refl
 
 -- once its unused places are cut away, a refusal is the machine's
 pub refused_trimmed : (r : RefusedAt) →
