@@ -76,6 +76,24 @@ fn block_end(words: &[String], begin: usize) -> usize {
     words.len()
 }
 
+/// The type whose own methods the impl has that begins here, `impl Type {` or `impl<'a> Type<'a> {`, and where its
+/// block begins. The impl of a trait is none.
+fn own_impl(words: &[String], at: usize) -> Option<(&str, usize)> {
+    let begin = at + words[at..].iter().position(|word| word == "{")?;
+    let head = &words[at + 1..begin];
+    let mut depth = 0;
+    let mut outside = head.iter().filter(|word| {
+        match word.as_str() {
+            "<" => depth += 1,
+            ">" => depth -= 1,
+            _ => return depth == 0,
+        }
+        false
+    });
+    let name = outside.next()?;
+    (!head.iter().any(|word| word == "for")).then_some((name.as_str(), begin))
+}
+
 impl Sources {
     /// Takes a source's functions and derives.
     fn take(&mut self, file: &str) {
@@ -87,8 +105,10 @@ impl Sources {
         for at in 0..words.len().saturating_sub(2) {
             let is_name = words[at + 1].starts_with(|c: char| c.is_alphabetic() || c == '_');
             match words[at].as_str() {
-                "impl" if is_name && words[at + 2] == "{" => {
-                    (of_type, end) = (module_of_type(&words, &module, &words[at + 1]), block_end(&words, at + 2));
+                "impl" => {
+                    if let Some((name, begin)) = own_impl(&words, at) {
+                        (of_type, end) = (module_of_type(&words, &module, name), block_end(&words, begin));
+                    }
                 }
                 "fn" if is_name => {
                     let of = if at < end { &of_type } else { &module };
