@@ -6,8 +6,8 @@ ghost use Rattle.machine.specs.Time.{larger, last_magnitude, last_tick, ratio_of
 use crate::range::NO_PREFERENCE;
 use machine::time::Point;
 
-// The powers of ten up to the last magnitude. A power that is worked out anew for each part makes the test of soundness
-// a quarter slower. It is no constant: a constant is copied to be read.
+// The powers of ten up to the last magnitude. With powers that are worked out anew for each part, a call that tests
+// soundness takes a tenth more time where ratios are above 1. It is no constant: a constant is copied to be read.
 static POWERS: [u64; 16] = [
     1,
     10,

@@ -85,7 +85,8 @@ fn put_spans(out: &mut [u8], at: usize, spans: &[u32]) -> usize
     next
 }
 
-// A Part with its spans after it.
+// A Part with its spans after it. The spans are taken out of the component, since one of which a slice is lent would be
+// copied as a whole.
 pub(crate) fn put_component(out: &mut [u8], at: usize, c: Component) -> usize
     requires few_spans { c.span_count ≤ 8 }
     requires room { at + 15 + 5 * c.span_count ≤ length out.old }
@@ -93,9 +94,10 @@ pub(crate) fn put_component(out: &mut [u8], at: usize, c: Component) -> usize
     ensures { Put (15 + 5 * c.span_count) (part_text (trimmed_component c)) at out.old
         out.new result }
 {
+    let spans = c.spans;
     let next = put_kind(out, at, c.kind, c.preference);
     let next = put_operands(out, next, c.a, c.b, c.p);
-    put_spans(out, next, &c.spans[..c.span_count])
+    put_spans(out, next, &spans[..c.span_count])
 }
 
 // One Wire.
