@@ -142,6 +142,13 @@ written_words refusal bytes buffer₀ buffer₁ out₀ out₁ w found written =
       written = subst (λ (n : ℕ). WrittenAs refusal bytes buffer₀ buffer₁ (told n)) length_is found;
     }
 
+-- and where the number and the length are told apart
+pub told_words : (refusal : ℕ) (bytes buffer₀ buffer₁ out₀ out₁ : List ℕ) (w : Written) {n l : ℕ} → n ≡ w.number →
+    l ≡ w.length → WrittenAs refusal bytes buffer₀ buffer₁ w → out₁ ≡ put_front (n ∷ l ∷ []) out₀ →
+    WrittenWords refusal bytes buffer₀ buffer₁ out₀ out₁ n
+told_words refusal bytes buffer₀ buffer₁ out₀ out₁ w number size found written =
+    rw number (written_words refusal bytes buffer₀ buffer₁ out₀ out₁ w found (rw (number, size) at written))
+
 -- a sheet line, by the words of its outcome: too few, or there
 module _ (table state outcome : List ℕ) (first second third : ℕ) where
   pub printed_few : (buffer : List ℕ) → length outcome < 5 →
@@ -158,9 +165,8 @@ module _ (table state outcome : List ℕ) (first second third : ℕ) where
   printed_told buffer₀ buffer₁ w enough line = rw (le-leb 5 (length outcome) enough) line
 
   -- and what the exported call comes to
-  pub printed_words : (buffer₀ buffer₁ out₀ out₁ : List ℕ) (w : Written) →
-      PrintedInto table state outcome first second third buffer₀ buffer₁ w →
-      out₁ ≡ put_front (w.number ∷ w.length ∷ []) out₀ →
-      PrintedWords table state outcome first second third buffer₀ buffer₁ out₀ out₁ w.number
-  printed_words = written_words (printed_refusal table state outcome first second third)
+  pub printed_words : (buffer₀ buffer₁ out₀ out₁ : List ℕ) (w : Written) {n l : ℕ} → n ≡ w.number → l ≡ w.length →
+      PrintedInto table state outcome first second third buffer₀ buffer₁ w → out₁ ≡ put_front (n ∷ l ∷ []) out₀ →
+      PrintedWords table state outcome first second third buffer₀ buffer₁ out₀ out₁ n
+  printed_words = told_words (printed_refusal table state outcome first second third)
       (printed_line table state outcome first second third)

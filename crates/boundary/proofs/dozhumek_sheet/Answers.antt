@@ -5,6 +5,6 @@ use Rattle.boundary.proofs.dozhumek_sheet.Goals as goal
 
 pub returns : goal.returns
 returns c =
-    rw c.told-number.ensures.number
-    (printed_words _ _ _ _ _ _ _ _ _ _ (written_of c.print_words.result) c.print_words.ensures
-    (rw (c.told-number.ensures.number, c.told-number.ensures.length) at c.put_found.ensures))
+    let told = c.told-number.ensures in
+    printed_words _ _ _ _ _ _ _ _ _ _ (written_of c.print_words.result) told.number told.length
+    c.print_words.ensures c.put_found.ensures

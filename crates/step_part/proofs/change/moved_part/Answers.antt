@@ -4,7 +4,7 @@ use Rattle.std.specs.Prelude.{ℕ, ℤ, ◌≡◌, Bool, true, false, cond}
 use Rattle.std.specs.Int.{w64}
 use Rattle.machine.specs.declared.signal.Signal.{Signal}
 use Rattle.machine.specs.declared.signal.Signal.TheVariants.{Value}
-use Rattle.std.proofs.Common.{arith}
+use Rattle.std.proofs.Common.{arith, ap, ◌∙◌}
 use Rattle.std.proofs.lemmas.Int.{to_z-of_z}
 use Rattle.machine.specs.Signal.{integral, is_signal}
 use Rattle.machine.specs.Time.{gained}
@@ -30,7 +30,7 @@ number_after-held-requires-clause-x_value c =
     let back = to_z-of_z w64 speed.result (record { sfits = speed.type_inv }) in
     rate_signal c.has_mass-mass.result c.args.x c.gain_of-d.result.0 _ speed.result c.rate_of.result c.requires.x_value
     speed.ensures
-    (rw back at c.rate_of.ensures)
+    (c.rate_of.ensures ∙ ap (λ (v : ℤ). cond c.has_mass-mass.result (Value v) c.args.x) back)
 
 pub number_after-held-requires-clause-d_bound : goal.number_after-held-requires-clause-d_bound
 unfolding gain_of gained
